@@ -1,0 +1,12 @@
+-- Laws of the definitions, in the order of reading. The layers above cite Sections, Positions and WellFormed.
+pub mod Readers
+pub mod Forward
+pub mod Sections
+pub mod Positions
+pub mod Items
+pub mod File
+pub mod Numbers
+pub mod Trees
+pub mod WellFormed
+pub mod Places
+pub mod Tables

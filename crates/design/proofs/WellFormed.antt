@@ -1,0 +1,301 @@
+-- The tree of an accepted file is well formed. Assumes only that the file's bytes are bytes.
+use mathlib.Core.Path.{_≡_, refl, sym, ap, subst, _∙_}
+use mathlib.Core.Bool.{Bool, true, false, _&&_, _||_}
+use mathlib.Core.Logic.{_⊎_, inl, inr, ⊎-elim}
+use mathlib.Core.List.{List, [], _∷_, _++_, map}
+use Prim.Native.Nat.{ℕ, zero, suc, _+_, _*_, _-_, _^_, _<_, _≤_}
+use native.Mathlib.Omega.{arith}
+use lib.ListN.{length, getD, replicate, length-map, getD-replicate, List·getD-append}
+use lib.Seq.{getD-append-add}
+use lib.Dec.{ltb, leb, eqb}
+use borrow.Author.Tests.{ltb-true, leb-true, eqb-true}
+use Rattle.design.specs.Tree.{BoolExpr, constantB, Stmts, Kind, boolean, integer, external, Variable, Cell, Design, Mover, cell, raise, ifExternal, externals, movers}
+use Rattle.design.specs.State.{layout, start, width, widths}
+use Rattle.design.specs.Limits.{maxDepth, maxNest, maxStatuses, maxEvents, maxMovers}
+use Rattle.design.specs.Reading.{Read, got, bad}
+use Rattle.design.specs.Expression.{Names, boolExpr}
+use Rattle.design.specs.DesignFile.{item, need, filling, Matrix, Entry, normal, invalid, kind, variableAt, matrixAt, eventAt, events, statuses, cellAt, invariantAt, c-past, fields, ending, ordered, guard, action, entry}
+use Rattle.design.specs.Check.{accepted, normals, invalids, trailer, variableCount, matricesOffset, matrixCount, eventsOffset, invariantOffset, names, check}
+use Rattle.design.specs.WellFormed.{Narrow, IsStatus, BoolOk, StmtsOk, InRange, CellOk, InvalidOk, MoversOk, InvalidsOk, StatusesOk, WellFormed}
+use Rattle.design.proofs.Trees.{All, bool-ok, list-ok}
+use Rattle.design.proofs.Sections.{after-inv, need-inv, and-inv, item-same, item-past, Run, Rows, Cells, eventIn, Parts, whole}
+
+or-inv : (a b : Bool) → (a || b) ≡ true → (a ≡ true) ⊎ (b ≡ true)
+or-inv true b e = inl refl
+or-inv false true e = inr refl
+or-inv false false e = inr e
+
+abbrev wide : Variable → ℕ
+wide x = width (x .kind)
+
+-- an initial value fits its width
+initial-fits : (k v : ℕ) → v < 65536 → (eqb k 1 ≡ true) ⊎ (leb v 1 ≡ true) → v < 2 ^ width (kind k)
+initial-fits zero v h s = ⊎-elim (λ e. let z : 0 ≡ 1 = eqb-true 0 1 e in absurd (omega arith)) (λ e. let z : v ≤ 1 = leb-true v 1 e in omega arith) s
+initial-fits (suc zero) v h s = h
+initial-fits (suc (suc k)) v h s = ⊎-elim (λ e. let z = eqb-true (suc (suc k)) 1 e in absurd (omega arith)) (λ e. let z : v ≤ 1 = leb-true v 1 e in omega arith) s
+
+-- a kind's width
+flag-width : (k : ℕ) → (k ≡ 1 → ⊥) → width (kind k) ≡ 1
+flag-width zero h = refl
+flag-width (suc zero) h = absurd (h refl)
+flag-width (suc (suc k)) h = refl
+
+int-width : (k : ℕ) → k ≡ 1 → width (kind k) ≡ 16
+int-width k e = rw e
+
+small-width : (k : Kind) → width k ≤ 16
+small-width boolean = omega arith
+small-width integer = omega arith
+small-width external = omega arith
+
+module _ (file : List ℕ) (end : ℕ) (bytes : (i : ℕ) → getD file i 0 < 256) where
+  pub record VariableRight (at : ℕ) (x : Variable) (n : ℕ) : Type 0 where
+    pub is : x .kind ≡ kind (getD file at 0)
+    pub fits : x .initial < 2 ^ width (x .kind)
+    pub past : n ≡ at + 3
+
+  variable-right : (at : ℕ) (x : Variable) (n : ℕ) → variableAt file end at ≡ item x n → VariableRight at x n
+  unfolding variableAt
+  variable-right at x n e =
+      let (t₁, h₁) = need-inv (leb (at + 3) end) 4 at _ x n e in
+      let (t₂, h₂) = need-inv (leb (getD file at 0) 2 && (eqb (getD file at 0) 1 || leb (getD file (at + 1) 0 + 256 * getD file (at + 1 + 1) 0) 1)) 5 at _ x n h₁ in
+      let s = or-inv _ _ (and-inv (leb (getD file at 0) 2) (eqb (getD file at 0) 1 || leb (getD file (at + 1) 0 + 256 * getD file (at + 1 + 1) 0) 1) t₂ .1) in
+      let same = item-same _ _ _ _ h₂ in
+      record {
+        is = sym (ap (λ (y : Variable). y .kind) same);
+        fits = subst (λ (y : Variable). y .initial < 2 ^ width (y .kind)) same (initial-fits (getD file at 0) _ (omega (arith, bytes (at + 1), bytes (at + 1 + 1))) s);
+        past = sym (item-past _ _ _ _ h₂);
+      }
+
+  -- the width of a variable by its byte
+  variable-width : (vs : List Variable) (at past : ℕ) → Run (variableAt file end) at vs past → (v p : ℕ) → p ≡ at + 3 * v → v < length vs → getD (map wide vs) v 0 ≡ width (kind (getD file p 0))
+  variable-width [] at past r v p q h = absurd (omega arith)
+  variable-width (x ∷ xs) at past r zero p q h =
+      let f = variable-right at x (r .0) (r .1) in
+      ap width (f .is) ∙ ap (λ (i : ℕ). width (kind (getD file i 0))) (let z : at ≡ p = omega arith in z)
+  variable-width (x ∷ xs) at past r (suc v) p q h =
+      let f = variable-right at x (r .0) (r .1) in
+      variable-width xs (r .0) past (r .2) v p (let z : r .0 ≡ at + 3 = f .past in omega arith) (omega arith)
+
+  variables-small : (vs : List Variable) (at past : ℕ) → (rest : List ℕ) → Narrow rest → Narrow (map wide vs ++ rest)
+  variables-small [] at past rest h = h
+  variables-small (x ∷ xs) at past rest h = (small-width (x .kind), variables-small xs at past rest h)
+
+  variables-range : (vs : List Variable) (at past : ℕ) → Run (variableAt file end) at vs past → (ws ss : List ℕ) → InRange ws ss → InRange (map wide vs ++ ws) (map (λ (x : Variable). x .initial) vs ++ ss)
+  variables-range [] at past r ws ss h = h
+  variables-range (x ∷ xs) at past r ws ss h = (variable-right at x (r .0) (r .1) .fits, variables-range xs (r .0) past (r .2) ws ss h)
+
+  pub record MatrixRight (at : ℕ) (x : Matrix) (n : ℕ) : Type 0 where
+    pub count : x .statuses ≡ getD file at 0
+    pub statuses : getD file at 0 ≤ 16
+    pub past : n ≡ at + 2
+
+  matrix-right : (at : ℕ) (x : Matrix) (n : ℕ) → matrixAt file end at ≡ item x n → MatrixRight at x n
+  unfolding matrixAt
+  matrix-right at x n e =
+      let a = leb 1 (getD file at 0) in
+      let b = leb (getD file at 0) maxStatuses in
+      let c = leb 1 (getD file (at + 1) 0) in
+      let d = leb (getD file (at + 1) 0) maxEvents in
+      let (t₁, h₁) = need-inv (leb (at + 2) end) 4 at _ x n e in
+      let (t₂, h₂) = need-inv (a && b && c && d) 6 at _ x n h₁ in
+      let s = and-inv a b (and-inv (a && b) c (and-inv (a && b && c) d t₂ .0) .0) in
+      record { count = sym (ap (λ (y : Matrix). y .statuses) (item-same _ _ _ _ h₂)); statuses = leb-true _ _ (s .1); past = sym (item-past _ _ _ _ h₂) }
+
+  matrix-small : (ms : List Matrix) (at past : ℕ) → Run (matrixAt file end) at ms past → (m p : ℕ) → p ≡ at + 2 * m → m < length ms → getD file p 0 ≤ 16
+  matrix-small [] at past r m p q h = absurd (omega arith)
+  matrix-small (x ∷ xs) at past r zero p q h = subst (λ (i : ℕ). getD file i 0 ≤ 16) (let z : at ≡ p = omega arith in z) (matrix-right at x (r .0) (r .1) .statuses)
+  matrix-small (x ∷ xs) at past r (suc m) p q h =
+      let f = matrix-right at x (r .0) (r .1) in
+      matrix-small xs (r .0) past (r .2) m p (let z : r .0 ≡ at + 2 = f .past in omega arith) (omega arith)
+
+  -- a matrix's status count by its byte
+  matrix-counts : (ms : List Matrix) (at past : ℕ) → Run (matrixAt file end) at ms past → (m p : ℕ) → p ≡ at + 2 * m → m < length ms → getD (map (λ (x : Matrix). x .statuses) ms) m 0 ≡ getD file p 0
+  matrix-counts [] at past r m p q h = absurd (omega arith)
+  matrix-counts (x ∷ xs) at past r zero p q h = matrix-right at x (r .0) (r .1) .count ∙ ap (λ (i : ℕ). getD file i 0) (let z : at ≡ p = omega arith in z)
+  matrix-counts (x ∷ xs) at past r (suc m) p q h =
+      let f = matrix-right at x (r .0) (r .1) in
+      matrix-counts xs (r .0) past (r .2) m p (let z : r .0 ≡ at + 2 = f .past in omega arith) (omega arith)
+
+fours : (k : ℕ) → Narrow (replicate k 4)
+fours zero = tt
+fours (suc k) = (omega arith, fours k)
+
+zeros : (k : ℕ) → InRange (replicate k 4) (replicate k 0)
+zeros zero = tt
+zeros (suc k) = (omega arith, zeros k)
+
+-- what fills its length is what was read
+filling-right : {A : Type 0} (P : A → Type 0) (i p past : ℕ) (r : Read A) → All P r → (a : A) (n : ℕ) → filling i p past r ≡ item a n → P a
+filling-right P i p past (got b m) h a n e = subst P (item-same _ _ _ _ (need-inv (eqb m past) i p (item b past) a n e .1)) (h .of b m refl)
+filling-right P i p past bad h a n e = let z : _≡_ {A = ℕ} 0 1 = cc in absurd (omega arith)
+
+module _ (file : List ℕ) (bytes : (i : ℕ) → getD file i 0 < 256) (d : Design) (p : Parts file d) where
+  abbrev E : ℕ
+  E = trailer file
+
+  abbrev N : Names
+  N = names file
+
+  abbrev M : ℕ
+  M = matricesOffset file
+
+  variable-widths : (v : ℕ) → v < variableCount file → getD (widths d) v 0 ≡ width (kind (getD file (3 * v) 0))
+  unfolding widths
+  variable-widths v h =
+      List·getD-append (map wide (d .variables)) (replicate (length (d .statuses)) 4) 0 v (omega (arith, length-map (d .variables) wide, p .variable-count))
+      ∙ variable-width file E bytes (d .variables) 0 M (p .variable-run) v (3 * v) (omega arith) (omega (arith, p .variable-count))
+
+  flags : (v : ℕ) → v < variableCount file → (getD file (3 * v) 0 ≡ 1 → ⊥) → getD (widths d) v 0 ≡ 1
+  flags v h k = variable-widths v h ∙ flag-width _ k
+
+  ints : (v : ℕ) → v < variableCount file → getD file (3 * v) 0 ≡ 1 → getD (widths d) v 0 ≡ 16
+  ints v h k = variable-widths v h ∙ int-width _ k
+
+  status-count : length (d .statuses) ≡ matrixCount file
+  status-count = ap length (p .statuses) ∙ length-map (p .matrices) (λ (m : Matrix). m .statuses) ∙ p .matrix-count
+
+  status-width : (m : ℕ) → m < matrixCount file → IsStatus (widths d) (layout d) m
+  unfolding widths layout
+  status-width m h =
+      ap (λ (i : ℕ). getD (map wide (d .variables) ++ replicate (length (d .statuses)) 4) (i + m) 0) (sym (length-map (d .variables) wide))
+      ∙ getD-append-add (map wide (d .variables)) (replicate (length (d .statuses)) 4) m 0
+      ∙ getD-replicate (length (d .statuses)) m 4 0 (omega (arith, status-count))
+
+  event-ok : (at : ℕ) (x : BoolExpr) (n : ℕ) → eventAt file E N at ≡ item x n → BoolOk (widths d) (layout d) x
+  unfolding eventAt
+  event-ok at x n e =
+      let (t, h) = need-inv (leb (at + 1 + getD file at 0) E) 4 at _ x n e in
+      filling-right (BoolOk (widths d) (layout d)) 8 at (at + 1 + getD file at 0) (boolExpr file N (at + 1 + getD file at 0) maxDepth (at + 1)) (bool-ok file N (widths d) (layout d) bytes flags ints status-width (at + 1 + getD file at 0) maxDepth (at + 1)) x n h
+
+  row-ok : (xs : List BoolExpr) (at past : ℕ) → Run (eventAt file E N) at xs past → (e : ℕ) → BoolOk (widths d) (layout d) (getD xs e (constantB false))
+  row-ok [] at past r e = tt
+  row-ok (x ∷ xs) at past r zero = event-ok at x (r .0) (r .1)
+  row-ok (x ∷ xs) at past r (suc e) = row-ok xs (r .0) past (r .2) e
+
+  rows-ok : (rows : List (List BoolExpr)) (m at past : ℕ) → Rows file m at rows past → (i e : ℕ) → BoolOk (widths d) (layout d) (eventIn file rows i e)
+  rows-ok [] m at past r i e = tt
+  rows-ok (x ∷ xs) m at past r zero e = row-ok x at (r .0) (r .2) e
+  rows-ok (x ∷ xs) m at past r (suc i) e = rows-ok xs (m + 1) (r .0) past (r .3) i e
+
+  abbrev evs : ℕ → ℕ → BoolExpr
+  evs = eventIn file (p .rows)
+
+  guard-ok : (at n : ℕ) (g : BoolExpr) (q : ℕ) → guard file E N at n ≡ item g q → BoolOk (widths d) (layout d) g
+  guard-ok at zero g q e = subst (BoolOk (widths d) (layout d)) (item-same _ _ _ _ e) tt
+  guard-ok at (suc n) g q e = filling-right (BoolOk (widths d) (layout d)) 8 at _ _ (bool-ok file N (widths d) (layout d) bytes flags ints status-width _ maxDepth (at + 8)) g q e
+
+  action-ok : (at : ℕ) (a : Stmts) (q : ℕ) → action file E N at ≡ item a q → StmtsOk (widths d) (layout d) a
+  action-ok at a q e = filling-right (StmtsOk (widths d) (layout d)) 9 at _ _ (list-ok file N (widths d) (layout d) bytes flags ints status-width _ maxNest _) a q e
+
+  -- an entry is right: a cell that the formula can take, or a place
+  abbrev EntryOk : Entry → Type 0
+  EntryOk (normal c) = CellOk (widths d) (layout d) c × (c .status < getD (d .statuses) (c .matrix) 0) × (c .target < getD (d .statuses) (c .matrix) 0)
+  EntryOk (invalid c) = InvalidOk (widths d) (layout d) c
+
+  abbrev F : ℕ → Bool
+  F at = fields file M (matrixCount file) at
+
+  few-statuses : (m : ℕ) → m < matrixCount file → statuses file M m ≤ 16
+  few-statuses m h = matrix-small file E bytes (p .matrices) M (eventsOffset file) (p .matrix-run) m (M + 2 * m) refl (omega (arith, p .matrix-count))
+
+  status-counts : (m : ℕ) → m < matrixCount file → getD (d .statuses) m 0 ≡ statuses file M m
+  status-counts m h =
+      ap (λ (l : List ℕ). getD l m 0) (p .statuses)
+      ∙ matrix-counts file E bytes (p .matrices) M (eventsOffset file) (p .matrix-run) m (M + 2 * m) refl (omega (arith, p .matrix-count))
+
+  event-of : (at : ℕ) → BoolOk (widths d) (layout d) (evs (getD file at 0) (getD file (at + 2) 0))
+  event-of at = rows-ok (p .rows) 0 (eventsOffset file) _ (p .row-run) (getD file at 0) (getD file (at + 2) 0)
+
+  entry-ok : (at k : ℕ) → getD file at 0 < matrixCount file → getD file (at + 1) 0 < statuses file M (getD file at 0) → ending file M at k ≡ true → (x : Entry) (n : ℕ) → entry file E N M evs at k ≡ item x n → EntryOk x
+  entry-ok at zero hm hs he x n e =
+      let (g, q, e₁, h₁) = after-inv (guard file E N at (getD file (at + 5) 0)) _ x n e in
+      let (a, j, e₂, h₂) = after-inv (action file E N at) _ x n h₁ in
+      let few = few-statuses (getD file at 0) hm in
+      let low = ltb-true (getD file (at + 4) 0) (statuses file M (getD file at 0)) he in
+      let count = status-counts (getD file at 0) hm in
+      subst EntryOk (item-same _ _ _ _ h₂) (
+        record {
+          matrix = status-width (getD file at 0) hm;
+          status = omega arith;
+          event = event-of at;
+          target = omega arith;
+          guard = guard-ok at (getD file (at + 5) 0) g q e₁;
+          action = action-ok at a j e₂;
+        },
+        omega arith,
+        omega arith,
+      )
+  entry-ok at (suc k) hm hs he x n e =
+      let few = few-statuses (getD file at 0) hm in
+      subst EntryOk (item-same _ _ _ _ e) (record { matrix = status-width (getD file at 0) hm; status = omega arith; event = event-of at })
+
+  cell-ok : (before at : ℕ) (x : Entry) (n : ℕ) → cellAt file E N M evs before at ≡ item x n → EntryOk x
+  unfolding cellAt
+  cell-ok before at x n e =
+      let (t₁, h₁) = need-inv (leb (c-past file at) E) 4 at (need (F at && ordered file before at) 7 at (entry file E N M evs at (getD file (at + 3) 0))) x n e in
+      let (t₂, h₂) = need-inv (F at && ordered file before at) 7 at (entry file E N M evs at (getD file (at + 3) 0)) x n h₁ in
+      let f = and-inv (F at) (ordered file before at) t₂ .0 in
+      let a = ltb (getD file at 0) (matrixCount file) in
+      let b = ltb (getD file (at + 1) 0) (statuses file M (getD file at 0)) in
+      let c = ltb (getD file (at + 2) 0) (events file M (getD file at 0)) in
+      let g = and-inv (a && b && c) (ending file M at (getD file (at + 3) 0)) f in
+      let m = and-inv a b (and-inv (a && b) c (g .0) .0) in
+      entry-ok at (getD file (at + 3) 0) (ltb-true _ _ (m .0)) (ltb-true _ _ (m .1)) (g .1) x n h₂
+
+  abbrev AllEntries : List Entry → Type 0
+  AllEntries [] = Unit {0}
+  AllEntries (x ∷ xs) = EntryOk x × AllEntries xs
+
+  cells-ok : (es : List Entry) (before at past : ℕ) → Cells file evs before at es past → AllEntries es
+  cells-ok [] before at past r = tt
+  cells-ok (x ∷ xs) before at past r = (cell-ok before at x (r .0) (r .1), cells-ok xs at (r .0) past (r .2))
+
+  normals-ok : (es : List Entry) → AllEntries es → (ms : List Mover) → MoversOk (widths d) (layout d) ms → MoversOk (widths d) (layout d) (map cell (normals es) ++ ms)
+  normals-ok [] h ms k = k
+  normals-ok (normal c ∷ es) h ms k = (h .0 .0, normals-ok es (h .1) ms k)
+  normals-ok (invalid q ∷ es) h ms k = normals-ok es (h .1) ms k
+
+  statuses-ok : (es : List Entry) → AllEntries es → StatusesOk (d .statuses) (normals es)
+  statuses-ok [] h = tt
+  statuses-ok (normal c ∷ es) h = (h .0 .1, h .0 .2, statuses-ok es (h .1))
+  statuses-ok (invalid q ∷ es) h = statuses-ok es (h .1)
+
+  invalids-ok : (es : List Entry) → AllEntries es → InvalidsOk (widths d) (layout d) (invalids es)
+  invalids-ok [] h = tt
+  invalids-ok (normal c ∷ es) h = invalids-ok es (h .1)
+  invalids-ok (invalid q ∷ es) h = (h .0, invalids-ok es (h .1))
+
+  -- an external's width is 1
+  externals-ok : (vs : List Variable) (v : ℕ) → ((i : ℕ) → i < length vs → getD (widths d) (v + i) 0 ≡ getD (map wide vs) i 0) → MoversOk (widths d) (layout d) (externals v vs)
+  externals-ok [] v h = tt
+  externals-ok (x ∷ xs) v h = go (x .kind) refl (externals-ok xs (suc v) (λ i l. ap (λ (j : ℕ). getD (widths d) j 0) (let z : suc v + i ≡ v + suc i = omega arith in z) ∙ h (suc i) (omega arith)))
+    where
+      go : (k : Kind) → x .kind ≡ k → MoversOk (widths d) (layout d) (externals (suc v) xs) → MoversOk (widths d) (layout d) (ifExternal k (raise v ∷ externals (suc v) xs) (externals (suc v) xs))
+      go boolean q r = r
+      go integer q r = r
+      go external q r = (ap (λ (j : ℕ). getD (widths d) j 0) (let z : v ≡ v + 0 = omega arith in z) ∙ h 0 (omega arith) ∙ ap width q, r)
+
+  invariant-ok : (x : BoolExpr) (n : ℕ) → invariantAt file E N (invariantOffset file) ≡ item x n → BoolOk (widths d) (layout d) x
+  unfolding invariantAt
+  invariant-ok x n e = filling-right (BoolOk (widths d) (layout d)) 8 (invariantOffset file) E (boolExpr file N E maxDepth (invariantOffset file)) (bool-ok file N (widths d) (layout d) bytes flags ints status-width E maxDepth (invariantOffset file)) x n e
+
+  pub right : 1 ≤ length (movers d) → length (movers d) ≤ maxMovers → WellFormed d
+  unfolding widths movers start
+  right some few =
+      let all : AllEntries (p .entries) = cells-ok (p .entries) _ _ _ (p .cell-run) in
+      record {
+        some-mover = some;
+        few-movers = few;
+        narrow = variables-small file E bytes (d .variables) 0 0 (replicate (length (d .statuses)) 4) (fours (length (d .statuses)));
+        movers = subst (λ (l : List Cell). MoversOk (widths d) (layout d) (map cell l ++ externals 0 (d .variables))) (sym (p .cells))
+            (normals-ok (p .entries) all (externals 0 (d .variables)) (externals-ok (d .variables) 0 (λ i l. ap (λ (j : ℕ). getD (widths d) j 0) (let z : 0 + i ≡ i = omega arith in z) ∙ List·getD-append (map wide (d .variables)) (replicate (length (d .statuses)) 4) 0 i (omega (arith, length-map (d .variables) wide)))));
+        statuses = subst (StatusesOk (d .statuses)) (sym (p .cells)) (statuses-ok (p .entries) all);
+        invariant = invariant-ok (d .invariant) (p .past) (p .invariant);
+        invalid = subst (InvalidsOk (widths d) (layout d)) (sym (p .invalid)) (invalids-ok (p .entries) all);
+        start = variables-range file E bytes (d .variables) 0 M (p .variable-run) (replicate (length (d .statuses)) 4) (replicate (length (d .statuses)) 0) (zeros (length (d .statuses)));
+      }
+
+-- THE THEOREM: the tree of an accepted design is well formed.
+pub well-formed : (file : List ℕ) → ((i : ℕ) → getD file i 0 < 256) → (d : Design) → check file ≡ accepted d → WellFormed d
+well-formed file bytes d e = let h = whole file d e in right file bytes d (h .parts) (h .mover) (h .movers)

@@ -1,0 +1,58 @@
+-- What the code answers, of what the definitions say.
+use Prim.Native.Nat.{ℕ, _+_}
+use mathlib.Core.Bool.{cond}
+use mathlib.Core.List.{List, [], _∷_}
+use lib.Dec.{eqb}
+use Rattle.design.specs.Tree.{Variable, ifExternal, Design, movers}
+use Rattle.design.specs.Reading.{Read, got, bad}
+use Rattle.design.specs.DesignFile.{Item, item, refused, Entry, normal, invalid}
+use Rattle.design.specs.Check.{Checked, accepted}
+use lib.ListN.{length}
+use Rattle.design.specs.declared.Refusal.{Refusal}
+use Rattle.design.specs.declared.expression.Found.{Found}
+use Rattle.design.specs.declared.expression.Found.the-variants.{At, Bad}
+use Rattle.design.specs.declared.item.Walked.{Walked}
+use Rattle.design.specs.declared.item.Walked.the-variants.{Past, Refused}
+use Rattle.design.specs.declared.item.Counted.{Counted}
+use Rattle.design.specs.declared.item.Counted.the-variants.{Passed, Stopped}
+
+-- of what was read, the position past it
+abbrev pub found : {A : Type 0} → Read A → Found
+found (got a n) = At n
+found bad = Bad
+
+-- of an item or a section, the position past it, or the refusal
+abbrev pub walked : {A : Type 0} → Item A → Walked
+walked (item a n) = Past n
+walked (refused number place) = Refused number place
+
+-- the same, of what is to fill its length up to `past`
+abbrev pub filled : ℕ → ℕ → ℕ → Found → Walked
+filled number place past (At n) = cond (eqb n past) (Past past) (Refused number place)
+filled number place past Bad = Refused number place
+
+abbrev pub total : {A : Type 0} → (A → ℕ) → List A → ℕ
+total f [] = 0
+total f (x ∷ xs) = f x + total f xs
+
+-- of a section, the position past it and how many movers it has, on top of k
+abbrev pub counted : {A : Type 0} → (A → ℕ) → ℕ → Item (List A) → Counted
+counted f k (item xs n) = Passed n (k + total f xs)
+counted f k (refused number place) = Stopped number place
+
+abbrev pub raises : Variable → ℕ
+raises x = ifExternal (x .kind) 1 0
+
+abbrev pub moves : Entry → ℕ
+moves (normal c) = 1
+moves (invalid p) = 0
+
+-- of all sections, the position past them and the number of movers
+abbrev pub bodied : Item Design → Counted
+bodied (item d n) = Passed n (length (movers d))
+bodied (refused number place) = Stopped number place
+
+-- of the whole, the refusal's number and place; 0 and 0 where it is accepted
+abbrev pub refusal : Checked → Refusal
+refusal (Checked.refused number place) = record { number = number; place = place }
+refusal (accepted d) = record { number = 0; place = 0 }

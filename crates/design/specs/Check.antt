@@ -1,0 +1,103 @@
+-- CHECK (document 01, "Turned-back calls"): a file is refused, by a number and a place, or accepted as a tree.
+use Prim.Native.Nat.{ℕ, _+_, _*_, _-_}
+use mathlib.Core.Bool.{false, cond, _&&_}
+use mathlib.Core.List.{List, [], _∷_, map}
+use lib.ListN.{getD, length}
+use lib.Dec.{leb, eqb}
+use Rattle.design.specs.Tree.{constantB, Cell, InvalidCell, Design, movers}
+use Rattle.design.specs.Limits.{maxBytes, trailerBytes, maxVariables, maxMatrices, maxCells, maxMovers}
+use Rattle.design.specs.Expression.{Names, intOp, boolOp, intExpr, boolExpr}
+use Rattle.design.specs.Action.{stmtOp, assignment, statements, listOf, statement}
+use Rattle.design.specs.DesignFile.{Item, item, Walk, give, need, _>>=_, _>>_, items, offset, Matrix, Entry, normal, invalid, at16, variableAt, matrixAt, eventAt, eventsFrom, cellAt, cellsFrom, invariantAt as invariantItem}
+
+-- what an expression names in a file with so many variables and matrices
+abbrev pub namesOf : List ℕ → ℕ → ℕ → Names
+namesOf file nv nm = record { variables = nv; kindOf = λ v. getD file (3 * v) 0; matrices = nm }
+
+pub data Checked : Type 0 where
+  refused : ℕ → ℕ → Checked
+  accepted : Design → Checked
+
+abbrev pub normals : List Entry → List Cell
+normals [] = []
+normals (normal c ∷ es) = c ∷ normals es
+normals (invalid p ∷ es) = normals es
+
+abbrev pub invalids : List Entry → List InvalidCell
+invalids [] = []
+invalids (normal c ∷ es) = invalids es
+invalids (invalid p ∷ es) = p ∷ invalids es
+
+-- the items in file order, with what the trailer says of them; they end at `end`
+module _ (file : List ℕ) (end variables matricesAt matrices eventsAt cellsAt cells invariantAt : ℕ) where
+  unfoldable pub sections : Walk Design
+  sections = do
+    vs ← items (variableAt file end) variables
+    offset matricesAt
+    ms ← items (matrixAt file end) matrices
+    offset eventsAt
+    rows ← eventsFrom file end (namesOf file variables matrices) matricesAt 0 matrices
+    offset cellsAt
+    es ← (λ at. cellsFrom file end (namesOf file variables matrices) matricesAt (λ m e. getD (getD rows m []) e (constantB false)) cells at at)
+    offset invariantAt
+    invariant ← invariantItem file end (namesOf file variables matrices)
+    give (record {
+      variables = vs;
+      statuses = map (λ (m : Matrix). m .statuses) ms;
+      cells = normals es;
+      invalid = invalids es;
+      invariant = invariant;
+    })
+
+module _ (file : List ℕ) where
+  -- The last 16 bytes are the trailer, eight u16
+  abbrev pub trailer : ℕ
+  trailer = length file - trailerBytes
+
+  abbrev pub version : ℕ
+  version = at16 file trailer
+
+  abbrev pub variableCount : ℕ
+  variableCount = at16 file (trailer + 2)
+
+  abbrev pub matricesOffset : ℕ
+  matricesOffset = at16 file (trailer + 4)
+
+  abbrev pub matrixCount : ℕ
+  matrixCount = at16 file (trailer + 6)
+
+  abbrev pub eventsOffset : ℕ
+  eventsOffset = at16 file (trailer + 8)
+
+  abbrev pub cellsOffset : ℕ
+  cellsOffset = at16 file (trailer + 10)
+
+  abbrev pub cellCount : ℕ
+  cellCount = at16 file (trailer + 12)
+
+  abbrev pub invariantOffset : ℕ
+  invariantOffset = at16 file (trailer + 14)
+
+  abbrev pub names : Names
+  names = namesOf file variableCount matrixCount
+
+  abbrev pub body : Walk Design
+  body = sections file trailer variableCount matricesOffset matrixCount eventsOffset cellsOffset cellCount invariantOffset
+
+  -- last, the number of movers
+  abbrev pub last : Item Design → Checked
+  last (item d past) =
+      cond (leb 1 (length (movers d)) && leb (length (movers d)) maxMovers) (accepted d) (Checked.refused 10 (length file))
+  last (Item.refused number place) = Checked.refused number place
+
+  unfoldable pub check : Checked
+  check = last (
+      need (leb trailerBytes (length file) && leb (length file) maxBytes) 1 (length file)
+      (need (eqb version 1) 2 trailer
+      (need (leb variableCount maxVariables && (leb 1 matrixCount && leb matrixCount maxMatrices) && leb cellCount maxCells) 3 trailer
+      (body 0))))
+
+-- Not part of CHECK: to unfold this is to unfold all that a check computes, for facts about given bytes.
+unfoldable pub checking : ℕ
+unfolding check sections intOp boolOp intExpr boolExpr stmtOp assignment statements listOf statement items variableAt matrixAt eventAt eventsFrom cellAt cellsFrom invariantItem movers
+checking = 0

@@ -1,0 +1,35 @@
+-- The limits of the design file, in one place.
+use Prim.Native.Nat.{ℕ}
+
+-- bytes of a file, and of its trailer
+abbrev pub maxBytes : ℕ
+maxBytes = 16384
+
+abbrev pub trailerBytes : ℕ
+trailerBytes = 16
+
+-- counts
+abbrev pub maxVariables : ℕ
+maxVariables = 32
+
+abbrev pub maxMatrices : ℕ
+maxMatrices = 8
+
+abbrev pub maxCells : ℕ
+maxCells = 256
+
+abbrev pub maxStatuses : ℕ
+maxStatuses = 16
+
+abbrev pub maxEvents : ℕ
+maxEvents = 16
+
+abbrev pub maxMovers : ℕ
+maxMovers = 64
+
+-- the depth of an expression, a leaf being 1, and how deep ifs nest
+abbrev pub maxDepth : ℕ
+maxDepth = 16
+
+abbrev pub maxNest : ℕ
+maxNest = 4

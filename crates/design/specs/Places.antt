@@ -1,0 +1,49 @@
+-- Where the items of an accepted file stand, by its bytes, and the tables that hold these positions.
+use mathlib.Core.Path.{_≡_}
+use mathlib.Core.Bool.{cond}
+use mathlib.Core.List.{List, [], _∷_}
+use Prim.Native.Nat.{ℕ, zero, suc, _+_, _*_, _<_}
+use lib.ListN.{getD, length, take}
+use lib.Dec.{eqb}
+use Rattle.design.specs.Limits.{maxEvents}
+use Rattle.design.specs.DesignFile.{at8, events, c-kind, c-past}
+use Rattle.design.specs.Check.{check, matricesOffset, matrixCount, eventsOffset, cellsOffset, cellCount}
+use Rattle.design.specs.Answers.{refusal}
+
+-- CHECK refuses nothing
+abbrev pub Accepted : List ℕ → Type 0
+Accepted file = refusal (check file) .number ≡ 0
+
+module _ (file : List ℕ) where
+  -- the position past so many events, and past so many cells
+  unfoldable pub pastEvents : ℕ → ℕ → ℕ
+  pastEvents zero at = at
+  pastEvents (suc n) at = pastEvents n at + 1 + at8 file (pastEvents n at)
+
+  unfoldable pub pastCells : ℕ → ℕ → ℕ
+  pastCells zero at = at
+  pastCells (suc n) at = c-past file (pastCells n at)
+
+  -- where the events of matrix m start, and where its event e stands
+  unfoldable pub eventsStart : ℕ → ℕ
+  eventsStart zero = eventsOffset file
+  eventsStart (suc m) = pastEvents (events file (matricesOffset file) m) (eventsStart m)
+
+  abbrev pub eventPlace : ℕ → ℕ → ℕ
+  eventPlace m e = pastEvents e (eventsStart m)
+
+  -- where the normal ones of n cells stand
+  unfoldable pub normalsFrom : ℕ → ℕ → List ℕ
+  normalsFrom zero at = []
+  normalsFrom (suc n) at = cond (eqb (c-kind file at) 0) (at ∷ normalsFrom n (c-past file at)) (normalsFrom n (c-past file at))
+
+  abbrev pub normalPlaces : List ℕ
+  normalPlaces = normalsFrom (cellCount file) (cellsOffset file)
+
+  -- The tables: the events, 16 entries a matrix, and the normal cells in file order.
+  pub record EventsIndexed (table : List ℕ) : Type 0 where
+    pub entry : (m e : ℕ) → m < matrixCount file → e < events file (matricesOffset file) m → getD table (maxEvents * m + e) 0 ≡ eventPlace m e
+
+  pub record CellsIndexed (table : List ℕ) (normals : ℕ) : Type 0 where
+    pub count : normals ≡ length normalPlaces
+    pub entries : take normals table ≡ normalPlaces

@@ -1,0 +1,225 @@
+//! Sends the same generated requests to two serving programs and compares
+//! their replies line by line.
+//!
+//! compare A B [--seed N] [--count N] [--operations check,..] [--require 1,2,..]
+
+use reference::generator::{all_operations, Generator};
+use std::collections::BTreeMap;
+use std::io::{BufRead, BufReader, Write};
+use std::process::{Child, ChildStdin, ChildStdout, Command, ExitCode, Stdio};
+use std::sync::mpsc::{sync_channel, Receiver, SyncSender};
+use std::sync::Arc;
+use std::thread;
+
+const USAGE: &str =
+    "usage: compare A B [--seed N] [--count N] [--operations check,..] [--require 1,2,..]";
+/// Requests under way towards each program.
+const QUEUE: usize = 256;
+
+struct Settings {
+    programs: [String; 2],
+    seed: u64,
+    count: u64,
+    operations: Vec<String>,
+    require: Vec<u64>,
+}
+
+fn main() -> ExitCode {
+    let Some(settings) = settings() else {
+        eprintln!("{USAGE}");
+        return ExitCode::from(2);
+    };
+    match compare(&settings) {
+        Ok(()) => ExitCode::SUCCESS,
+        Err(text) => {
+            println!("{text}");
+            ExitCode::FAILURE
+        }
+    }
+}
+
+fn settings() -> Option<Settings> {
+    let mut arguments = std::env::args().skip(1);
+    let mut settings = Settings {
+        programs: [arguments.next()?, arguments.next()?],
+        seed: 1,
+        count: 20_000,
+        operations: all_operations().iter().map(|s| s.to_string()).collect(),
+        require: vec![],
+    };
+    while let Some(name) = arguments.next() {
+        let value = arguments.next()?;
+        match name.as_str() {
+            "--seed" => settings.seed = value.parse().ok()?,
+            "--count" => settings.count = value.parse().ok()?,
+            "--operations" => settings.operations = value.split(',').map(String::from).collect(),
+            "--require" => {
+                settings.require =
+                    value.split(',').map(|n| n.parse().ok()).collect::<Option<_>>()?
+            }
+            _ => return None,
+        }
+    }
+    Some(settings)
+}
+
+fn compare(settings: &Settings) -> Result<(), String> {
+    let names: Vec<&str> = settings.operations.iter().map(String::as_str).collect();
+    let generator = Generator::new(settings.seed, &names).ok_or("unknown operation")?;
+    let mut programs =
+        [Program::start(&settings.programs[0])?, Program::start(&settings.programs[1])?];
+    let requests = send_requests(generator, settings.count, &mut programs);
+    let mut seen = Seen::default();
+    let compared = compare_replies(&requests, &mut programs, &mut seen);
+    for program in &mut programs {
+        program.stop();
+    }
+    compared?;
+    seen.print();
+    seen.check_required(&settings.require)?;
+    println!("no difference in {} requests", settings.count);
+    Ok(())
+}
+
+/// A serving program and what it writes.
+struct Program {
+    child: Child,
+    replies: BufReader<ChildStdout>,
+}
+
+impl Program {
+    /// Starts a command given as a path and arguments, parted by spaces.
+    fn start(command: &str) -> Result<Program, String> {
+        let mut words = command.split_whitespace();
+        let path = words.next().ok_or("an empty command")?;
+        let mut command = Command::new(path);
+        command.args(words).stdin(Stdio::piped()).stdout(Stdio::piped());
+        let mut child = command.spawn().map_err(|e| format!("cannot start {path}: {e}"))?;
+        let output = child.stdout.take().ok_or("no output")?;
+        Ok(Program { child, replies: BufReader::with_capacity(1 << 16, output) })
+    }
+
+    fn reply(&mut self) -> String {
+        let mut line = String::new();
+        match self.replies.read_line(&mut line) {
+            Ok(n) if n > 0 => line.trim_end_matches('\n').to_string(),
+            _ => "(the program ended)".to_string(),
+        }
+    }
+
+    fn stop(&mut self) {
+        let _ = self.child.kill();
+        let _ = self.child.wait();
+    }
+}
+
+/// Makes the requests in a thread of its own and writes them to both programs
+/// from two more. Each queue is filled in the same order, so that whoever
+/// waits for a reply waits for a request that is already on its way.
+fn send_requests(
+    mut generator: Generator,
+    count: u64,
+    programs: &mut [Program; 2],
+) -> Receiver<Arc<String>> {
+    let writers: Vec<SyncSender<Arc<String>>> =
+        programs.iter_mut().filter_map(|p| p.child.stdin.take()).map(write_requests).collect();
+    let (own, requests) = sync_channel(QUEUE);
+    thread::spawn(move || {
+        for _ in 0..count {
+            let request = Arc::new(generator.request());
+            for queue in writers.iter().chain([&own]) {
+                // An ended program has closed its queue; its replies tell.
+                let _ = queue.send(request.clone());
+            }
+        }
+    });
+    requests
+}
+
+fn write_requests(mut input: ChildStdin) -> SyncSender<Arc<String>> {
+    let (queue, requests) = sync_channel::<Arc<String>>(QUEUE);
+    thread::spawn(move || {
+        for request in requests {
+            if writeln!(input, "{request}").is_err() {
+                return;
+            }
+        }
+    });
+    queue
+}
+
+fn compare_replies(
+    requests: &Receiver<Arc<String>>,
+    programs: &mut [Program; 2],
+    seen: &mut Seen,
+) -> Result<(), String> {
+    for (index, request) in requests.iter().enumerate() {
+        let replies = [programs[0].reply(), programs[1].reply()];
+        let shown = || format!("request {index}: {request}\nA: {}\nB: {}", replies[0], replies[1]);
+        if replies[0] != replies[1] {
+            return Err(format!("difference\n{}", shown()));
+        }
+        if replies[0] == "error" || replies[0].starts_with('(') {
+            return Err(format!("no answer\n{}", shown()));
+        }
+        seen.add(&request, &replies[0]);
+    }
+    Ok(())
+}
+
+/// What kinds of requests and replies came.
+#[derive(Default)]
+struct Seen {
+    requests: BTreeMap<String, u64>,
+    answers: BTreeMap<String, u64>,
+    refusals: BTreeMap<u64, u64>,
+}
+
+impl Seen {
+    fn add(&mut self, request: &str, reply: &str) {
+        let operation = request.split(' ').next().unwrap_or("");
+        *self.requests.entry(operation.to_string()).or_default() += 1;
+        let words: Vec<&str> = reply.split(' ').collect();
+        if words[0] == "refused" {
+            let number = words.get(1).and_then(|n| n.parse().ok()).unwrap_or(0);
+            *self.refusals.entry(number).or_default() += 1;
+        } else if let Some(answer) = named_answer(operation, &words) {
+            *self.answers.entry(answer).or_default() += 1;
+        }
+    }
+
+    fn print(&self) {
+        for (operation, count) in &self.requests {
+            println!("requests {operation}: {count}");
+        }
+        for (answer, count) in &self.answers {
+            println!("answers {answer}: {count}");
+        }
+        for (number, count) in &self.refusals {
+            println!("refusals {number}: {count}");
+        }
+    }
+
+    fn check_required(&self, required: &[u64]) -> Result<(), String> {
+        let missing = required.iter().find(|n| !self.refusals.contains_key(n));
+        match missing {
+            Some(number) => Err(format!("refusal {number} was never seen")),
+            None => Ok(()),
+        }
+    }
+}
+
+/// A name for answers worth counting apart.
+fn named_answer(operation: &str, words: &[&str]) -> Option<String> {
+    let second = words.get(1)?;
+    let named = match operation {
+        "solve" | "holds" => second.to_string(),
+        "verdict" if *second == "clean" => second.to_string(),
+        "verdict" => format!("{second} {}", words.get(2)?),
+        "replay" if *second != "none" => "broken".to_string(),
+        "replay" => second.to_string(),
+        "step" => format!("idle {}", words.last()?),
+        _ => return None,
+    };
+    Some(format!("{operation} {named}"))
+}

@@ -1,0 +1,10 @@
+//! The Replay program of document 01.
+
+use reference::programs::replay_output;
+use std::io::{self, Read, Write};
+
+fn main() -> io::Result<()> {
+    let mut input = Vec::new();
+    io::stdin().read_to_end(&mut input)?;
+    io::stdout().write_all(&replay_output(&input))
+}

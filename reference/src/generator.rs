@@ -1,0 +1,85 @@
+//! A seeded stream of requests of the line protocol, good and bad ones.
+
+mod calls;
+mod faults;
+mod lists;
+pub mod trees;
+
+use crate::builder::file_bytes;
+use crate::design::{Design, MAX_FILE};
+use crate::random::Random;
+
+/// The operations, each with its share of the requests.
+const SHARES: [(&str, usize); 11] = [
+    ("check", 4),
+    ("start", 1),
+    ("step", 3),
+    ("holds", 2),
+    ("replay", 2),
+    ("size", 2),
+    ("encode", 2),
+    ("solve", 3),
+    ("decode", 2),
+    ("verdict", 2),
+    ("trace", 2),
+];
+
+/// Makes requests for some of the operations.
+pub struct Generator {
+    random: Random,
+    operations: Vec<&'static str>,
+}
+
+impl Generator {
+    /// `None` where an operation is unknown or none is named.
+    pub fn new(seed: u64, operations: &[&str]) -> Option<Generator> {
+        let share = |name: &&str| SHARES.iter().find(|s| s.0 == *name);
+        let shares: Option<Vec<_>> = operations.iter().map(share).collect();
+        let repeated = shares?.into_iter().flat_map(|&(name, n)| vec![name; n]);
+        let operations: Vec<&'static str> = repeated.collect();
+        let known = !operations.is_empty();
+        known.then(|| Generator { random: Random::new(seed), operations })
+    }
+
+    pub fn request(&mut self) -> String {
+        let operation = self.random.pick(&self.operations);
+        let random = &mut self.random;
+        match operation {
+            "check" => calls::check(random),
+            "start" => calls::start(random),
+            "step" => calls::step(random),
+            "holds" => calls::holds(random),
+            "replay" => calls::replay(random, "replay"),
+            "size" => calls::size(random),
+            "encode" => calls::encode(random),
+            "solve" => lists::solve(random),
+            "decode" => calls::decode(random),
+            "verdict" => calls::verdict(random),
+            _ => calls::replay(random, "trace"),
+        }
+    }
+}
+
+pub fn all_operations() -> Vec<&'static str> {
+    SHARES.iter().map(|s| s.0).collect()
+}
+
+/// A file for CHECK: mostly with faults.
+fn any_file(random: &mut Random) -> Vec<u8> {
+    let plan = trees::any_plan(random);
+    match random.below(100) {
+        0..=19 => file_bytes(&trees::design(random, plan)),
+        20..=21 => file_bytes(&long_design(random)),
+        22..=24 => faults::file_of_edge_length(random),
+        _ => faults::faulty_file(random, plan),
+    }
+}
+
+/// A design of the greatest length, or one byte more or less.
+fn long_design(random: &mut Random) -> Design {
+    let plan = trees::tiny_plan(random);
+    let mut design = trees::design(random, plan);
+    let length = random.pick(&[MAX_FILE - 1, MAX_FILE, MAX_FILE, MAX_FILE + 1]);
+    trees::lengthen(random, &mut design, length);
+    design
+}

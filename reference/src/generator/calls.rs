@@ -1,0 +1,338 @@
+//! Requests for the operations on a design.
+
+use super::trees::{
+    any_plan, breakable, chain_design, crowded_plan, deep_plan, design, number, tiny_plan, Plan,
+};
+use super::{any_file, faults, long_design};
+use crate::builder::file_bytes;
+use crate::design::{Design, Kind, MAX_MOVERS};
+use crate::formula::Formula;
+use crate::protocol::{hex, list_text};
+use crate::random::Random;
+use crate::step::State;
+use crate::verdict::{verdict as find_verdict, Lent};
+
+/// The longest part, in words, and the most variables that a request lends.
+const MAX_PART: u64 = 40_000;
+const MAX_VALUES: u64 = 8_000;
+/// A search over a formula is affordable below this product of its variables
+/// and words, with this many tries.
+const MAX_SEARCH: u64 = 4_000_000;
+const MAX_TRIES: u64 = 80;
+
+pub fn check(random: &mut Random) -> String {
+    format!("check {}", hex(&any_file(random)))
+}
+
+pub fn start(random: &mut Random) -> String {
+    let (_, file) = any_design(random);
+    format!("start {}", hex(&file))
+}
+
+pub fn step(random: &mut Random) -> String {
+    let (design, file) = any_design(random);
+    let movers = design.movers().len();
+    let choice = any_choice(random, movers as u64);
+    format!("step {} {} {choice}", hex(&file), state_fields(random, &design))
+}
+
+pub fn holds(random: &mut Random) -> String {
+    let (design, file) = any_design(random);
+    let property = any_property(random);
+    format!("holds {} {} {property}", hex(&file), state_fields(random, &design))
+}
+
+/// REPLAY and the Replay program take the same fields.
+pub fn replay(random: &mut Random, operation: &str) -> String {
+    let (design, mut file) = any_design(random);
+    if operation == "trace" && random.chance(1) {
+        file.resize(random.pick(&[16_385, 16_386, 16_390]), 0);
+    }
+    let property = any_property(random);
+    let choices = any_choices(random, design.movers().len());
+    format!("{operation} {} {property} {}", hex(&file), list_text(&choices))
+}
+
+pub fn size(random: &mut Random) -> String {
+    let (_, file) = any_design(random);
+    let bound = any_bound(random);
+    format!("size {} {} {bound}", hex(&file), any_property(random))
+}
+
+pub fn encode(random: &mut Random) -> String {
+    let (design, file) = design_to_encode(random);
+    let (property, bound) = (any_property(random), any_bound(random));
+    let part = any_part(random, bound);
+    let words = if property > 1 || bound > 100 || part > bound as u64 + 2 {
+        random.between(0, 20) as u64
+    } else {
+        Formula::new(&design, property, bound).part_count(part).words
+    };
+    let length = length_near(random, words.min(MAX_PART) as usize);
+    format!("encode {} {property} {bound} {part} {length}", hex(&file))
+}
+
+pub fn decode(random: &mut Random) -> String {
+    let (design, file) = design_to_encode(random);
+    let property = any_property(random);
+    let bound = affordable_bound(&design, property, random.between(0, 6), |n, _| n <= MAX_VALUES);
+    let mut values = flagged_values(random, &design, property & 1, bound);
+    if random.chance(30) {
+        values.truncate(length_near(random, values.len()));
+    }
+    let bound = if random.chance(5) { random.pick(&[100, 101, 255]) } else { bound };
+    let choices = length_near(random, bound as usize);
+    format!("decode {} {property} {bound} {} {choices}", hex(&file), list_text(&values))
+}
+
+pub fn verdict(random: &mut Random) -> String {
+    let (design, file) = small_design(random);
+    let property = any_property(random);
+    let cheap = |n, words| n * words <= MAX_SEARCH;
+    let bound = affordable_bound(&design, property, random.pick(&[0, 1, 2, 3, 3, 4, 4]), cheap);
+    let size = Formula::new(&design, property & 1, bound).size();
+    let exact = exact_tries(&design, property & 1, bound);
+    let budget = match exact {
+        Some(tries) => budget_near(random, tries),
+        None => random.between(0, MAX_TRIES as usize) as u64,
+    };
+    let bound = if random.chance(3) { random.pick(&[101, 255]) } else { bound };
+    let lengths = verdict_lengths(random, size.words, size.variables, bound);
+    format!("verdict {} {property} {bound} {budget} {}", hex(&file), lengths)
+}
+
+/// Lengths of clauses, values, trail and choices: mostly enough.
+fn verdict_lengths(random: &mut Random, words: u64, variables: u64, bound: u8) -> String {
+    let exact = [words, variables, variables, bound as u64];
+    let near = random.chance(40);
+    let lengths: Vec<String> = exact
+        .iter()
+        .map(|&length| {
+            let length = length as usize;
+            let lent = if near { length_near(random, length) } else { length + random.below(3) };
+            lent.to_string()
+        })
+        .collect();
+    lengths.join(" ")
+}
+
+/// The greatest bound up to `bound` whose formula is affordable, or 0.
+fn affordable_bound(
+    design: &Design,
+    property: u8,
+    bound: usize,
+    affordable: impl Fn(u64, u64) -> bool,
+) -> u8 {
+    let fits = |k: &u8| {
+        let size = Formula::new(design, property & 1, *k).size();
+        affordable(size.variables, size.words)
+    };
+    (0..=bound as u8).rev().find(fits).unwrap_or(0)
+}
+
+/// The tries of VERDICT with no budget set, where they are few.
+fn exact_tries(design: &Design, property: u8, bound: u8) -> Option<u64> {
+    let size = Formula::new(design, property, bound).size();
+    let n = size.variables as usize;
+    let lent = Lent {
+        clauses: &mut vec![0; size.words as usize],
+        values: &mut vec![0; n],
+        trail: &mut vec![0; n],
+        choices: &mut vec![0; bound as usize],
+    };
+    let found = find_verdict(design, property, bound, MAX_TRIES, lent).ok()?;
+    (found.tries < MAX_TRIES).then_some(found.tries)
+}
+
+/// A design and its file; in some requests the file has faults.
+fn any_design(random: &mut Random) -> (Design, Vec<u8>) {
+    if random.chance(1) {
+        let design = long_design(random);
+        let file = file_bytes(&design);
+        return (design, file);
+    }
+    let plan = any_plan(random);
+    let design = accepted(random, plan);
+    let file = file_or_fault(random, &design);
+    (design, file)
+}
+
+/// As `any_design`, with few movers and bits.
+fn small_design(random: &mut Random) -> (Design, Vec<u8>) {
+    let design = if random.chance(40) { chain_design(random) } else { tiny_design(random) };
+    let file = file_or_fault(random, &design);
+    (design, file)
+}
+
+/// Mostly a small design; else one with deep trees or many movers.
+fn design_to_encode(random: &mut Random) -> (Design, Vec<u8>) {
+    let plan = match random.below(20) {
+        0 | 1 => deep_plan(random),
+        2 => crowded_plan(random),
+        _ => return small_design(random),
+    };
+    let design = accepted(random, plan);
+    let file = file_or_fault(random, &design);
+    (design, file)
+}
+
+fn tiny_design(random: &mut Random) -> Design {
+    let plan = tiny_plan(random);
+    let mut design = accepted(random, plan);
+    if random.chance(60) {
+        design.invariant = breakable(random, &design);
+    }
+    design
+}
+
+/// A design that CHECK accepts; a plan may be off by one in its movers.
+fn accepted(random: &mut Random, plan: Plan) -> Design {
+    let movers = plan.movers.clamp(1, MAX_MOVERS);
+    design(random, Plan { movers, ..plan })
+}
+
+fn file_or_fault(random: &mut Random, design: &Design) -> Vec<u8> {
+    match random.below(100) {
+        0..=7 => {
+            let plan = tiny_plan(random);
+            faults::faulty_file(random, plan)
+        }
+        8 => file_without_right_movers(random),
+        _ => file_bytes(design),
+    }
+}
+
+/// No mover, or one too many, and no other fault.
+fn file_without_right_movers(random: &mut Random) -> Vec<u8> {
+    let movers = random.pick(&[0, MAX_MOVERS + 1]);
+    let plan = crowded_plan(random);
+    file_bytes(&design(random, Plan { movers, ..plan }))
+}
+
+fn any_property(random: &mut Random) -> u8 {
+    random.pick(&[0, 0, 0, 0, 0, 0, 0, 0, 1, 1, 1, 1, 1, 1, 1, 2, 255])
+}
+
+fn any_bound(random: &mut Random) -> u8 {
+    match random.below(10) {
+        0..=7 => random.between(0, 5) as u8,
+        _ => random.pick(&[99, 100, 100, 101, 255]),
+    }
+}
+
+fn any_part(random: &mut Random, bound: u8) -> u64 {
+    let last = bound as u64 + 2;
+    match random.below(10) {
+        0..=6 => random.between(0, last as usize) as u64,
+        7 => last,
+        _ => random.pick(&[last + 1, last + 2, 255, 256, 1 << 32, u64::MAX]),
+    }
+}
+
+fn any_choice(random: &mut Random, movers: u64) -> u64 {
+    match random.below(10) {
+        0..=6 => random.below(movers as usize) as u64,
+        7 => movers - 1,
+        8 => movers,
+        _ => random.pick(&[movers + 1, 64, 255, 256, 1 << 32, u64::MAX]),
+    }
+}
+
+fn any_choices(random: &mut Random, movers: usize) -> Vec<u8> {
+    let length = match random.below(20) {
+        0 => random.pick(&[99, 100, 101, 102, 255]),
+        1 => random.between(20, 60),
+        _ => random.between(0, 9),
+    };
+    let mut choices: Vec<u8> = (0..length).map(|_| random.below(movers) as u8).collect();
+    if !choices.is_empty() && random.chance(15) {
+        for _ in 0..random.between(1, 2) {
+            let at = random.below(choices.len());
+            choices[at] = random.pick(&[movers as u8 - 1, movers as u8, movers as u8 + 1, 255]);
+        }
+    }
+    choices
+}
+
+fn state_fields(random: &mut Random, design: &Design) -> String {
+    let mut state = any_state(random, design);
+    if random.chance(15) {
+        for _ in 0..random.between(1, 2) {
+            state_fault(random, design, &mut state);
+        }
+    }
+    format!("{} {}", list_text(&state.values), list_text(&state.statuses))
+}
+
+/// A state of the design, often at the place of one of its cells.
+fn any_state(random: &mut Random, design: &Design) -> State {
+    let mut state = State { values: [0; 32], statuses: [0; 8] };
+    for (value, variable) in state.values.iter_mut().zip(&design.variables) {
+        *value = match variable.kind {
+            Kind::Integer => number(random),
+            _ => random.chance(60) as i16,
+        };
+    }
+    for (status, matrix) in state.statuses.iter_mut().zip(&design.matrices) {
+        *status = random.below(matrix.statuses as usize) as u8;
+    }
+    if !design.cells.is_empty() && random.chance(80) {
+        let cell = &design.cells[random.below(design.cells.len())];
+        state.statuses[cell.matrix as usize] = cell.status;
+    }
+    state
+}
+
+fn state_fault(random: &mut Random, design: &Design, state: &mut State) {
+    if random.chance(50) {
+        let at = random.below(32);
+        let integer = design.variables.get(at).is_some_and(|v| v.kind == Kind::Integer);
+        state.values[at] = if integer { number(random) } else { random.pick(&[1, 2, -1, 256]) };
+        return;
+    }
+    let at = random.below(8);
+    let statuses = design.matrices.get(at).map_or(1, |m| m.statuses);
+    state.statuses[at] = random.pick(&[statuses - 1, statuses, statuses + 1, 255]);
+}
+
+/// Values with one flag set in each frame, except for some faults. Values
+/// that are no flags may be anything.
+fn flagged_values(random: &mut Random, design: &Design, property: u8, bound: u8) -> Vec<u8> {
+    let size = Formula::new(design, property, bound).size();
+    let mut values: Vec<u8> = (0..size.variables).map(|_| random.word() as u8).collect();
+    let movers = size.movers as usize;
+    let first = 1 + (size.state_bits + size.property_gates) as usize;
+    let frame = first - 1 + movers + size.step_gates as usize;
+    for j in 0..bound as usize {
+        let flags = &mut values[first + j * frame..][..movers];
+        flags.fill(0);
+        flags[random.below(movers)] = 1;
+        if random.chance(8) {
+            flags[random.below(movers)] = random.pick(&[0, 1, 2, 255]);
+        }
+    }
+    values
+}
+
+/// One less, exact, or more than the needed length.
+pub fn length_near(random: &mut Random, length: usize) -> usize {
+    match random.below(10) {
+        0 => length.saturating_sub(1),
+        1..=5 => length,
+        6..=7 => length + 1,
+        8 => length + random.below(10),
+        _ => random.below(length + 1),
+    }
+}
+
+/// One less, exact, one more, or far from the needed tries.
+pub fn budget_near(random: &mut Random, tries: u64) -> u64 {
+    match random.below(8) {
+        0 => 0,
+        1 | 2 => tries.saturating_sub(1),
+        3 | 4 => tries,
+        5 => tries + 1,
+        6 => random.below(tries as usize + 1) as u64,
+        _ => u64::MAX,
+    }
+}

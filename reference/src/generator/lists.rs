@@ -1,0 +1,83 @@
+//! Requests for SOLVE: short clause lists, good and bad ones.
+
+use super::calls::{budget_near, length_near};
+use crate::protocol::list_text;
+use crate::random::Random;
+use crate::search::solve as solve_list;
+
+const MAX_VARIABLES: usize = 12;
+
+pub fn solve(random: &mut Random) -> String {
+    let n = random.between(0, MAX_VARIABLES);
+    let mut words = clause_list(random, n);
+    let exact = exact_tries(n, &words);
+    if random.chance(20) {
+        list_fault(random, n, &mut words);
+    }
+    let n = if random.chance(4) { far_count(random) } else { n as u64 };
+    let budget = budget_near(random, exact);
+    let lent = n.min(MAX_VARIABLES as u64) as usize;
+    let (values, trail) = (length_near(random, lent), length_near(random, lent));
+    format!("solve {n} {} {values} {trail} {budget}", list_text(&words))
+}
+
+/// Some lists have so few clauses that they are SAT, some so many that not.
+fn clause_list(random: &mut Random, n: usize) -> Vec<i32> {
+    let clauses = random.between(0, 1 + 5 * n);
+    let width = random.between(1, 4);
+    let mut words = Vec::new();
+    for _ in 0..clauses {
+        words.extend(clause(random, n, width));
+        words.push(0);
+    }
+    words
+}
+
+fn clause(random: &mut Random, n: usize, width: usize) -> Vec<i32> {
+    if n == 0 || random.chance(1) {
+        return vec![];
+    }
+    let mut clause: Vec<i32> =
+        (0..random.between(1, width + 1)).map(|_| literal(random, n)).collect();
+    if random.chance(10) {
+        let again = random.pick(&clause);
+        clause.push(if random.chance(50) { again } else { -again });
+    }
+    clause
+}
+
+fn literal(random: &mut Random, n: usize) -> i32 {
+    let variable = random.between(1, n) as i32;
+    if random.chance(50) {
+        variable
+    } else {
+        -variable
+    }
+}
+
+fn exact_tries(n: usize, words: &[i32]) -> u64 {
+    let (mut values, mut trail) = (vec![0; n], vec![0; n]);
+    solve_list(n as u64, words, &mut values, &mut trail, u64::MAX).map_or(0, |s| s.tries)
+}
+
+fn list_fault(random: &mut Random, n: usize, words: &mut Vec<i32>) {
+    let beyond = n as i32 + 1;
+    for _ in 0..random.between(1, 2) {
+        let bad = random.pick(&[beyond, -beyond, i32::MAX, i32::MIN, -i32::MAX]);
+        match random.below(3) {
+            0 => {
+                words.pop();
+            }
+            1 => words.push(bad),
+            _ => {
+                let at = random.between(0, words.len());
+                words.insert(at, bad);
+            }
+        }
+    }
+}
+
+/// A variable count at or beyond the end of the permitted ones.
+fn far_count(random: &mut Random) -> u64 {
+    random.pick(&[(1 << 31) - 1, 1 << 31, 1 << 32, u64::MAX, 13])
+}

@@ -1,0 +1,15 @@
+//! Second implementation of the matrix checker of document 01, written apart
+//! from the first to be held against it. One module for each of its sections.
+
+pub mod builder;
+pub mod design;
+pub mod designs;
+pub mod formula;
+pub mod generator;
+pub mod operations;
+pub mod programs;
+pub mod protocol;
+pub mod random;
+pub mod search;
+pub mod step;
+pub mod verdict;

@@ -1,0 +1,196 @@
+//! The operations of document 01 as one trait over lent memory, so that one
+//! line protocol can serve more than one set of operations.
+
+use crate::design::{self, Refusal};
+use crate::formula::{self, Size};
+use crate::programs;
+use crate::search::{self, Solved};
+use crate::step::{self, State, Stepped};
+use crate::verdict::{self, Verdict};
+
+/// What a call answers.
+#[derive(Clone, Debug, PartialEq, Eq)]
+pub enum Answer<T> {
+    Done(T),
+    Refused(Refusal),
+    /// This operation does not exist in this set.
+    Missing,
+}
+
+impl<T> From<Result<T, Refusal>> for Answer<T> {
+    fn from(result: Result<T, Refusal>) -> Answer<T> {
+        match result {
+            Ok(value) => Answer::Done(value),
+            Err(refusal) => Answer::Refused(refusal),
+        }
+    }
+}
+
+/// One method for each operation; a set that lacks one keeps its default.
+/// Mutable slices are lent memory: afterwards they hold what the call left.
+#[allow(unused_variables, clippy::too_many_arguments)]
+pub trait Operations {
+    fn check(&mut self, design: &[u8]) -> Answer<()> {
+        Answer::Missing
+    }
+
+    fn start(&mut self, design: &[u8]) -> Answer<State> {
+        Answer::Missing
+    }
+
+    fn step(&mut self, design: &[u8], state: &State, choice: u64) -> Answer<Stepped> {
+        Answer::Missing
+    }
+
+    fn holds(&mut self, design: &[u8], state: &State, property: u8) -> Answer<bool> {
+        Answer::Missing
+    }
+
+    /// The first breaking step, or none.
+    fn replay(&mut self, design: &[u8], property: u8, choices: &[u8]) -> Answer<Option<u64>> {
+        Answer::Missing
+    }
+
+    fn size(&mut self, design: &[u8], property: u8, bound: u8) -> Answer<Size> {
+        Answer::Missing
+    }
+
+    /// The number of words written.
+    fn encode(
+        &mut self,
+        design: &[u8],
+        property: u8,
+        bound: u8,
+        part: u64,
+        clauses: &mut [i32],
+    ) -> Answer<u64> {
+        Answer::Missing
+    }
+
+    fn solve(
+        &mut self,
+        n: u64,
+        words: &[i32],
+        values: &mut [u8],
+        trail: &mut [u32],
+        budget: u64,
+    ) -> Answer<Solved> {
+        Answer::Missing
+    }
+
+    /// Writes `bound` choices.
+    fn decode(
+        &mut self,
+        design: &[u8],
+        property: u8,
+        bound: u8,
+        values: &[u8],
+        choices: &mut [u8],
+    ) -> Answer<()> {
+        Answer::Missing
+    }
+
+    fn verdict(
+        &mut self,
+        design: &[u8],
+        property: u8,
+        bound: u8,
+        budget: u64,
+        clauses: &mut [i32],
+        values: &mut [u8],
+        trail: &mut [u32],
+        choices: &mut [u8],
+    ) -> Answer<Verdict> {
+        Answer::Missing
+    }
+
+    /// What the Replay program prints for this input: property byte, count
+    /// byte, choices, design. Its refusals are printed, too.
+    fn trace(&mut self, input: &[u8]) -> Answer<Vec<u8>> {
+        Answer::Missing
+    }
+}
+
+/// The operations of this package.
+pub struct Reference;
+
+impl Operations for Reference {
+    fn check(&mut self, design: &[u8]) -> Answer<()> {
+        design::check(design).map(|_| ()).into()
+    }
+
+    fn start(&mut self, design: &[u8]) -> Answer<State> {
+        design::check(design).map(|d| step::start(&d)).into()
+    }
+
+    fn step(&mut self, design: &[u8], state: &State, choice: u64) -> Answer<Stepped> {
+        design::check(design).and_then(|d| step::step(&d, state, choice)).into()
+    }
+
+    fn holds(&mut self, design: &[u8], state: &State, property: u8) -> Answer<bool> {
+        design::check(design).and_then(|d| step::holds(&d, state, property)).into()
+    }
+
+    fn replay(&mut self, design: &[u8], property: u8, choices: &[u8]) -> Answer<Option<u64>> {
+        design::check(design).and_then(|d| step::replay(&d, property, choices)).into()
+    }
+
+    fn size(&mut self, design: &[u8], property: u8, bound: u8) -> Answer<Size> {
+        design::check(design).and_then(|d| formula::size(&d, property, bound)).into()
+    }
+
+    fn encode(
+        &mut self,
+        design: &[u8],
+        property: u8,
+        bound: u8,
+        part: u64,
+        clauses: &mut [i32],
+    ) -> Answer<u64> {
+        let encode = |d| formula::encode(&d, property, bound, part, clauses);
+        design::check(design).and_then(encode).into()
+    }
+
+    fn solve(
+        &mut self,
+        n: u64,
+        words: &[i32],
+        values: &mut [u8],
+        trail: &mut [u32],
+        budget: u64,
+    ) -> Answer<Solved> {
+        search::solve(n, words, values, trail, budget).into()
+    }
+
+    fn decode(
+        &mut self,
+        design: &[u8],
+        property: u8,
+        bound: u8,
+        values: &[u8],
+        choices: &mut [u8],
+    ) -> Answer<()> {
+        let decode = |d| formula::decode(&d, property, bound, values, choices);
+        design::check(design).and_then(decode).into()
+    }
+
+    fn verdict(
+        &mut self,
+        design: &[u8],
+        property: u8,
+        bound: u8,
+        budget: u64,
+        clauses: &mut [i32],
+        values: &mut [u8],
+        trail: &mut [u32],
+        choices: &mut [u8],
+    ) -> Answer<Verdict> {
+        let lent = verdict::Lent { clauses, values, trail, choices };
+        let solve = |d| verdict::verdict(&d, property, bound, budget, lent);
+        design::check(design).and_then(solve).into()
+    }
+
+    fn trace(&mut self, input: &[u8]) -> Answer<Vec<u8>> {
+        Answer::Done(programs::replay_output(input))
+    }
+}

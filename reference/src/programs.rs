@@ -1,0 +1,107 @@
+//! What the two printing programs of document 01 write, as bytes.
+
+use crate::design::{check, Design, Refusal};
+use crate::formula::{check_bound, Formula, Sink};
+use crate::step::{check_replay, property_holds, run, Stepped};
+
+const MAX_PART_WORDS: u64 = 16_384;
+/// One byte more than a design may have, so that a longer one is refused.
+const DESIGN_BYTES_READ: usize = 16_385;
+
+/// The Replay program. Input: property byte, count byte, choices, design.
+pub fn replay_output(input: &[u8]) -> Vec<u8> {
+    let Some((property, choices, design)) = split_replay(input) else {
+        return refused(Refusal { number: 1, place: 0 });
+    };
+    print_replay(property, choices, design).unwrap_or_else(refused)
+}
+
+/// The clause-printing program. Input: property byte, bound byte, design.
+pub fn clauses_output(input: &[u8]) -> Vec<u8> {
+    let [property, bound, design @ ..] = input else {
+        return refused(Refusal { number: 1, place: 0 });
+    };
+    print_clauses(*property, *bound, read_design(design)).unwrap_or_else(refused)
+}
+
+fn refused(refusal: Refusal) -> Vec<u8> {
+    format!("refused {} at {}\n", refusal.number, refusal.place).into_bytes()
+}
+
+fn read_design(bytes: &[u8]) -> &[u8] {
+    &bytes[..bytes.len().min(DESIGN_BYTES_READ)]
+}
+
+fn split_replay(input: &[u8]) -> Option<(u8, &[u8], &[u8])> {
+    let [property, count, rest @ ..] = input else {
+        return None;
+    };
+    let (choices, design) = rest.split_at_checked(*count as usize)?;
+    Some((*property, choices, read_design(design)))
+}
+
+fn print_replay(property: u8, choices: &[u8], file: &[u8]) -> Result<Vec<u8>, Refusal> {
+    let design = check(file)?;
+    check_replay(&design, property, choices)?;
+    let mut out = String::new();
+    let mut broken = None;
+    for (i, stepped) in run(&design, choices).iter().enumerate() {
+        let holds = property_holds(&design, &stepped.state, property);
+        if !holds && broken.is_none() {
+            broken = Some(i);
+        }
+        let mover = i.checked_sub(1).map(|before| choices[before]);
+        out += &state_line(&design, i, mover, stepped, holds);
+    }
+    match broken {
+        Some(i) => out += &format!("broken at {i}\n"),
+        None => out += "holds\n",
+    }
+    Ok(out.into_bytes())
+}
+
+fn state_line(
+    design: &Design,
+    step: usize,
+    mover: Option<u8>,
+    stepped: &Stepped,
+    holds: bool,
+) -> String {
+    let mover = mover.map_or("-".to_string(), |m| m.to_string());
+    let mut line = format!("{step} {mover} {} {}", stepped.idle as u8, holds as u8);
+    for value in &stepped.state.values[..design.variables.len()] {
+        line += &format!(" {value}");
+    }
+    line += " |";
+    for status in &stepped.state.statuses[..design.matrices.len()] {
+        line += &format!(" {status}");
+    }
+    line + "\n"
+}
+
+/// A sink that prints a clause a line, with its closing 0.
+struct Lines(Vec<u8>);
+
+impl Sink for Lines {
+    fn clause(&mut self, literals: &[i32]) {
+        for literal in literals {
+            self.0.extend_from_slice(format!("{literal} ").as_bytes());
+        }
+        self.0.extend_from_slice(b"0\n");
+    }
+}
+
+fn print_clauses(property: u8, bound: u8, file: &[u8]) -> Result<Vec<u8>, Refusal> {
+    let design = check(file)?;
+    check_bound(property, bound)?;
+    let formula = Formula::new(&design, property, bound);
+    let too_long = |part| formula.part_count(part).words > MAX_PART_WORDS;
+    if (0..=formula.last_part()).any(too_long) {
+        return Err(Refusal { number: 16, place: 0 });
+    }
+    let mut lines = Lines(Vec::new());
+    for part in 0..=formula.last_part() {
+        formula.write_clauses(part, &mut lines);
+    }
+    Ok(lines.0)
+}

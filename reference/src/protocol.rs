@@ -1,0 +1,345 @@
+//! The line protocol over a set of operations: a request line gives a reply
+//! line. A malformed request, or an operation that is missing, gives `error`.
+
+use crate::design::Refusal;
+use crate::formula::Size;
+use crate::operations::{Answer, Operations};
+use crate::search::Outcome;
+use crate::step::State;
+use crate::verdict::Finding;
+use std::fmt::Display;
+use std::io::{self, BufRead, Write};
+use std::str::FromStr;
+
+/// The most elements that a lent buffer may have here.
+const MAX_LENT: usize = 1 << 28;
+
+/// Answers requests line by line until the input ends.
+pub fn serve(
+    operations: &mut impl Operations,
+    input: impl BufRead,
+    mut output: impl Write,
+) -> io::Result<()> {
+    for line in input.split(b'\n') {
+        let line = line?;
+        let request = String::from_utf8_lossy(&line);
+        let mut answer = reply(operations, &request);
+        answer.push('\n');
+        output.write_all(answer.as_bytes())?;
+        output.flush()?;
+    }
+    Ok(())
+}
+
+/// The reply to one request, without its line end.
+pub fn reply(operations: &mut impl Operations, request: &str) -> String {
+    answered(operations, request).unwrap_or("error".to_string())
+}
+
+/// `None` is a malformed request or a missing operation.
+fn answered(operations: &mut impl Operations, request: &str) -> Option<String> {
+    let fields: Vec<&str> = request.split(' ').collect();
+    match fields[..] {
+        ["check", d] => check(operations, d),
+        ["start", d] => start(operations, d),
+        ["step", d, v, s, choice] => step(operations, d, v, s, choice),
+        ["holds", d, v, s, property] => holds(operations, d, v, s, property),
+        ["replay", d, property, choices] => replay(operations, d, property, choices),
+        ["size", d, property, bound] => size(operations, d, property, bound),
+        ["encode", d, ref rest @ ..] => encode(operations, d, rest),
+        ["solve", n, words, ref rest @ ..] => solve(operations, n, words, rest),
+        ["decode", d, ref rest @ ..] => decode(operations, d, rest),
+        ["verdict", d, ref rest @ ..] => verdict(operations, d, rest),
+        ["trace", d, property, choices] => trace(operations, d, property, choices),
+        _ => None,
+    }
+}
+
+fn check(operations: &mut impl Operations, d: &str) -> Option<String> {
+    finish(operations.check(&bytes(d)?), |()| "ok".to_string())
+}
+
+fn start(operations: &mut impl Operations, d: &str) -> Option<String> {
+    finish(operations.start(&bytes(d)?), |state| format!("ok {}", state_text(&state)))
+}
+
+fn step(
+    operations: &mut impl Operations,
+    d: &str,
+    v: &str,
+    s: &str,
+    choice: &str,
+) -> Option<String> {
+    let answer = operations.step(&bytes(d)?, &state(v, s)?, number(choice)?);
+    finish(answer, |stepped| format!("ok {} {}", state_text(&stepped.state), stepped.idle as u8))
+}
+
+fn holds(
+    operations: &mut impl Operations,
+    d: &str,
+    v: &str,
+    s: &str,
+    property: &str,
+) -> Option<String> {
+    let answer = operations.holds(&bytes(d)?, &state(v, s)?, number(property)?);
+    finish(answer, |holds| format!("ok {}", holds as u8))
+}
+
+fn replay(
+    operations: &mut impl Operations,
+    d: &str,
+    property: &str,
+    choices: &str,
+) -> Option<String> {
+    let answer = operations.replay(&bytes(d)?, number(property)?, &list(choices)?);
+    finish(answer, |step| match step {
+        Some(i) => format!("ok {i}"),
+        None => "ok none".to_string(),
+    })
+}
+
+fn size(operations: &mut impl Operations, d: &str, property: &str, bound: &str) -> Option<String> {
+    let answer = operations.size(&bytes(d)?, number(property)?, number(bound)?);
+    finish(answer, |size| size_text(&size))
+}
+
+fn size_text(size: &Size) -> String {
+    format!(
+        "ok {} {} {} {} {} {} {}",
+        size.state_bits,
+        size.property_gates,
+        size.movers,
+        size.step_gates,
+        size.variables,
+        size.clauses,
+        size.words
+    )
+}
+
+fn encode(operations: &mut impl Operations, d: &str, rest: &[&str]) -> Option<String> {
+    let [property, bound, part, length] = rest else {
+        return None;
+    };
+    let mut clauses: Vec<i32> = lent(length)?;
+    let answer = operations.encode(
+        &bytes(d)?,
+        number(property)?,
+        number(bound)?,
+        number(part)?,
+        &mut clauses,
+    );
+    let memory = memory_text(&[hash(&clauses)]);
+    finish_with(answer, &memory, |count| {
+        format!("ok {count} {}", list_text(front(&clauses, count)))
+    })
+}
+
+fn solve(operations: &mut impl Operations, n: &str, words: &str, rest: &[&str]) -> Option<String> {
+    let [values_length, trail_length, budget] = rest else {
+        return None;
+    };
+    let n: u64 = number(n)?;
+    let mut values: Vec<u8> = lent(values_length)?;
+    let mut trail: Vec<u32> = lent(trail_length)?;
+    let answer = operations.solve(n, &list(words)?, &mut values, &mut trail, number(budget)?);
+    let memory = memory_text(&[hash(&values), hash(&trail)]);
+    finish_with(answer, &memory, |solved| {
+        let outcome = match solved.outcome {
+            Outcome::Sat => "sat",
+            Outcome::Unsat => "unsat",
+            Outcome::Spent => "spent",
+        };
+        format!("ok {outcome} {} {}", solved.tries, list_text(front(&values, n)))
+    })
+}
+
+fn decode(operations: &mut impl Operations, d: &str, rest: &[&str]) -> Option<String> {
+    let [property, bound, values, length] = rest else {
+        return None;
+    };
+    let bound: u8 = number(bound)?;
+    let mut choices: Vec<u8> = lent(length)?;
+    let property = number(property)?;
+    let answer = operations.decode(&bytes(d)?, property, bound, &list(values)?, &mut choices);
+    let memory = memory_text(&[hash(&choices)]);
+    finish_with(answer, &memory, |()| format!("ok {}", list_text(front(&choices, bound as u64))))
+}
+
+fn verdict(operations: &mut impl Operations, d: &str, rest: &[&str]) -> Option<String> {
+    let [property, bound, budget, lengths @ ..] = rest else {
+        return None;
+    };
+    let [clauses, values, trail, choices] = lengths else {
+        return None;
+    };
+    let mut clauses: Vec<i32> = lent(clauses)?;
+    let mut values: Vec<u8> = lent(values)?;
+    let mut trail: Vec<u32> = lent(trail)?;
+    let mut choices: Vec<u8> = lent(choices)?;
+    let answer = operations.verdict(
+        &bytes(d)?,
+        number(property)?,
+        number(bound)?,
+        number(budget)?,
+        &mut clauses,
+        &mut values,
+        &mut trail,
+        &mut choices,
+    );
+    let hashes = [hash(&clauses), hash(&values), hash(&trail), hash(&choices)];
+    finish_with(answer, &memory_text(&hashes), |verdict| match verdict.finding {
+        Finding::Violated(step) => {
+            let choices = list_text(front(&choices, step));
+            format!("ok violated {step} {} {choices}", verdict.tries)
+        }
+        Finding::Clean => format!("ok clean {}", verdict.tries),
+        Finding::Spent(bound) => format!("ok spent {bound} {}", verdict.tries),
+    })
+}
+
+fn trace(
+    operations: &mut impl Operations,
+    d: &str,
+    property: &str,
+    choices: &str,
+) -> Option<String> {
+    let choices: Vec<u8> = list(choices)?;
+    let mut input = vec![number(property)?, u8::try_from(choices.len()).ok()?];
+    input.extend_from_slice(&choices);
+    input.extend_from_slice(&bytes(d)?);
+    finish(operations.trace(&input), |output| {
+        let text = String::from_utf8_lossy(&output).into_owned();
+        text.strip_suffix('\n').unwrap_or(&text).replace('\n', ";")
+    })
+}
+
+fn finish<T>(answer: Answer<T>, text: impl FnOnce(T) -> String) -> Option<String> {
+    match answer {
+        Answer::Done(value) => Some(text(value)),
+        Answer::Refused(refusal) => Some(refusal_text(&refusal)),
+        Answer::Missing => None,
+    }
+}
+
+/// As `finish`, with the hashes of the lent memory at the end.
+fn finish_with<T>(
+    answer: Answer<T>,
+    memory: &str,
+    text: impl FnOnce(T) -> String,
+) -> Option<String> {
+    Some(format!("{} {memory}", finish(answer, text)?))
+}
+
+fn refusal_text(refusal: &Refusal) -> String {
+    format!("refused {} at {}", refusal.number, refusal.place)
+}
+
+fn state_text(state: &State) -> String {
+    format!("{} {}", list_text(&state.values), list_text(&state.statuses))
+}
+
+/// The first elements; never more than there are, whatever a call answered.
+fn front<T>(elements: &[T], count: u64) -> &[T] {
+    &elements[..elements.len().min(count as usize)]
+}
+
+pub fn list_text<T: Display>(elements: &[T]) -> String {
+    if elements.is_empty() {
+        return "-".to_string();
+    }
+    let texts: Vec<String> = elements.iter().map(|e| e.to_string()).collect();
+    texts.join(",")
+}
+
+pub fn hex(bytes: &[u8]) -> String {
+    const DIGITS: &[u8; 16] = b"0123456789abcdef";
+    if bytes.is_empty() {
+        return "-".to_string();
+    }
+    let digits = bytes.iter().flat_map(|b| [b >> 4, b & 15]);
+    digits.map(|d| DIGITS[d as usize] as char).collect()
+}
+
+pub fn bytes(text: &str) -> Option<Vec<u8>> {
+    if text == "-" {
+        return Some(Vec::new());
+    }
+    if text.is_empty() || text.len() % 2 == 1 {
+        return None;
+    }
+    let pairs = text.as_bytes().chunks_exact(2);
+    pairs.map(|pair| Some(digit(pair[0])? << 4 | digit(pair[1])?)).collect()
+}
+
+fn digit(character: u8) -> Option<u8> {
+    match character {
+        b'0'..=b'9' => Some(character - b'0'),
+        b'a'..=b'f' => Some(character - b'a' + 10),
+        _ => None,
+    }
+}
+
+/// A decimal number, with a minus sign at most.
+fn number<T: FromStr>(text: &str) -> Option<T> {
+    let digits = text.strip_prefix('-').unwrap_or(text);
+    let plain = !digits.is_empty() && digits.bytes().all(|b| b.is_ascii_digit());
+    if plain {
+        text.parse().ok()
+    } else {
+        None
+    }
+}
+
+fn list<T: FromStr>(text: &str) -> Option<Vec<T>> {
+    if text == "-" {
+        return Some(Vec::new());
+    }
+    text.split(',').map(number).collect()
+}
+
+fn state(values: &str, statuses: &str) -> Option<State> {
+    let values = list(values)?.try_into().ok()?;
+    let statuses = list(statuses)?.try_into().ok()?;
+    Some(State { values, statuses })
+}
+
+/// A lent buffer: element i is (37 i + 11) mod 251 before the call.
+fn lent<T: From<u8>>(length: &str) -> Option<Vec<T>> {
+    let length: usize = number(length)?;
+    if length > MAX_LENT {
+        return None;
+    }
+    Some((0..length).map(|i| T::from(((37 * i + 11) % 251) as u8)).collect())
+}
+
+/// The elements of lent memory as little-endian bytes.
+trait Element {
+    fn add_to(&self, hash: u64) -> u64;
+}
+
+impl Element for u8 {
+    fn add_to(&self, hash: u64) -> u64 {
+        (hash ^ *self as u64).wrapping_mul(0x0000_0100_0000_01b3)
+    }
+}
+
+impl Element for u32 {
+    fn add_to(&self, hash: u64) -> u64 {
+        self.to_le_bytes().iter().fold(hash, |hash, byte| byte.add_to(hash))
+    }
+}
+
+impl Element for i32 {
+    fn add_to(&self, hash: u64) -> u64 {
+        (*self as u32).add_to(hash)
+    }
+}
+
+/// FNV-1a of 64 bits.
+fn hash<T: Element>(elements: &[T]) -> u64 {
+    elements.iter().fold(0xcbf2_9ce4_8422_2325, |hash, e| e.add_to(hash))
+}
+
+fn memory_text(hashes: &[u64]) -> String {
+    hashes.iter().fold("mem".to_string(), |text, hash| format!("{text} {hash:016x}"))
+}

@@ -1,0 +1,188 @@
+//! One step of document 01: START, STEP, HOLDS and REPLAY.
+
+use crate::design::{
+    refusal, Boolean, Cell, CellKind, Design, Integer, Kind, Mover, Refusal, Statement,
+};
+
+pub const MAX_CHOICES: usize = 100;
+
+/// The lent form of a state; entries that the design does not use are 0.
+#[derive(Clone, Copy, Debug, PartialEq, Eq, Hash)]
+pub struct State {
+    pub values: [i16; 32],
+    pub statuses: [u8; 8],
+}
+
+#[derive(Clone, Copy, Debug, PartialEq, Eq)]
+pub struct Stepped {
+    pub state: State,
+    pub idle: bool,
+}
+
+/// START: initial values, every status 0.
+pub fn start(design: &Design) -> State {
+    let mut state = State { values: [0; 32], statuses: [0; 8] };
+    for (value, variable) in state.values.iter_mut().zip(&design.variables) {
+        *value = variable.initial;
+    }
+    state
+}
+
+/// STEP: 11 for the state, then 12 for the choice.
+pub fn step(design: &Design, state: &State, choice: u64) -> Result<Stepped, Refusal> {
+    check_state(design, state)?;
+    let movers = design.movers();
+    if choice >= movers.len() as u64 {
+        return Err(refusal(12, 0));
+    }
+    Ok(moved(design, state, movers[choice as usize]))
+}
+
+/// HOLDS: 11 for the state, then 13 for the property.
+pub fn holds(design: &Design, state: &State, property: u8) -> Result<bool, Refusal> {
+    check_state(design, state)?;
+    check_property(property)?;
+    Ok(property_holds(design, state, property))
+}
+
+/// REPLAY: the first breaking step, or none.
+pub fn replay(design: &Design, property: u8, choices: &[u8]) -> Result<Option<u64>, Refusal> {
+    check_replay(design, property, choices)?;
+    let states = run(design, choices);
+    let broken = states.iter().position(|s| !property_holds(design, &s.state, property));
+    Ok(broken.map(|i| i as u64))
+}
+
+/// The refusals of REPLAY, in its order: 13, 14, 12.
+pub fn check_replay(design: &Design, property: u8, choices: &[u8]) -> Result<(), Refusal> {
+    check_property(property)?;
+    if choices.len() > MAX_CHOICES {
+        return Err(refusal(14, 0));
+    }
+    let movers = design.movers().len();
+    match choices.iter().position(|&c| c as usize >= movers) {
+        Some(i) => Err(refusal(12, i)),
+        None => Ok(()),
+    }
+}
+
+/// The first state, not idle, and then the state after each choice.
+pub fn run(design: &Design, choices: &[u8]) -> Vec<Stepped> {
+    let movers = design.movers();
+    let mut states = vec![Stepped { state: start(design), idle: false }];
+    for &choice in choices {
+        let last = states[states.len() - 1].state;
+        states.push(moved(design, &last, movers[choice as usize]));
+    }
+    states
+}
+
+pub fn check_property(property: u8) -> Result<(), Refusal> {
+    if property > 1 {
+        Err(refusal(13, 0))
+    } else {
+        Ok(())
+    }
+}
+
+fn check_state(design: &Design, state: &State) -> Result<(), Refusal> {
+    let bad_value = (0..32).find(|&i| !value_fits(design, i, state.values[i]));
+    let bad_status = || (0..8).find(|&i| !status_fits(design, i, state.statuses[i]));
+    match bad_value.or_else(|| bad_status().map(|i| 32 + i)) {
+        Some(index) => Err(refusal(11, index)),
+        None => Ok(()),
+    }
+}
+
+fn value_fits(design: &Design, index: usize, value: i16) -> bool {
+    match design.variables.get(index) {
+        None => value == 0,
+        Some(v) => v.kind == Kind::Integer || value == 0 || value == 1,
+    }
+}
+
+fn status_fits(design: &Design, index: usize, status: u8) -> bool {
+    match design.matrices.get(index) {
+        None => status == 0,
+        Some(m) => status < m.statuses,
+    }
+}
+
+pub fn property_holds(design: &Design, state: &State, property: u8) -> bool {
+    if property == 0 {
+        return boolean(state, &design.invariant);
+    }
+    let reached = |cell: &Cell| cell.kind == CellKind::Invalid && at_place(design, state, cell);
+    !design.cells.iter().any(reached)
+}
+
+/// The cell's matrix has its status and its event is true.
+fn at_place(design: &Design, state: &State, cell: &Cell) -> bool {
+    state.statuses[cell.matrix as usize] == cell.status && boolean(state, design.event_of(cell))
+}
+
+fn moved(design: &Design, state: &State, mover: Mover) -> Stepped {
+    let mut next = *state;
+    let idle = match mover {
+        Mover::Cell(i) => !run_cell(design, &design.cells[i], &mut next),
+        Mover::External(v) => {
+            let raised = state.values[v] == 1;
+            next.values[v] = 1;
+            raised
+        }
+    };
+    Stepped { state: next, idle }
+}
+
+/// Runs an enabled cell; false and no change where it is disabled.
+fn run_cell(design: &Design, cell: &Cell, state: &mut State) -> bool {
+    let CellKind::Normal { target, guard, action } = &cell.kind else {
+        return false;
+    };
+    let guarded = guard.as_ref().is_none_or(|g| boolean(state, g));
+    if !guarded || !at_place(design, state, cell) {
+        return false;
+    }
+    run_list(state, action);
+    state.statuses[cell.matrix as usize] = *target;
+    true
+}
+
+fn run_list(state: &mut State, list: &[Statement]) {
+    for statement in list {
+        run_statement(state, statement);
+    }
+}
+
+fn run_statement(state: &mut State, statement: &Statement) {
+    match statement {
+        Statement::AssignInteger(v, e) => state.values[*v as usize] = integer(state, e),
+        Statement::AssignBoolean(v, e) => state.values[*v as usize] = boolean(state, e) as i16,
+        Statement::If(condition, then, other) => {
+            let list = if boolean(state, condition) { then } else { other };
+            run_list(state, list);
+        }
+    }
+}
+
+fn integer(state: &State, e: &Integer) -> i16 {
+    match e {
+        Integer::Constant(c) => *c,
+        Integer::Variable(v) => state.values[*v as usize],
+        Integer::Status(m) => state.statuses[*m as usize] as i16,
+        Integer::Sum(a, b) => integer(state, a).wrapping_add(integer(state, b)),
+        Integer::Difference(a, b) => integer(state, a).wrapping_sub(integer(state, b)),
+    }
+}
+
+fn boolean(state: &State, e: &Boolean) -> bool {
+    match e {
+        Boolean::Constant(c) => *c,
+        Boolean::Variable(v) => state.values[*v as usize] == 1,
+        Boolean::Not(a) => !boolean(state, a),
+        Boolean::And(a, b) => boolean(state, a) && boolean(state, b),
+        Boolean::Or(a, b) => boolean(state, a) || boolean(state, b),
+        Boolean::Equal(a, b) => integer(state, a) == integer(state, b),
+        Boolean::Less(a, b) => integer(state, a) < integer(state, b),
+    }
+}

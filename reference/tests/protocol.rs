@@ -1,0 +1,127 @@
+//! The line protocol, and the generator of its requests.
+
+use reference::builder::file_bytes;
+use reference::designs::design_a;
+use reference::generator::{all_operations, Generator};
+use reference::operations::{Operations, Reference};
+use reference::protocol::{hex, reply, serve};
+use std::collections::BTreeSet;
+
+fn answer(request: &str) -> String {
+    reply(&mut Reference, request)
+}
+
+fn with_design(request: &str) -> String {
+    answer(&request.replace('D', &hex(&file_bytes(&design_a()))))
+}
+
+const ZEROS: &str = "0,0,0,0,0,0,0,0,0,0,0,0,0,0,0,0,0,0,0,0,0,0,0,0,0,0,0,0,0,0,0,0";
+
+#[test]
+fn one_reply_of_each_operation() {
+    let rest = &ZEROS[1..];
+    let none = "0,0,0,0,0,0,0,0";
+    assert_eq!(with_design("check D"), "ok");
+    assert_eq!(with_design("start D"), format!("ok {ZEROS} {none}"));
+    assert_eq!(with_design(&format!("step D {ZEROS} {none} 2")), format!("ok 1{rest} {none} 0"));
+    assert_eq!(with_design(&format!("holds D {ZEROS} {none} 0")), "ok 1");
+    assert_eq!(with_design("replay D 0 2,0,1"), "ok 3");
+    assert_eq!(with_design("replay D 0 -"), "ok none");
+    assert_eq!(with_design("size D 0 3"), "ok 21 80 3 371 1527 5413 20136");
+    assert_eq!(with_design("trace D 0 -"), "0 - 0 1 0 0 | 0;holds");
+    assert!(with_design("encode D 0 3 5 6").starts_with("ok 5 -102,-577,-1052,-1527,0 mem "));
+    assert!(answer("solve 2 1,0 2 2 9").starts_with("ok sat 1 1,0 mem "));
+    assert!(with_design("verdict D 0 0 0 1038 102 102 0").starts_with("ok clean 0 mem "));
+}
+
+/// The hash of no bytes, and of the byte 11, by the definition of FNV-1a.
+#[test]
+fn memory_hashes() {
+    let empty = "cbf29ce484222325";
+    assert_eq!(answer("solve 0 - 0 0 0"), format!("ok sat 0 - mem {empty} {empty}"));
+    let one = (0xcbf2_9ce4_8422_2325u64 ^ 11).wrapping_mul(0x0000_0100_0000_01b3);
+    let refused = format!("refused 16 at 0 mem {one:016x} {empty}");
+    assert_eq!(answer("solve 1 - 1 0 0"), refused);
+}
+
+#[test]
+fn a_refusal_has_a_number_and_a_place() {
+    assert_eq!(answer("check -"), "refused 1 at 0");
+    assert_eq!(answer("check 00"), "refused 1 at 1");
+    assert_eq!(with_design("replay D 0 0,3"), "refused 12 at 1");
+}
+
+#[test]
+fn malformed_requests() {
+    for request in [
+        "",
+        " ",
+        "check",
+        "check ",
+        "check 0",
+        "check 0G",
+        "check AB",
+        "check 00 00",
+        "check  00",
+        "unknown 00",
+        "solve 1 - 1 1",
+        "solve -1 - 1 1 0",
+        "solve 1 1,,0 1 1 0",
+        "solve 1 +1,0 1 1 0",
+        "solve 1 9999999999,0 1 1 0",
+        "size 00 256 0",
+        "size 00 0 -1",
+        "replay 00 0 256",
+        "replay 00 0 1,",
+        "step 00 0 0 0",
+        "encode 00 0 0 0 99999999999999",
+    ] {
+        assert_eq!(answer(request), "error", "{request}");
+    }
+}
+
+struct Nothing;
+
+impl Operations for Nothing {}
+
+#[test]
+fn a_missing_operation_is_an_error() {
+    let mut generator = Generator::new(9, &all_operations()).unwrap();
+    for _ in 0..300 {
+        assert_eq!(reply(&mut Nothing, &generator.request()), "error");
+    }
+}
+
+#[test]
+fn a_reply_a_line() {
+    let mut output = vec![];
+    serve(&mut Reference, &b"check -\n\ncheck 00"[..], &mut output).unwrap();
+    assert_eq!(output, b"refused 1 at 0\nerror\nrefused 1 at 1\n");
+}
+
+#[test]
+fn the_generator_repeats_itself_by_seed() {
+    let requests = |seed| {
+        let mut generator = Generator::new(seed, &all_operations()).unwrap();
+        (0..200).map(|_| generator.request()).collect::<Vec<_>>()
+    };
+    assert_eq!(requests(1), requests(1));
+    assert_ne!(requests(1), requests(2));
+    assert!(Generator::new(1, &["check", "unknown"]).is_none());
+    assert!(Generator::new(1, &[]).is_none());
+}
+
+#[test]
+fn generated_requests_are_well_formed_and_reach_every_refusal() {
+    let mut generator = Generator::new(2, &all_operations()).unwrap();
+    let mut numbers = BTreeSet::new();
+    for _ in 0..5_000 {
+        let request = generator.request();
+        let reply = answer(&request);
+        assert_ne!(reply, "error", "{request}");
+        if let Some(rest) = reply.strip_prefix("refused ") {
+            numbers.insert(rest.split(' ').next().unwrap().parse::<u8>().unwrap());
+        }
+    }
+    assert_eq!(numbers, (1..=18).collect());
+}

@@ -1,0 +1,283 @@
+//! Ways to the same facts that do not use the code under test: breaking lists
+//! by STEP, reachable states, and the models of a clause list.
+#![allow(dead_code)]
+
+use reference::builder::file_bytes;
+use reference::design::{check, Design};
+use reference::formula::Formula;
+use reference::search::{solve, Outcome, Solved};
+use reference::step::{holds, start, step, State};
+use reference::verdict::{verdict, Lent, Verdict};
+use std::collections::HashSet;
+
+/// Every list of `length` choices below `movers`.
+pub fn all_lists(movers: usize, length: usize) -> Vec<Vec<u8>> {
+    let mut lists = vec![vec![]];
+    for _ in 0..length {
+        let longer = |list: &Vec<u8>| {
+            let list = list.clone();
+            (0..movers as u8).map(move |c| [list.clone(), vec![c]].concat())
+        };
+        lists = lists.iter().flat_map(longer).collect();
+    }
+    lists
+}
+
+/// Whether a list breaks the property, step by step.
+pub fn breaks(design: &Design, property: u8, choices: &[u8]) -> bool {
+    let mut state = start(design);
+    let mut broken = !holds(design, &state, property).unwrap();
+    for &choice in choices {
+        state = step(design, &state, choice as u64).unwrap().state;
+        broken |= !holds(design, &state, property).unwrap();
+    }
+    broken
+}
+
+pub fn breaking_lists(design: &Design, property: u8, length: usize) -> Vec<Vec<u8>> {
+    let mut lists = all_lists(design.movers().len(), length);
+    lists.retain(|list| breaks(design, property, list));
+    lists
+}
+
+/// The fewest steps to a state where `bad` is true of a step's two states, by
+/// breadth-first search over STEP; `None` where every reachable one is good.
+pub fn first_bad_step(design: &Design, bad: impl Fn(&State, &State) -> bool) -> Option<usize> {
+    let first = start(design);
+    let mut seen = HashSet::from([first]);
+    let mut level = vec![first];
+    if bad(&first, &first) {
+        return Some(0);
+    }
+    for depth in 1.. {
+        let mut next = vec![];
+        for state in level {
+            for choice in 0..design.movers().len() as u64 {
+                let after = step(design, &state, choice).unwrap().state;
+                if bad(&state, &after) {
+                    return Some(depth);
+                }
+                if seen.insert(after) {
+                    next.push(after);
+                }
+            }
+        }
+        if next.is_empty() {
+            return None;
+        }
+        level = next;
+    }
+    None
+}
+
+pub fn first_break(design: &Design, property: u8) -> Option<usize> {
+    first_bad_step(design, |_, after| !holds(design, after, property).unwrap())
+}
+
+/// The words of a part, or of all parts joined.
+pub fn part_words(design: &Design, property: u8, bound: u8, part: u64) -> Vec<i32> {
+    let formula = Formula::new(design, property, bound);
+    let mut words = vec![0; formula.part_count(part).words as usize];
+    assert_eq!(formula.write_part(part, &mut words), words.len() as u64);
+    words
+}
+
+pub fn formula_words(design: &Design, property: u8, bound: u8) -> Vec<i32> {
+    let parts = 0..=bound as u64 + 2;
+    parts.flat_map(|part| part_words(design, property, bound, part)).collect()
+}
+
+pub fn variables(design: &Design, property: u8, bound: u8) -> usize {
+    Formula::new(design, property, bound).variables() as usize
+}
+
+/// SOLVE on memory of its own: the answer and the values.
+pub fn solved(n: usize, words: &[i32], budget: u64) -> (Solved, Vec<u8>) {
+    let (mut values, mut trail) = (vec![7; n], vec![7; n]);
+    let answer = solve(n as u64, words, &mut values, &mut trail, budget).unwrap();
+    assert!(trail.iter().all(|&t| t == 0));
+    (answer, values)
+}
+
+/// VERDICT on memory of its own: the answer and the choices.
+pub fn verdict_of(design: &Design, property: u8, bound: u8, budget: u64) -> (Verdict, Vec<u8>) {
+    let size = Formula::new(design, property, bound).size();
+    let n = size.variables as usize;
+    let mut choices = vec![255; bound as usize];
+    let lent = Lent {
+        clauses: &mut vec![0; size.words as usize],
+        values: &mut vec![0; n],
+        trail: &mut vec![0; n],
+        choices: &mut choices,
+    };
+    (verdict(design, property, bound, budget, lent).unwrap(), choices)
+}
+
+/// The design as its file says it, which also checks the file.
+pub fn through_file(design: &Design) -> Design {
+    let read = check(&file_bytes(design)).unwrap();
+    assert_eq!(&read, design);
+    read
+}
+
+/// A search with the branch rule of document 01, but with unit clauses found
+/// through lists of occurrences. Their order cannot change the answer.
+pub struct QuickSearch {
+    n: usize,
+    clauses: Vec<Vec<i32>>,
+    occurrences: Vec<Vec<u32>>,
+    /// 1 true, -1 false, 0 unset, by variable.
+    truths: Vec<i8>,
+    trail: Vec<i32>,
+    branches: Vec<(usize, usize, bool)>,
+    pub tries: u64,
+}
+
+impl QuickSearch {
+    pub fn new(n: usize, words: &[i32]) -> QuickSearch {
+        let mut clauses: Vec<Vec<i32>> = words.split(|&w| w == 0).map(<[i32]>::to_vec).collect();
+        clauses.pop();
+        let mut occurrences = vec![vec![]; 2 * n + 1];
+        for (i, clause) in clauses.iter().enumerate() {
+            for &literal in clause {
+                occurrences[(literal + n as i32) as usize].push(i as u32);
+            }
+        }
+        let (truths, trail, branches) = (vec![0; n + 1], vec![], vec![]);
+        QuickSearch { n, clauses, occurrences, truths, trail, branches, tries: 0 }
+    }
+
+    fn truth(&self, literal: i32) -> i8 {
+        self.truths[literal.unsigned_abs() as usize] * literal.signum() as i8
+    }
+
+    fn set(&mut self, literal: i32) {
+        self.truths[literal.unsigned_abs() as usize] = literal.signum() as i8;
+        self.trail.push(literal);
+    }
+
+    /// False where the clause has every literal false.
+    fn look_at(&mut self, clause: usize) -> bool {
+        let mut unset = vec![];
+        for &literal in &self.clauses[clause] {
+            match self.truth(literal) {
+                1 => return true,
+                0 => unset.push(literal),
+                _ => {}
+            }
+        }
+        if unset.len() == 1 {
+            self.set(unset[0]);
+        }
+        !unset.is_empty()
+    }
+
+    /// Sets what follows from the trail from `from` on; false on a conflict.
+    fn propagate(&mut self, from: usize) -> bool {
+        let mut at = from;
+        while at < self.trail.len() {
+            let falsified = self.n as i32 - self.trail[at];
+            for i in 0..self.occurrences[falsified as usize].len() {
+                let clause = self.occurrences[falsified as usize][i] as usize;
+                if !self.look_at(clause) {
+                    return false;
+                }
+            }
+            at += 1;
+        }
+        true
+    }
+
+    fn begin(&mut self) -> bool {
+        (0..self.clauses.len()).all(|i| self.look_at(i)) && self.propagate(0)
+    }
+
+    /// Takes the latest first value back; false where there is none.
+    fn take_back(&mut self) -> bool {
+        while let Some((variable, length, first)) = self.branches.pop() {
+            for literal in self.trail.split_off(length) {
+                self.truths[literal.unsigned_abs() as usize] = 0;
+            }
+            if first {
+                self.tries += 1;
+                self.branches.push((variable, length, false));
+                self.set(variable as i32);
+                if self.propagate(length) {
+                    return true;
+                }
+            }
+        }
+        false
+    }
+
+    /// Goes on to the next model after a state without conflict.
+    fn descend(&mut self) -> bool {
+        while let Some(variable) = (1..=self.n).find(|&v| self.truths[v] == 0) {
+            self.tries += 1;
+            let length = self.trail.len();
+            self.branches.push((variable, length, true));
+            self.set(-(variable as i32));
+            if !self.propagate(length) && !self.take_back() {
+                return false;
+            }
+        }
+        true
+    }
+
+    fn values(&self) -> Vec<u8> {
+        self.truths[1..].iter().map(|&t| (t == 1) as u8).collect()
+    }
+
+    pub fn first_model(&mut self) -> Option<Vec<u8>> {
+        (self.begin() && self.descend()).then(|| self.values())
+    }
+
+    /// Every satisfying assignment.
+    pub fn models(mut self) -> Vec<Vec<u8>> {
+        let mut models = vec![];
+        let mut found = self.begin() && self.descend();
+        while found {
+            models.push(self.values());
+            found = self.take_back() && self.descend();
+        }
+        models
+    }
+
+    /// Every value that follows from these literals, without a branch.
+    pub fn consequences(mut self, literals: &[i32]) -> Option<Vec<u8>> {
+        if !self.begin() {
+            return None;
+        }
+        let from = self.trail.len();
+        for &literal in literals {
+            match self.truth(literal) {
+                0 => self.set(literal),
+                1 => {}
+                _ => return None,
+            }
+        }
+        let complete = self.propagate(from) && self.trail.len() == self.n;
+        complete.then(|| self.values())
+    }
+}
+
+pub fn models(n: usize, words: &[i32]) -> Vec<Vec<u8>> {
+    QuickSearch::new(n, words).models()
+}
+
+pub fn satisfies(words: &[i32], values: &[u8]) -> bool {
+    let is_true = |l: i32| (values[l.unsigned_abs() as usize - 1] == 1) == (l > 0);
+    let mut clauses: Vec<&[i32]> = words.split(|&w| w == 0).collect();
+    clauses.pop();
+    clauses.iter().all(|clause| clause.iter().any(|&l| is_true(l)))
+}
+
+/// Models by trying every assignment; for short lists only.
+pub fn models_by_table(n: usize, words: &[i32]) -> Vec<Vec<u8>> {
+    let row = |i: u32| (0..n).map(|v| (i >> v & 1) as u8).collect::<Vec<u8>>();
+    (0..1u32 << n).map(row).filter(|values| satisfies(words, values)).collect()
+}
+
+pub fn is_sat(answer: &Solved) -> bool {
+    answer.outcome == Outcome::Sat
+}
