@@ -1,0 +1,78 @@
+-- What the mover that a choice names does is the step. Assumes nothing.
+use mathlib.Core.Path.{_≡_, refl, sym, ap, subst, _∙_}
+use mathlib.Core.Bool.{Bool, not, true, false}
+use mathlib.Core.List.{List, []}
+use mathlib.Core.Option.{Option, none, some}
+use Prim.Native.Nat.{ℕ, _+_, _-_, _<_, _≤_}
+use native.Mathlib.Omega.{arith}
+use lib.ListN.{getD, length, take, getElem?}
+use lib.Seq.{getD-take}
+use Rattle.design.specs.Tree.{Cell, Design, Mover, cell, raise, constantB, Stmts, done, movers}
+use Rattle.design.specs.State.{State, Layout, layout}
+use Rattle.design.specs.DesignFile.{normal}
+use Rattle.design.specs.Check.{check, accepted, trailer, variableCount}
+use Rattle.design.specs.Places.{Accepted, CellsIndexed, normalPlaces}
+use Rattle.design.proofs.Sections.{Parts, Whole, whole, eventIn}
+use Rattle.design.proofs.Places.{read, Standing, normal-stands, CellFields, cell-fields}
+use Rattle.design.proofs.Tables.{few-normals}
+use Rattle.step.specs.OneStep.{enabled, move, moved, idles, step, idle}
+use Rattle.step.specs.Accepted.{layoutOf}
+use Rattle.step.specs.Ready.{Ready, NormalCell, externalsFrom}
+use Rattle.step.proofs.Externals.{cell-mover, raise-mover}
+use Rattle.step.proofs.Scanning.{same-layout}
+
+-- stands in where there is no cell
+no-cell : Cell
+no-cell = record { matrix = 0; status = 0; event = constantB false; target = 0; guard = constantB false; action = done }
+
+module _ (file cells : List ℕ) (normals : ℕ) (h : CellsIndexed file cells normals) (j : ℕ) (l : j < normals) where
+  place : getD cells j 0 ≡ getD (normalPlaces file) j 0
+  place = sym (getD-take normals cells j 0 l) ∙ ap (λ (xs : List ℕ). getD xs j 0) (h .entries)
+
+  -- the normal cell that the table names, in a tree of the file
+  pub named : (d : Design) → Parts file d → NormalCell file (getD cells j 0)
+  named d w = record {
+    tree = d;
+    parts = w;
+    cell = getD (d .cells) j no-cell;
+    stands = subst (λ (p : ℕ). Standing file (eventIn file (w .rows)) p (normal (getD (d .cells) j no-cell))) (sym place) (normal-stands file d w .reads j (omega (arith, h .count, normal-stands file d w .count)) no-cell);
+  }
+
+  pub chosen : Accepted file → NormalCell file (getD cells j 0)
+  chosen a = let t = read file a in named (t .tree) (t .all .parts)
+
+  pub slot : Accepted file → j < 64
+  slot a = omega (arith, h .count, few-normals file a)
+
+  pub place-small : Accepted file → getD cells j 0 < 65536
+  place-small a =
+      let x = chosen a in
+      let f = cell-fields file (eventIn file (x .parts .rows)) (getD cells j 0) (normal (x .cell)) (x .stands) in
+      let b = f .header in
+      let c = read file a .all .short in
+      omega arith
+
+module _ (file : List ℕ) (nv : ℕ) (q : nv ≡ variableCount file) (s s′ : State) (r : Bool) (d : Design) (e : check file ≡ accepted d) where
+  w : Parts file d
+  w = whole file d e .parts
+
+  made : (c : ℕ) (m : Mover) → getElem? (movers d) c ≡ some m → (s′ ≡ move (layoutOf nv) s m) × (r ≡ not (enabled (layoutOf nv) s m)) → (s′ ≡ step d s c) × (r ≡ idle d s c)
+  unfolding step idle
+  made c m g k =
+      let y = same-layout file d w nv q in
+      (
+        k .0 ∙ ap (λ (z : Layout). move z s m) y ∙ sym (ap (moved (layout d) s) g),
+        k .1 ∙ ap (λ (z : Layout). not (enabled z s m)) y ∙ sym (ap (idles (layout d) s) g),
+      )
+
+  pub step-cell : (cells : List ℕ) (normals : ℕ) → CellsIndexed file cells normals → (c : ℕ) → c < normals
+      → ((x : NormalCell file (getD cells c 0)) → (s′ ≡ move (layoutOf nv) s (cell (x .cell))) × (r ≡ not (enabled (layoutOf nv) s (cell (x .cell))))) → (s′ ≡ step d s c) × (r ≡ idle d s c)
+  unfolding named
+  step-cell cells normals h c l k = made c (cell (getD (d .cells) c no-cell)) (cell-mover file d w c (omega (arith, h .count)) no-cell) (k (named file cells normals h c l d w))
+
+  pub step-external : (cells : List ℕ) (normals : ℕ) → CellsIndexed file cells normals → (c v : ℕ) → normals ≤ c → c - normals < length (externalsFrom file 0 nv) → v ≡ getD (externalsFrom file 0 nv) (c - normals) 0
+      → (s′ ≡ move (layoutOf nv) s (raise v)) × (r ≡ not (enabled (layoutOf nv) s (raise v))) → (s′ ≡ step d s c) × (r ≡ idle d s c)
+  step-external cells normals h c v l b g k =
+      let b′ = subst (λ (n : ℕ). c - normals < length (externalsFrom file 0 n)) q b in
+      let g′ : v ≡ getD (externalsFrom file 0 (variableCount file)) (c - normals) 0 = g ∙ ap (λ (n : ℕ). getD (externalsFrom file 0 n) (c - normals) 0) q in
+      made c (raise v) (raise-mover file d w c (c - normals) (omega (arith, h .count)) b′ ∙ ap (λ (n : ℕ). some (raise n)) (sym g′)) k

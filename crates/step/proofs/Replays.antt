@@ -1,0 +1,127 @@
+-- The loops of a replay: the first state is loaded, and each choice acts on what the one before it left. Assumes nothing.
+use mathlib.Core.Path.{_≡_, refl, sym, ap, ap₂, subst, _∙_}
+use mathlib.Core.Bool.{Bool, true, false, cond, _&&_, _||_}
+use mathlib.Core.List.{List, [], _∷_, _++_, map}
+use mathlib.Core.Option.{Option, none, some}
+use Prim.Native.Nat.{ℕ, zero, suc, _+_, _*_, _<_, _≤_}
+use native.Mathlib.Omega.{arith}
+use native.Mathlib.Numerals.{add-one}
+use lib.ListN.{getD, length, take, drop, set, replicate, length-set, length-map, length-replicate, List·getD-map}
+use lib.Seq.{paste, paste-zero, paste-suc, length-paste, take-all, drop-cons, drop-length}
+use lib.Dec.{leb, eqb}
+use Rattle.design.specs.Tree.{Variable, boolean, Design}
+use Rattle.design.specs.State.{State, start}
+use Rattle.design.specs.DesignFile.{Item, item, need, Matrix, kind, at8, at16, variableAt}
+use Rattle.design.specs.Check.{check, accepted, trailer, variableCount, matrixCount}
+use Rattle.design.specs.Places.{Accepted}
+use Rattle.design.proofs.Sections.{Parts, whole, need-inv, item-same}
+use Rattle.design.proofs.Positions.{variable-stands}
+use Rattle.design.proofs.Places.{read}
+use Rattle.step.specs.OneStep.{step, property}
+use Rattle.step.specs.Operations.{firstBreak}
+use Rattle.step.specs.Ready.{Ready}
+use Rattle.step.proofs.Cells.{variables-inside}
+
+pub drop-replicate : {A : Type 0} (n m : ℕ) (z : A) → drop n (replicate (n + m) z) ≡ replicate m z
+drop-replicate zero m z = ap (λ (k : ℕ). replicate k z) (let q : 0 + m ≡ m = omega arith in q)
+drop-replicate (suc n) m z = ap (λ (k : ℕ). drop (suc n) (replicate k z)) (let q : suc n + m ≡ suc (n + m) = omega arith in q) ∙ drop-replicate n m z
+
+pub take-replicate : {A : Type 0} (n m : ℕ) (z : A) → n ≤ m → take n (replicate m z) ≡ replicate n z
+take-replicate zero m z h = refl
+take-replicate (suc n) zero z h = absurd (omega arith)
+take-replicate (suc n) (suc m) z h = ap (λ (l : List _). z ∷ l) (take-replicate n m z (omega arith))
+
+-- the initial value of variable v
+initial-at : (file : List ℕ) (d : Design) (w : Parts file d) (v : ℕ) → v < variableCount file → getD (map (λ (x : Variable). x .initial) (d .variables)) v 0 ≡ at16 file (3 * v + 1)
+unfolding variableAt
+initial-at file d w v h =
+    let none : Variable = record { kind = boolean; initial = 0 } in
+    let right = leb (at8 file (3 * v)) 2 && (eqb (at8 file (3 * v)) 1 || leb (at16 file (3 * v + 1)) 1) in
+    let made : Item Variable = item (record { kind = kind (at8 file (3 * v)); initial = at16 file (3 * v + 1) }) (3 * v + 3) in
+    let a = need-inv (leb (3 * v + 3) (trailer file)) 4 (3 * v) (need right 5 (3 * v) made) _ _ (variable-stands file d w v h none) .1 in
+    let b = need-inv right 5 (3 * v) made _ _ a .1 in
+    List·getD-map (λ (x : Variable). x .initial) (d .variables) v none ∙ ap (λ (x : Variable). x .initial) (sym (item-same _ _ _ _ b))
+
+pub matrix-count : (file : List ℕ) (d : Design) (w : Parts file d) → length (d .statuses) ≡ matrixCount file
+matrix-count file d w = ap length (w .statuses) ∙ length-map (w .matrices) (λ (m : Matrix). m .statuses) ∙ w .matrix-count
+
+-- the first v values are loaded
+pub record Loading (file : List ℕ) (nv nm v : ℕ) (s : State) : Type 0 where
+  pub inside : v ≤ nv
+  pub size : length s ≡ nv + nm
+  pub same : (d : Design) → check file ≡ accepted d → s ≡ paste (replicate (nv + nm) 0) 0 (map (λ (x : Variable). x .initial) (d .variables)) v
+
+module _ (file : List ℕ) (a : Accepted file) (nv nm : ℕ) (e : nv ≡ variableCount file) (q : nm ≡ matrixCount file) where
+  pub loading-start : (s : State) → s ≡ replicate (nv + nm) 0 → Loading file nv nm 0 s
+  loading-start s h = record { inside = omega arith; size = ap length h ∙ length-replicate (nv + nm) 0; same = λ d c. h ∙ paste-zero (replicate (nv + nm) 0) 0 (map (λ (x : Variable). x .initial) (d .variables)) }
+
+  pub loading-inside : (v : ℕ) → v < nv → (3 * v + 1 + 1 < length file) × (nv ≤ 32)
+  loading-inside v l = let b = variables-inside file a in let t = read file a .all in (omega (arith, t .long), omega (arith, t .variables))
+
+  pub loading-on : (v x : ℕ) (s : State) → v < nv → x ≡ at16 file (3 * v + 1) → Loading file nv nm v s → Loading file nv nm (v + 1) (set s v x)
+  loading-on v x s l h g = record {
+    inside = omega arith;
+    size = length-set s v x ∙ g .size;
+    same = λ d c.
+      let w = whole file d c .parts in
+      let xs = map (λ (y : Variable). y .initial) (d .variables) in
+      let n : length xs ≡ nv = length-map (d .variables) (λ (y : Variable). y .initial) ∙ w .variable-count ∙ sym e in
+      let k : v < length xs = omega arith in
+      ap (λ (t : State). set t v x) (g .same d c) ∙ ap (set (paste (replicate (nv + nm) 0) 0 xs v) v) (h ∙ sym (initial-at file d w v (omega arith)))
+      ∙ ap (λ (i : ℕ). set (paste (replicate (nv + nm) 0) 0 xs v) i (getD xs v 0)) (let z : v ≡ 0 + v = omega arith in z)
+      ∙ paste-suc (replicate (nv + nm) 0) 0 xs v 0 (let z : length (replicate {A = ℕ} (nv + nm) 0) ≡ nv + nm = length-replicate (nv + nm) 0 in omega arith) k ∙ ap (paste (replicate (nv + nm) 0) 0 xs) (sym (add-one v));
+  }
+
+  pub loading-end : (v : ℕ) (s : State) → nv ≤ v → Loading file nv nm v s → (d : Design) → check file ≡ accepted d → s ≡ start d
+  unfolding start
+  loading-end v s l g d c =
+      let w = whole file d c .parts in
+      let xs = map (λ (y : Variable). y .initial) (d .variables) in
+      let i = g .inside in
+      let n : length xs ≡ nv = length-map (d .variables) (λ (y : Variable). y .initial) ∙ w .variable-count ∙ sym e in
+      let m : nm ≡ length (d .statuses) = q ∙ sym (matrix-count file d w) in
+      g .same d c ∙ ap (paste (replicate (nv + nm) 0) 0 xs) (let z : v ≡ nv = omega arith in z)
+      ∙ ap₂ (λ (x y : State). x ++ y) (take-all nv xs (omega arith)) (ap (λ (k : ℕ). drop k (replicate (nv + nm) 0)) (let z : 0 + nv ≡ nv = omega arith in z) ∙ drop-replicate nv nm 0 ∙ ap (λ (k : ℕ). replicate k 0) m)
+
+-- a state of the same size
+pub ready-same : (file events : List ℕ) (nv nm : ℕ) (s s′ : State) → length s′ ≡ length s → Ready file events nv nm s → Ready file events nv nm s′
+ready-same file events nv nm s s′ e h = record { accepted = h .accepted; events = h .events; variables = h .variables; matrices = h .matrices; size = e ∙ h .size }
+
+-- what is left of the list breaks as the whole does
+pub record Replaying (file : List ℕ) (p : ℕ) (cs : List ℕ) (s₀ : State) (i : ℕ) (s : State) : Type 0 where
+  pub inside : i ≤ length cs
+  pub size : length s ≡ length s₀
+  pub same : (d : Design) → check file ≡ accepted d → firstBreak d p s (drop i cs) i ≡ firstBreak d p s₀ cs 0
+
+pub replaying-start : (file : List ℕ) (p : ℕ) (cs : List ℕ) (s : State) → Replaying file p cs s 0 s
+replaying-start file p cs s = record { inside = omega arith; size = refl; same = λ d e. refl }
+
+module _ (file : List ℕ) (p : ℕ) (cs : List ℕ) (s₀ : State) (i : ℕ) (s : State) (g : Replaying file p cs s₀ i s) (r : Bool) (h : (d : Design) (w : Parts file d) → r ≡ property d p s) where
+  holds : (d : Design) → check file ≡ accepted d → r ≡ property d p s
+  holds d e = h d (whole file d e .parts)
+
+  broken : (d : Design) (xs : List ℕ) → property d p s ≡ false → firstBreak d p s xs i ≡ some i
+  unfolding firstBreak
+  broken d [] e = ap (λ (t : Bool). cond t none (some i)) e
+  broken d (x ∷ xs) e = ap (λ (t : Bool). cond t (firstBreak d p (step d s x) xs (suc i)) (some i)) e
+
+  pub replaying-broken : r ≡ false → (d : Design) → check file ≡ accepted d → some i ≡ firstBreak d p s₀ cs 0
+  replaying-broken f d e = sym (broken d (drop i cs) (sym (holds d e) ∙ f)) ∙ g .same d e
+
+  pub replaying-on : r ≡ true → i < length cs → (c : ℕ) → c ≡ getD cs i 0 → (s′ : State) (u : Bool) (v : Design → Bool) → length s′ ≡ length s → ((d : Design) → check file ≡ accepted d → (s′ ≡ step d s c) × (u ≡ v d)) → Replaying file p cs s₀ (i + 1) s′
+  unfolding firstBreak
+  replaying-on t l c q s′ u v n k = record {
+    inside = omega arith;
+    size = n ∙ g .size;
+    same = λ d e.
+      ap (λ (j : ℕ). firstBreak d p s′ (drop j cs) j) (add-one i) ∙ ap (λ (x : State). firstBreak d p x (drop (suc i) cs) (suc i)) (k d e .0 ∙ ap (step d s) q)
+      ∙ ap (λ (b : Bool). cond b (firstBreak d p (step d s (getD cs i 0)) (drop (suc i) cs) (suc i)) (some i)) (sym t ∙ holds d e)
+      ∙ ap (λ (xs : List ℕ). firstBreak d p s xs i) (sym (drop-cons cs i 0 l)) ∙ g .same d e;
+  }
+
+  pub replaying-never : r ≡ true → length cs ≤ i → (d : Design) → check file ≡ accepted d → none ≡ firstBreak d p s₀ cs 0
+  unfolding firstBreak
+  replaying-never t l d e =
+      let k = g .inside in
+      ap (λ (b : Bool). cond b none (some i)) (sym t ∙ holds d e)
+      ∙ ap (λ (xs : List ℕ). firstBreak d p s xs i) (sym (ap (λ (j : ℕ). drop j cs) (let z : i ≡ length cs = omega arith in z) ∙ drop-length cs)) ∙ g .same d e

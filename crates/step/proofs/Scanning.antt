@@ -1,0 +1,132 @@
+-- The loop over the cells that looks at the invalid ones, and the invariant. Assumes nothing.
+use mathlib.Core.Path.{_≡_, refl, sym, ap, ap₂, subst, _∙_}
+use mathlib.Core.Bool.{Bool, true, false, cond, not, _&&_}
+use mathlib.Core.List.{List, [], _∷_}
+use Prim.Native.Nat.{ℕ, zero, suc, _+_, _*_, _-_, _<_, _≤_}
+use native.Mathlib.Omega.{arith}
+use native.Mathlib.Numerals.{add-one}
+use lib.ListN.{getD, length, drop}
+use lib.Seq.{drop-cons, drop-length}
+use Rattle.design.specs.Tree.{BoolExpr, constantB, InvalidCell, Design}
+use Rattle.design.specs.Limits.{maxDepth}
+use Rattle.design.specs.State.{State, Layout, layout}
+use Rattle.design.specs.Reading.{Read, got, bad}
+use Rattle.design.specs.Expression.{Names, boolExpr}
+use Rattle.design.specs.DesignFile.{Entry, normal, invalid, c-matrix, c-status, c-event, c-kind, c-past}
+use Rattle.design.specs.Check.{invalids, namesOf, names, trailer, variableCount, matricesOffset, matrixCount, cellsOffset, cellCount, invariantOffset}
+use Rattle.design.specs.Places.{Accepted, pastCells}
+use Rattle.design.proofs.Sections.{Parts, Cells, eventIn}
+use Rattle.design.proofs.Positions.{CellRead, EntryRead, InvalidRead, invariant-stands}
+use Rattle.design.proofs.Places.{Read as Tree, read, cell-stands, Standing, CellFields, cell-fields}
+use Rattle.step.specs.Evaluation.{evalBool}
+use Rattle.step.specs.OneStep.{statusAndEvent, noInvalid, property}
+use Rattle.step.specs.Accepted.{isRead, layoutOf, boolValue}
+use Rattle.step.specs.Ready.{Ready}
+
+-- the layout of the tree, by the count of the file
+pub same-layout : (file : List ℕ) (d : Design) (w : Parts file d) (nv : ℕ) → nv ≡ variableCount file → layoutOf nv ≡ layout d
+unfolding layout
+same-layout file d w nv e = ap layoutOf (e ∙ sym (w .variable-count))
+
+pub invariant-property : (file : List ℕ) (d : Design) (w : Parts file d) (nv : ℕ) → nv ≡ variableCount file → (p : ℕ) → p ≡ 0 → (s : State) (r : Bool) → r ≡ evalBool (layoutOf nv) s (d .invariant) → r ≡ property d p s
+unfolding property
+invariant-property file d w nv e p z s r h = h ∙ ap (λ (l : Layout). evalBool l s (d .invariant)) (same-layout file d w nv e) ∙ ap (λ (k : ℕ). property d k s) (sym z)
+
+pub invalid-property : (file : List ℕ) (d : Design) (w : Parts file d) (nv : ℕ) → nv ≡ variableCount file → (p : ℕ) → (p ≡ 0 → ⊥) → (s : State) (r : Bool) → r ≡ noInvalid (layoutOf nv) s (d .invalid) → r ≡ property d p s
+unfolding property
+invalid-property file d w nv e zero z s r h = absurd (z refl)
+invalid-property file d w nv e (suc p) z s r h = h ∙ ap (λ (l : Layout). noInvalid l s (d .invalid)) (same-layout file d w nv e)
+
+-- what is left to look at decides as the whole does
+pub record Scanning (file : List ℕ) (nv : ℕ) (slots : State) (p i : ℕ) : Type 0 where
+  pub here : p ≡ pastCells file i (cellsOffset file)
+  pub inside : i ≤ cellCount file
+  pub same : (d : Design) (w : Parts file d) → noInvalid (layoutOf nv) slots (invalids (drop i (w .entries))) ≡ noInvalid (layoutOf nv) slots (d .invalid)
+
+pub scanning-start : (file : List ℕ) (nv : ℕ) (slots : State) (p : ℕ) → p ≡ cellsOffset file → Scanning file nv slots p 0
+unfolding pastCells
+scanning-start file nv slots p e = record { here = e; inside = omega arith; same = λ d w. ap (noInvalid (layoutOf nv) slots) (sym (w .invalid)) }
+
+module _ (file events′ : List ℕ) (nv nm : ℕ) (slots : State) (h : Ready file events′ nv nm slots) where
+  abbrev N : Names
+  N = namesOf file nv nm
+
+  tree : Tree file
+  tree = read file (h .accepted)
+
+  pub invariant-got : (d : Design) (w : Parts file d) (at end : ℕ) → at ≡ invariantOffset file → end ≡ trailer file → boolExpr file N end maxDepth at ≡ got (d .invariant) end
+  invariant-got d w at end a e =
+      ap (λ (y : Names). boolExpr file y end maxDepth at) (ap₂ (namesOf file) (h .variables) (h .matrices)) ∙ ap (boolExpr file (names file) end maxDepth) a
+      ∙ subst (λ (j : ℕ). boolExpr file (names file) j maxDepth (invariantOffset file) ≡ got (d .invariant) j) (sym e) (invariant-stands file d w)
+
+  pub invariant-reads : (at end : ℕ) → at ≡ invariantOffset file → end ≡ trailer file → isRead (boolExpr file N end maxDepth at) ≡ true
+  invariant-reads at end a e = ap isRead (invariant-got (tree .tree) (tree .all .parts) at end a e)
+
+  pub invariant-value : (at end : ℕ) → at ≡ invariantOffset file → end ≡ trailer file → (r : Bool) → r ≡ boolValue (layoutOf nv) slots (boolExpr file N end maxDepth at) → (d : Design) (w : Parts file d) → r ≡ evalBool (layoutOf nv) slots (d .invariant)
+  invariant-value at end a e r v d w = v ∙ ap (boolValue (layoutOf nv) slots) (invariant-got d w at end a e)
+
+  abbrev l : Layout
+  l = layoutOf nv
+
+  module _ (p i : ℕ) (g : Scanning file nv slots p i) (k : i < cellCount file) where
+    none : Entry
+    none = invalid (record { matrix = 0; status = 0; event = constantB false })
+
+    entry : (d : Design) → Parts file d → Entry
+    entry d w = getD (w .entries) i none
+
+    stands : (d : Design) (w : Parts file d) → Standing file (eventIn file (w .rows)) p (entry d w)
+    unfolding pastCells entry
+    stands d w =
+        let (b, c) = cell-stands file (eventIn file (w .rows)) (w .entries) (cellsOffset file) (cellsOffset file) (invariantOffset file) (w .cell-run) i (omega (arith, w .cell-count)) none in
+        subst (λ (j : ℕ). Standing file (eventIn file (w .rows)) j (getD (w .entries) i none)) (sym (g .here)) (b, c)
+
+    pub scan-fields : CellFields file p
+    scan-fields = cell-fields file (eventIn file (tree .all .parts .rows)) p (entry (tree .tree) (tree .all .parts)) (stands (tree .tree) (tree .all .parts))
+
+    split : (d : Design) (w : Parts file d) → drop i (w .entries) ≡ entry d w ∷ drop (suc i) (w .entries)
+    unfolding entry
+    split d w = drop-cons (w .entries) i none (omega (arith, w .cell-count))
+
+    -- an entry by its kind
+    is-normal : (f : ℕ → ℕ → BoolExpr) (x : Entry) (es : List Entry) → EntryRead file (trailer file) (names file) (matricesOffset file) f p (c-kind file p) x → c-kind file p ≡ 0 → noInvalid l slots (invalids (x ∷ es)) ≡ noInvalid l slots (invalids es)
+    is-normal f (normal c) es r e = refl
+    is-normal f (invalid q) es r e = absurd (r .0 e)
+
+    is-invalid : (f : ℕ → ℕ → BoolExpr) (x : Entry) (es : List Entry) → EntryRead file (trailer file) (names file) (matricesOffset file) f p (c-kind file p) x → (c-kind file p ≡ 0 → ⊥)
+        → noInvalid l slots (invalids (x ∷ es)) ≡ (not (statusAndEvent l slots (c-matrix file p) (c-status file p) (f (c-matrix file p) (c-event file p))) && noInvalid l slots (invalids es))
+    is-invalid f (normal c) es r e = absurd (e (r .0))
+    is-invalid f (invalid q) es r e =
+        ap (λ (m : ℕ). not (statusAndEvent l slots m (q .status) (q .event)) && noInvalid l slots (invalids es)) (r .1 .matrix)
+        ∙ ap (λ (m : ℕ). not (statusAndEvent l slots (c-matrix file p) m (q .event)) && noInvalid l slots (invalids es)) (r .1 .status)
+        ∙ ap (λ (b : BoolExpr). not (statusAndEvent l slots (c-matrix file p) (c-status file p) b) && noInvalid l slots (invalids es)) (r .1 .event)
+
+    abbrev Sees : Bool → Type 0
+    Sees r = (d : Design) (w : Parts file d) → r ≡ statusAndEvent l slots (c-matrix file p) (c-status file p) (eventIn file (w .rows) (c-matrix file p) (c-event file p))
+
+    -- an invalid cell at which both hold decides
+    pub scan-found : (c-kind file p ≡ 0 → ⊥) → (r : Bool) → Sees r → r ≡ true → (d : Design) (w : Parts file d) → false ≡ noInvalid l slots (d .invalid)
+    scan-found e r s q d w =
+        let t = is-invalid (eventIn file (w .rows)) (entry d w) (drop (suc i) (w .entries)) (stands d w .1 .entry) e in
+        ap (λ (b : Bool). not b && noInvalid l slots (invalids (drop (suc i) (w .entries)))) (sym q ∙ s d w) ∙ sym t ∙ sym (ap (λ (es : List Entry). noInvalid l slots (invalids es)) (split d w)) ∙ g .same d w
+
+    onward : (q : ℕ) → q ≡ c-past file p → ((d : Design) (w : Parts file d) → noInvalid l slots (invalids (drop (suc i) (w .entries))) ≡ noInvalid l slots (invalids (drop i (w .entries)))) → Scanning file nv slots q (i + 1)
+    unfolding pastCells
+    onward q e s = record {
+      here = e ∙ ap (c-past file) (g .here) ∙ sym (ap (λ (n : ℕ). pastCells file n (cellsOffset file)) (add-one i));
+      inside = omega arith;
+      same = λ d w. ap (λ (n : ℕ). noInvalid l slots (invalids (drop n (w .entries)))) (add-one i) ∙ s d w ∙ g .same d w;
+    }
+
+    pub scan-normal : c-kind file p ≡ 0 → (q : ℕ) → q ≡ c-past file p → Scanning file nv slots q (i + 1)
+    scan-normal e q f = onward q f (λ d w. sym (is-normal (eventIn file (w .rows)) (entry d w) (drop (suc i) (w .entries)) (stands d w .1 .entry) e) ∙ sym (ap (λ (es : List Entry). noInvalid l slots (invalids es)) (split d w)))
+
+    pub scan-invalid : (c-kind file p ≡ 0 → ⊥) → (r : Bool) → Sees r → r ≡ false → (q : ℕ) → q ≡ c-past file p → Scanning file nv slots q (i + 1)
+    scan-invalid e r s z q f = onward q f (λ d w.
+        ap (λ (b : Bool). not b && noInvalid l slots (invalids (drop (suc i) (w .entries)))) (sym z ∙ s d w) ∙ sym (is-invalid (eventIn file (w .rows)) (entry d w) (drop (suc i) (w .entries)) (stands d w .1 .entry) e) ∙ sym (ap (λ (es : List Entry). noInvalid l slots (invalids es)) (split d w)))
+
+  pub scanning-end : (p i : ℕ) → cellCount file ≤ i → Scanning file nv slots p i → (d : Design) (w : Parts file d) → true ≡ noInvalid l slots (d .invalid)
+  scanning-end p i k g d w =
+      let s = g .inside in
+      let z : i ≡ length (w .entries) = omega (arith, w .cell-count) in
+      ap (λ (es : List Entry). noInvalid l slots (invalids es)) (sym (ap (λ (n : ℕ). drop n (w .entries)) z ∙ drop-length (w .entries))) ∙ g .same d w

@@ -1,0 +1,152 @@
+use native.Mathlib.Omega.{arith}
+use mathlib.Core.Path.{sym, ap, _∙_}
+use mathlib.Core.Logic.{inl, inr}
+use lib.ListN.{getD}
+use lib.Dec.{ltb}
+use Prim.Native.Nat.{ℕ, _<_, _+_}
+use Rattle.step.specs.Evaluation.{evalBool}
+use Rattle.step.specs.Accepted.{past, boolValue}
+use Rattle.step.proofs.Values.{truth-test, bool-live, bool-constant, bool-variable, bool-unknown, not-first, not-value, logic-first, logic-second, logic-pair, compare-first, compare-second, compare-pair}
+use borrow.Fn.Kinds.{In}
+use borrow.Fn.PlainCycle.{Measures, is, falls, and}
+use Rattle.step.proofs.evaluate.eval_bool.Reads as eval-bool
+use Rattle.step.proofs.evaluate.eval_bool.Kinds as eval-bool-kinds
+use Rattle.step.proofs.evaluate.+eval_bool.Lts-eval_bool as eval-bool-lts
+use Rattle.design.proofs.bytes.wide.Reads as wide-reads
+use Rattle.step.proofs.evaluate.compare.Reads as compare-reads
+use Rattle.step.proofs.evaluate.eval_int.Reads as eval-int-reads
+use Rattle.step.proofs.evaluate.logic.Reads as logic-reads
+use Rattle.step.proofs.evaluate.+eval_bool.{statement}
+use Rattle.step.proofs.evaluate.+eval_bool.Tie.{close}
+
+abbrev μ-eval-bool : Measures 3 eval-bool-kinds.ps ℕ
+μ-eval-bool κs a = a .1 .1 .1 .1 .1 .1 .0
+
+abbrev eval-bool-at : ℕ → In 3 eval-bool-kinds.ps
+eval-bool-at t = and 3 eval-bool-kinds.ps (is 3 eval-bool-kinds.ps μ-eval-bool t) eval-bool.Pre
+
+abbrev eval-bool-below : ℕ → In 3 eval-bool-kinds.ps
+eval-bool-below t =
+    and 3 eval-bool-kinds.ps (falls 3 eval-bool-kinds.ps _<_ μ-eval-bool t) eval-bool.Pre
+
+abbrev eval-bool-claims : ℕ → eval-bool-lts.Claims
+eval-bool-claims t = (wide-reads.Asked, wide-reads.Learnt, eval-bool-below t, eval-bool.Post, logic-reads.Asked, logic-reads.Learnt, eval-int-reads.Asked, eval-int-reads.Learnt, compare-reads.Asked, compare-reads.Learnt)
+
+eval-bool-shared-slice-read-op : (t : ℕ) → eval-bool-lts.Need-shared-slice-read-op (eval-bool-claims t) (eval-bool-at t) eval-bool.Post
+eval-bool-shared-slice-read-op t c = omega (arith, bool-live _ _ _ _ _ (c .before .before .before .before .pre .1 .0) .inside)
+
+eval-bool-add-p : (t : ℕ) → eval-bool-lts.Need-add-p (eval-bool-claims t) (eval-bool-at t) eval-bool.Post
+eval-bool-add-p t c = omega (arith, bool-live _ _ _ _ _ (c .before .before .before .before .pre .1 .0) .inside)
+
+eval-bool-shared-slice-read-t21 : (t : ℕ) → eval-bool-lts.Need-shared-slice-read-t21 (eval-bool-claims t) (eval-bool-at t) eval-bool.Post
+eval-bool-shared-slice-read-t21 t c = omega (arith, bool-constant _ _ _ _ _ (c .before .before .before .before .before .before .pre .1 .0) (c .before .match .keys1) .0)
+
+eval-bool-add-t23 : (t : ℕ) → eval-bool-lts.Need-add-t23 (eval-bool-claims t) (eval-bool-at t) eval-bool.Post
+eval-bool-add-t23 t c = omega (arith, bool-constant _ _ _ _ _ (c .before .before .before .before .before .before .pre .1 .0) (c .before .match .keys1) .0)
+
+eval-bool-shared-slice-read-wide : (t : ℕ) → eval-bool-lts.Need-shared-slice-read-wide (eval-bool-claims t) (eval-bool-at t) eval-bool.Post
+eval-bool-shared-slice-read-wide t c = omega (arith, bool-variable _ _ _ _ _ (c .before .before .before .before .before .before .pre .1 .0) (c .before .match .keys2) .0)
+
+eval-bool-wide-requires : (t : ℕ) → eval-bool-lts.Need-wide-requires (eval-bool-claims t) (eval-bool-at t) eval-bool.Post
+eval-bool-wide-requires t c κs = tt
+
+eval-bool-mul-t26 : (t : ℕ) → eval-bool-lts.Need-mul-t26 (eval-bool-claims t) (eval-bool-at t) eval-bool.Post
+eval-bool-mul-t26 t c = omega (arith, c .wide .ensures .1)
+
+eval-bool-shared-slice-read-t28 : (t : ℕ) → eval-bool-lts.Need-shared-slice-read-t28 (eval-bool-claims t) (eval-bool-at t) eval-bool.Post
+eval-bool-shared-slice-read-t28 t c = omega (arith, c .before .wide .ensures .0, bool-variable _ _ _ _ _ (c .before .before .before .before .before .before .before .before .pre .1 .0) (c .before .before .before .match .keys2) .1)
+
+eval-bool-add-t30 : (t : ℕ) → eval-bool-lts.Need-add-t30 (eval-bool-claims t) (eval-bool-at t) eval-bool.Post
+eval-bool-add-t30 t c = omega (arith, bool-variable _ _ _ _ _ (c .before .before .before .before .before .before .before .before .pre .1 .0) (c .before .before .before .match .keys2) .0)
+
+eval-bool-sub-eval-bool : (t : ℕ) → eval-bool-lts.Need-sub-eval-bool (eval-bool-claims t) (eval-bool-at t) eval-bool.Post
+eval-bool-sub-eval-bool t c = omega (arith, bool-live _ _ _ _ _ (c .before .before .before .before .before .pre .1 .0) .deep)
+
+eval-bool-eval-bool-requires : (t : ℕ) → eval-bool-lts.Need-eval-bool-requires (eval-bool-claims t) (eval-bool-at t) eval-bool.Post
+eval-bool-eval-bool-requires t c κs = (omega (arith, bool-live _ _ _ _ _ (c .before .before .before .before .before .pre .1 .0) .deep), (not-first _ _ _ _ _ (c .before .before .before .before .before .pre .1 .0) (c .match .keys3), omega arith, omega arith))
+
+eval-bool-sub-eval-bool-2 : (t : ℕ) → eval-bool-lts.Need-sub-eval-bool-2 (eval-bool-claims t) (eval-bool-at t) eval-bool.Post
+eval-bool-sub-eval-bool-2 t c = omega (arith, bool-live _ _ _ _ _ (c .before .before .before .before .before .before .before .pre .1 .0) .deep)
+
+eval-bool-eval-bool-requires-2 : (t : ℕ) → eval-bool-lts.Need-eval-bool-requires-2 (eval-bool-claims t) (eval-bool-at t) eval-bool.Post
+eval-bool-eval-bool-requires-2 t c κs = (omega (arith, bool-live _ _ _ _ _ (c .before .before .before .before .before .before .before .pre .1 .0) .deep), (logic-first _ _ _ _ _ (c .before .before .before .before .before .before .before .pre .1 .0) (omega arith) (c .if2 .taken), omega arith, omega arith))
+
+eval-bool-sub-eval-bool-3 : (t : ℕ) → eval-bool-lts.Need-sub-eval-bool-3 (eval-bool-claims t) (eval-bool-at t) eval-bool.Post
+eval-bool-sub-eval-bool-3 t c = omega (arith, bool-live _ _ _ _ _ (c .before .before .before .before .before .before .before .before .pre .1 .0) .deep)
+
+eval-bool-eval-bool-requires-3 : (t : ℕ) → eval-bool-lts.Need-eval-bool-requires-3 (eval-bool-claims t) (eval-bool-at t) eval-bool.Post
+eval-bool-eval-bool-requires-3 t c κs = (omega (arith, bool-live _ _ _ _ _ (c .before .before .before .before .before .before .before .before .pre .1 .0) .deep), (logic-second _ _ _ _ _ (c .before .before .before .before .before .before .before .before .pre .1 .0) (omega arith) (c .before .if2 .taken) _ (c .eval-bool2 .ensures .1), omega arith, omega arith))
+
+eval-bool-logic-requires : (t : ℕ) → eval-bool-lts.Need-logic-requires (eval-bool-claims t) (eval-bool-at t) eval-bool.Post
+eval-bool-logic-requires t c κs = tt
+
+eval-bool-sub-eval-int : (t : ℕ) → eval-bool-lts.Need-sub-eval-int (eval-bool-claims t) (eval-bool-at t) eval-bool.Post
+eval-bool-sub-eval-int t c = omega (arith, bool-live _ _ _ _ _ (c .before .before .before .before .before .before .before .before .pre .1 .0) .deep)
+
+eval-bool-eval-int-requires : (t : ℕ) → eval-bool-lts.Need-eval-int-requires (eval-bool-claims t) (eval-bool-at t) eval-bool.Post
+eval-bool-eval-int-requires t c κs = (compare-first _ _ _ _ _ (c .before .before .before .before .before .before .before .before .pre .1 .0) (omega arith) (c .if3 .taken), omega arith, omega arith)
+
+eval-bool-sub-eval-int-2 : (t : ℕ) → eval-bool-lts.Need-sub-eval-int-2 (eval-bool-claims t) (eval-bool-at t) eval-bool.Post
+eval-bool-sub-eval-int-2 t c = omega (arith, bool-live _ _ _ _ _ (c .before .before .before .before .before .before .before .before .before .pre .1 .0) .deep)
+
+eval-bool-eval-int-requires-2 : (t : ℕ) → eval-bool-lts.Need-eval-int-requires-2 (eval-bool-claims t) (eval-bool-at t) eval-bool.Post
+eval-bool-eval-int-requires-2 t c κs = (compare-second _ _ _ _ _ (c .before .before .before .before .before .before .before .before .before .pre .1 .0) (omega arith) (c .before .if3 .taken) _ (c .eval-int .ensures .1), omega arith, omega arith)
+
+eval-bool-compare-requires : (t : ℕ) → eval-bool-lts.Need-compare-requires (eval-bool-claims t) (eval-bool-at t) eval-bool.Post
+eval-bool-compare-requires t c κs = tt
+
+eval-bool-returns : (t : ℕ) → eval-bool-lts.Need-returns (eval-bool-claims t) (eval-bool-at t) eval-bool.Post
+unfolding evalBool
+eval-bool-returns t c = let k = bool-constant _ _ _ _ _ (c .before .before .before .before .before .before .pre .1 .0) (c .before .match .keys1) in (truth-test (getD (c .before .before .before .before .before .before .args .text .now) (c .before .before .before .before .before .before .args .at + 1) 0) ∙ sym (ap (boolValue _ _) (k .1)), sym (ap past (k .1)))
+
+eval-bool-returns-2 : (t : ℕ) → eval-bool-lts.Need-returns-2 (eval-bool-claims t) (eval-bool-at t) eval-bool.Post
+unfolding evalBool
+eval-bool-returns-2 t c = let k = bool-variable _ _ _ _ _ (c .before .before .before .before .before .before .before .before .pre .1 .0) (c .before .before .before .match .keys2) in (ap (λ (v : ℕ). ltb 0 (getD (c .before .before .before .before .before .before .before .before .args .slots .now) v 0)) (c .before .wide .ensures .0) ∙ truth-test (getD (c .before .before .before .before .before .before .before .before .args .slots .now) (getD (c .before .before .before .before .before .before .before .before .args .text .now) (c .before .before .before .before .before .before .before .before .args .at + 1) 0) 0) ∙ sym (ap (boolValue _ _) (k .2)), sym (ap past (k .2)))
+
+eval-bool-returns-3 : (t : ℕ) → eval-bool-lts.Need-returns-3 (eval-bool-claims t) (eval-bool-at t) eval-bool.Post
+eval-bool-returns-3 t c = not-value _ _ _ _ _ (c .before .before .before .before .before .before .before .pre .1 .0) (c .before .before .match .keys3) _ _ _ _ (c .before .eval-bool .ensures .0) (c .before .eval-bool .ensures .1)
+
+eval-bool-returns-4 : (t : ℕ) → eval-bool-lts.Need-returns-4 (eval-bool-claims t) (eval-bool-at t) eval-bool.Post
+eval-bool-returns-4 t c = let k = logic-pair _ _ _ _ _ (c .before .before .before .before .before .before .before .before .before .before .pre .1 .0) (omega arith) (c .before .before .before .if2 .taken) _ _ _ _ _ _ (c .before .before .eval-bool2 .ensures .0) (c .before .before .eval-bool2 .ensures .1) (c .before .eval-bool3 .ensures .0) (c .before .eval-bool3 .ensures .1) in (c .logic .ensures ∙ k .0, k .1)
+
+eval-bool-returns-5 : (t : ℕ) → eval-bool-lts.Need-returns-5 (eval-bool-claims t) (eval-bool-at t) eval-bool.Post
+eval-bool-returns-5 t c = let k = compare-pair _ _ _ _ _ (c .before .before .before .before .before .before .before .before .before .before .before .pre .1 .0) (omega arith) (c .before .before .before .if3 .taken) _ _ _ _ _ _ (c .before .before .eval-int .ensures .0) (c .before .before .eval-int .ensures .1) (c .before .eval-int2 .ensures .0) (c .before .eval-int2 .ensures .1) in (c .compare .ensures ∙ k .0, k .1)
+
+eval-bool-returns-6 : (t : ℕ) → eval-bool-lts.Need-returns-6 (eval-bool-claims t) (eval-bool-at t) eval-bool.Post
+eval-bool-returns-6 t c = absurd (bool-unknown _ _ _ _ _ (c .before .before .before .before .before .before .pre .1 .0) (inl (c .if1 .taken)))
+
+eval-bool-returns-7 : (t : ℕ) → eval-bool-lts.Need-returns-7 (eval-bool-claims t) (eval-bool-at t) eval-bool.Post
+eval-bool-returns-7 t c = absurd (bool-unknown _ _ _ _ _ (c .before .before .before .before .before .before .before .before .pre .1 .0) (inr (c .if3 .left)))
+
+pub +eval-bool-spec : {M : Type 1} → statement M
++eval-bool-spec = close μ-eval-bool λ t. eval-bool-lts.spec (eval-bool-claims t)
+    (eval-bool-at t)
+    eval-bool.Post
+    (eval-bool-shared-slice-read-op t)
+    (eval-bool-add-p t)
+    (eval-bool-shared-slice-read-t21 t)
+    (eval-bool-add-t23 t)
+    (eval-bool-shared-slice-read-wide t)
+    (eval-bool-wide-requires t)
+    (eval-bool-mul-t26 t)
+    (eval-bool-shared-slice-read-t28 t)
+    (eval-bool-add-t30 t)
+    (eval-bool-sub-eval-bool t)
+    (eval-bool-eval-bool-requires t)
+    (eval-bool-sub-eval-bool-2 t)
+    (eval-bool-eval-bool-requires-2 t)
+    (eval-bool-sub-eval-bool-3 t)
+    (eval-bool-eval-bool-requires-3 t)
+    (eval-bool-logic-requires t)
+    (eval-bool-sub-eval-int t)
+    (eval-bool-eval-int-requires t)
+    (eval-bool-sub-eval-int-2 t)
+    (eval-bool-eval-int-requires-2 t)
+    (eval-bool-compare-requires t)
+    (eval-bool-returns t)
+    (eval-bool-returns-2 t)
+    (eval-bool-returns-3 t)
+    (eval-bool-returns-4 t)
+    (eval-bool-returns-5 t)
+    (eval-bool-returns-6 t)
+    (eval-bool-returns-7 t)

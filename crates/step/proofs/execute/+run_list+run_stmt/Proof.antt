@@ -1,0 +1,186 @@
+use native.Mathlib.Omega.{arith}
+use Prim.Native.Nat.{ℕ, _<_, _-_}
+use Rattle.design.specs.Check.{namesOf}
+use Rattle.step.specs.Accepted.{layoutOf}
+use Rattle.step.proofs.Runs.{bool-forward, list-forward, list-live, seq-first, Going, going-start, going-on, going-end, stmt-live, assign-live, assign-runs, if-deep, if-test, if-then, if-else, runs-then, runs-else}
+use borrow.Fn.Kinds.{In}
+use borrow.Fn.PlainCycle.{Measures, is, falls, and}
+use Rattle.step.proofs.execute.run_list.Reads as run-list
+use Rattle.step.proofs.execute.run_list.Kinds as run-list-kinds
+use Rattle.step.proofs.execute.+run_list+run_stmt.Lts-run_list as run-list-lts
+use Rattle.step.proofs.execute.run_stmt.Reads as run-stmt
+use Rattle.step.proofs.execute.run_stmt.Kinds as run-stmt-kinds
+use Rattle.step.proofs.execute.+run_list+run_stmt.Lts-run_stmt as run-stmt-lts
+use Rattle.design.proofs.bytes.wide.Reads as wide-reads
+use Rattle.step.proofs.evaluate.eval_bool.Reads as eval-bool-reads
+use Rattle.step.proofs.execute.run_assign.Reads as run-assign-reads
+use Rattle.step.proofs.execute.skip_list.Reads as skip-list-reads
+use Rattle.step.proofs.execute.+run_list+run_stmt.{statement}
+use Rattle.step.proofs.execute.+run_list+run_stmt.Tie.{close}
+
+abbrev μ-run-list : Measures 3 run-list-kinds.ps ℕ
+μ-run-list κs a = a .1 .1 .1 .0 - a .1 .1 .0
+
+abbrev μ-run-stmt : Measures 3 run-stmt-kinds.ps ℕ
+μ-run-stmt κs a = a .1 .1 .1 .0 - a .1 .1 .0
+
+abbrev run-list-at : ℕ → In 3 run-list-kinds.ps
+run-list-at t = and 3 run-list-kinds.ps (is 3 run-list-kinds.ps μ-run-list t) run-list.Pre
+
+abbrev run-list-below : ℕ → In 3 run-list-kinds.ps
+run-list-below t =
+    and 3 run-list-kinds.ps (falls 3 run-list-kinds.ps _<_ μ-run-list t) run-list.Pre
+
+abbrev run-stmt-at : ℕ → In 3 run-stmt-kinds.ps
+run-stmt-at t = and 3 run-stmt-kinds.ps (is 3 run-stmt-kinds.ps μ-run-stmt t) run-stmt.Pre
+
+abbrev run-stmt-below : ℕ → In 3 run-stmt-kinds.ps
+run-stmt-below t =
+    and 3 run-stmt-kinds.ps (falls 3 run-stmt-kinds.ps _<_ μ-run-stmt t) run-stmt.Pre
+
+abbrev run-list-Inv-loop : run-list-lts.InvT-loop
+run-list-Inv-loop text file at end nv nm nest slots₀ left₀ p₀ slots left p = Going text (namesOf file nv nm) end (layoutOf nv) nest at slots₀ left p slots
+
+abbrev run-list-μ-loop : run-list-lts.MeasureT-loop
+run-list-μ-loop text file at end nv nm nest slots₀ left₀ p₀ slots left p = left
+
+abbrev run-list-claims : ℕ → run-list-lts.Claims
+run-list-claims t = (wide-reads.Asked, wide-reads.Learnt, run-stmt-below t, run-stmt.Post)
+
+run-list-shared-slice-read-wide : (t : ℕ) → run-list-lts.Need-shared-slice-read-wide (run-list-claims t) (run-list-at t) run-list.Post run-list-Inv-loop run-list-μ-loop
+run-list-shared-slice-read-wide t c = omega (arith, list-live _ _ _ _ _ (c .before .before .before .before .pre .1 .0))
+
+run-list-wide-requires : (t : ℕ) → run-list-lts.Need-wide-requires (run-list-claims t) (run-list-at t) run-list.Post run-list-Inv-loop run-list-μ-loop
+run-list-wide-requires t c κs = tt
+
+run-list-add-p : (t : ℕ) → run-list-lts.Need-add-p (run-list-claims t) (run-list-at t) run-list.Post run-list-Inv-loop run-list-μ-loop
+run-list-add-p t c = omega (arith, list-live _ _ _ _ _ (c .before .before .before .before .before .pre .1 .0))
+
+run-list-loop-holds : (t : ℕ) → run-list-lts.Need-loop-holds (run-list-claims t) (run-list-at t) run-list.Post run-list-Inv-loop run-list-μ-loop
+run-list-loop-holds t c = going-start _ _ _ _ _ _ _ _ (c .wide .ensures .0) (c .before .before .before .before .before .pre .1 .0)
+
+run-list-run-stmt-requires : (t : ℕ) → run-list-lts.Need-run-stmt-requires (run-list-claims t) (run-list-at t) run-list.Post run-list-Inv-loop run-list-μ-loop
+run-list-run-stmt-requires t c κs = (omega (arith, list-live _ _ _ _ _ (c .before .before .before .before .before .before .before .before .pre .1 .0), c .before .before .loop .inv .on, stmt-live _ _ _ _ _ (seq-first _ _ _ _ _ _ (c .before .before .loop .inv .live) (c .before .loop-test .taken))), (seq-first _ _ _ _ _ _ (c .before .before .loop .inv .live) (c .before .loop-test .taken), omega arith, omega arith, omega (arith, c .before .before .loop .inv .size)))
+
+run-list-sub-left : (t : ℕ) → run-list-lts.Need-sub-left (run-list-claims t) (run-list-at t) run-list.Post run-list-Inv-loop run-list-μ-loop
+run-list-sub-left t c = omega arith
+
+run-list-loop-less : (t : ℕ) → run-list-lts.Need-loop-less (run-list-claims t) (run-list-at t) run-list.Post run-list-Inv-loop run-list-μ-loop
+run-list-loop-less t c = omega arith
+
+run-list-loop-again : (t : ℕ) → run-list-lts.Need-loop-again (run-list-claims t) (run-list-at t) run-list.Post run-list-Inv-loop run-list-μ-loop
+run-list-loop-again t c = going-on _ _ _ _ _ _ _ _ _ _ _ _ (c .before .before .before .before .loop-test .taken) (c .before .before .before .before .before .loop .inv) (c .before .before .run-stmt .ensures)
+
+run-list-same-length : (t : ℕ) → run-list-lts.Need-same-length (run-list-claims t) (run-list-at t) run-list.Post run-list-Inv-loop run-list-μ-loop
+run-list-same-length t c = c .before .loop .inv .size
+
+run-list-returns : (t : ℕ) → run-list-lts.Need-returns (run-list-claims t) (run-list-at t) run-list.Post run-list-Inv-loop run-list-μ-loop
+run-list-returns t c = going-end _ _ _ _ _ _ _ _ _ _ (c .loop-test .left) (c .before .loop .inv)
+
+abbrev run-stmt-claims : ℕ → run-stmt-lts.Claims
+run-stmt-claims t = (run-assign-reads.Asked, run-assign-reads.Learnt, eval-bool-reads.Asked, eval-bool-reads.Learnt, run-list-below t, run-list.Post, skip-list-reads.Asked, skip-list-reads.Learnt)
+
+run-stmt-shared-slice-read-op : (t : ℕ) → run-stmt-lts.Need-shared-slice-read-op (run-stmt-claims t) (run-stmt-at t) run-stmt.Post
+run-stmt-shared-slice-read-op t c = omega (arith, stmt-live _ _ _ _ _ (c .before .before .before .before .pre .1 .0))
+
+run-stmt-add-run-assign : (t : ℕ) → run-stmt-lts.Need-add-run-assign (run-stmt-claims t) (run-stmt-at t) run-stmt.Post
+run-stmt-add-run-assign t c = omega (arith, stmt-live _ _ _ _ _ (c .before .before .before .before .before .pre .1 .0))
+
+run-stmt-run-assign-requires : (t : ℕ) → run-stmt-lts.Need-run-assign-requires (run-stmt-claims t) (run-stmt-at t) run-stmt.Post
+run-stmt-run-assign-requires t c κs = (assign-live _ _ _ _ _ (c .before .before .before .before .before .before .pre .1 .0) (c .before .match .keys1), omega arith, omega arith, omega arith)
+
+run-stmt-add-eval-bool : (t : ℕ) → run-stmt-lts.Need-add-eval-bool (run-stmt-claims t) (run-stmt-at t) run-stmt.Post
+run-stmt-add-eval-bool t c = omega (arith, stmt-live _ _ _ _ _ (c .before .before .before .before .before .pre .1 .0))
+
+run-stmt-eval-bool-requires : (t : ℕ) → run-stmt-lts.Need-eval-bool-requires (run-stmt-claims t) (run-stmt-at t) run-stmt.Post
+run-stmt-eval-bool-requires t c κs = (if-test _ _ _ _ _ (c .before .before .before .before .before .before .pre .1 .0) (c .before .match .rest .1), omega arith, omega arith)
+
+run-stmt-sub-run-list : (t : ℕ) → run-stmt-lts.Need-sub-run-list (run-stmt-claims t) (run-stmt-at t) run-stmt.Post
+run-stmt-sub-run-list t c = omega (arith, if-deep _ _ _ _ _ (c .before .before .before .before .before .before .before .before .pre .1 .0) (c .before .before .before .match .rest .1))
+
+run-stmt-run-list-requires : (t : ℕ) → run-stmt-lts.Need-run-list-requires (run-stmt-claims t) (run-stmt-at t) run-stmt.Post
+run-stmt-run-list-requires t c κs = (omega (arith, stmt-live _ _ _ _ _ (c .before .before .before .before .before .before .before .before .before .pre .1 .0), bool-forward _ _ _ _ _ (if-test _ _ _ _ _ (c .before .before .before .before .before .before .before .before .before .pre .1 .0) (c .before .before .before .before .match .rest .1)) (c .before .before .eval-bool .ensures .1), list-live _ _ _ _ _ (if-then _ _ _ _ _ (c .before .before .before .before .before .before .before .before .before .pre .1 .0) (c .before .before .before .before .match .rest .1) _ (c .before .before .eval-bool .ensures .1))), (if-then _ _ _ _ _ (c .before .before .before .before .before .before .before .before .before .pre .1 .0) (c .before .before .before .before .match .rest .1) _ (c .before .before .eval-bool .ensures .1), omega arith, omega arith, omega arith))
+
+run-stmt-sub-skip-list : (t : ℕ) → run-stmt-lts.Need-sub-skip-list (run-stmt-claims t) (run-stmt-at t) run-stmt.Post
+run-stmt-sub-skip-list t c = omega (arith, if-deep _ _ _ _ _ (c .before .before .before .before .before .before .before .before .before .before .before .before .pre .1 .0) (c .before .before .before .before .before .before .before .match .rest .1))
+
+run-stmt-skip-list-requires : (t : ℕ) → run-stmt-lts.Need-skip-list-requires (run-stmt-claims t) (run-stmt-at t) run-stmt.Post
+run-stmt-skip-list-requires t c κs = omega arith
+
+run-stmt-sub-skip-list-2 : (t : ℕ) → run-stmt-lts.Need-sub-skip-list-2 (run-stmt-claims t) (run-stmt-at t) run-stmt.Post
+run-stmt-sub-skip-list-2 t c = omega (arith, if-deep _ _ _ _ _ (c .before .before .before .before .before .before .before .before .pre .1 .0) (c .before .before .before .match .rest .1))
+
+run-stmt-skip-list-requires-2 : (t : ℕ) → run-stmt-lts.Need-skip-list-requires-2 (run-stmt-claims t) (run-stmt-at t) run-stmt.Post
+run-stmt-skip-list-requires-2 t c κs = omega arith
+
+run-stmt-sub-run-list-2 : (t : ℕ) → run-stmt-lts.Need-sub-run-list-2 (run-stmt-claims t) (run-stmt-at t) run-stmt.Post
+run-stmt-sub-run-list-2 t c = omega (arith, if-deep _ _ _ _ _ (c .before .before .before .before .before .before .before .before .before .pre .1 .0) (c .before .before .before .before .match .rest .1))
+
+run-stmt-run-list-requires-2 : (t : ℕ) → run-stmt-lts.Need-run-list-requires-2 (run-stmt-claims t) (run-stmt-at t) run-stmt.Post
+run-stmt-run-list-requires-2 t c κs = (omega (arith, stmt-live _ _ _ _ _ (c .before .before .before .before .before .before .before .before .before .before .pre .1 .0), bool-forward _ _ _ _ _ (if-test _ _ _ _ _ (c .before .before .before .before .before .before .before .before .before .before .pre .1 .0) (c .before .before .before .before .before .match .rest .1)) (c .before .before .before .eval-bool .ensures .1), list-forward _ _ _ _ _ _ (if-then _ _ _ _ _ (c .before .before .before .before .before .before .before .before .before .before .pre .1 .0) (c .before .before .before .before .before .match .rest .1) _ (c .before .before .before .eval-bool .ensures .1)) (c .before .skip-list2 .ensures), list-live _ _ _ _ _ (if-else _ _ _ _ _ (c .before .before .before .before .before .before .before .before .before .before .pre .1 .0) (c .before .before .before .before .before .match .rest .1) _ (c .before .before .before .eval-bool .ensures .1) _ (c .before .skip-list2 .ensures))), (if-else _ _ _ _ _ (c .before .before .before .before .before .before .before .before .before .before .pre .1 .0) (c .before .before .before .before .before .match .rest .1) _ (c .before .before .before .eval-bool .ensures .1) _ (c .before .skip-list2 .ensures), omega arith, omega arith, omega arith))
+
+run-stmt-same-length : (t : ℕ) → run-stmt-lts.Need-same-length (run-stmt-claims t) (run-stmt-at t) run-stmt.Post
+run-stmt-same-length t c = omega (arith, c .before .slots .given)
+
+run-stmt-returns : (t : ℕ) → run-stmt-lts.Need-returns (run-stmt-claims t) (run-stmt-at t) run-stmt.Post
+run-stmt-returns t c = assign-runs _ _ _ _ _ (c .before .before .before .before .before .before .before .before .before .pre .1 .0) (c .before .before .before .before .match .keys1) _ _ _ _ (c .before .before .run-assign .ensures)
+
+run-stmt-same-length-2 : (t : ℕ) → run-stmt-lts.Need-same-length-2 (run-stmt-claims t) (run-stmt-at t) run-stmt.Post
+run-stmt-same-length-2 t c = omega (arith, c .before .before .slots2 .given)
+
+run-stmt-returns-2 : (t : ℕ) → run-stmt-lts.Need-returns-2 (run-stmt-claims t) (run-stmt-at t) run-stmt.Post
+run-stmt-returns-2 t c = runs-then _ _ _ _ _ (c .before .before .before .before .before .before .before .before .before .before .before .before .before .pre .1 .0) (c .before .before .before .before .before .before .before .before .match .rest .1) _ (c .before .before .before .before .before .before .eval-bool .ensures .1) _ _ _ _ _ _ (c .before .before .before .before .before .before .eval-bool .ensures .0) (c .before .before .before .before .before .if1 .taken) (c .before .before .before .run-list .ensures) (c .skip-list .ensures)
+
+run-stmt-same-length-3 : (t : ℕ) → run-stmt-lts.Need-same-length-3 (run-stmt-claims t) (run-stmt-at t) run-stmt.Post
+run-stmt-same-length-3 t c = omega (arith, c .before .slots3 .given)
+
+run-stmt-returns-3 : (t : ℕ) → run-stmt-lts.Need-returns-3 (run-stmt-claims t) (run-stmt-at t) run-stmt.Post
+run-stmt-returns-3 t c = runs-else _ _ _ _ _ (c .before .before .before .before .before .before .before .before .before .before .before .before .before .pre .1 .0) (c .before .before .before .before .before .before .before .before .match .rest .1) _ (c .before .before .before .before .before .before .eval-bool .ensures .1) _ _ _ _ _ _ (c .before .before .before .before .before .before .eval-bool .ensures .0) (c .before .before .before .before .before .if1 .left) (c .before .before .before .before .skip-list2 .ensures) (c .before .before .run-list2 .ensures)
+
+pub +run-list+run-stmt-spec : {M : Type 1} → statement M
++run-list+run-stmt-spec = close μ-run-list μ-run-stmt (λ t. run-list-lts.spec (run-list-claims t)
+    (run-list-at t)
+    run-list.Post
+    run-list-Inv-loop
+    run-list-μ-loop
+    (run-list-shared-slice-read-wide t)
+    (run-list-wide-requires t)
+    (run-list-add-p t)
+    (run-list-loop-holds t)
+    (run-list-run-stmt-requires t)
+    (run-list-sub-left t)
+    (run-list-loop-less t)
+    (run-list-loop-again t)
+    (run-list-same-length t)
+    (run-list-returns t))
+    λ t. run-stmt-lts.spec (
+      run-assign-reads.Asked,
+      run-assign-reads.Learnt,
+      eval-bool-reads.Asked,
+      eval-bool-reads.Learnt,
+      run-list-below t,
+      run-list.Post,
+      skip-list-reads.Asked,
+      skip-list-reads.Learnt,
+    )
+    (run-stmt-at t)
+    run-stmt.Post
+    (run-stmt-shared-slice-read-op t)
+    (run-stmt-add-run-assign t)
+    (run-stmt-run-assign-requires t)
+    (run-stmt-add-eval-bool t)
+    (run-stmt-eval-bool-requires t)
+    (run-stmt-sub-run-list t)
+    (run-stmt-run-list-requires t)
+    (run-stmt-sub-skip-list t)
+    (run-stmt-skip-list-requires t)
+    (run-stmt-sub-skip-list-2 t)
+    (run-stmt-skip-list-requires-2 t)
+    (run-stmt-sub-run-list-2 t)
+    (run-stmt-run-list-requires-2 t)
+    (run-stmt-same-length t)
+    (run-stmt-returns t)
+    (run-stmt-same-length-2 t)
+    (run-stmt-returns-2 t)
+    (run-stmt-same-length-3 t)
+    (run-stmt-returns-3 t)

@@ -1,0 +1,56 @@
+use native.Mathlib.Omega.{arith}
+use Prim.Native.Nat.{_-_}
+use mathlib.Core.Logic.{⊎-elim}
+use Rattle.step.proofs.Externals.{Finding, finding-start, finding-here, finding-yes, finding-no, finding-end}
+use mathlib.Core.Path.{subst, sym}
+use Rattle.step.proofs.mover.external.Statement.{statement}
+use Rattle.step.proofs.mover.external.Tie as tie
+
+abbrev Inv-loop : tie.InvT-loop
+Inv-loop file nv k v₀ left₀ v left = Finding file nv k v left
+
+abbrev μ-loop : tie.MeasureT-loop
+μ-loop file nv k v₀ left₀ v left = nv - v
+
+loop-holds : tie.Need-loop-holds Inv-loop μ-loop
+loop-holds c = finding-start _ _ _ (c .pre .1)
+
+mul-if1 : tie.Need-mul-if1 Inv-loop μ-loop
+mul-if1 c = omega arith
+
+shared-slice-read-if1 : tie.Need-shared-slice-read-if1 Inv-loop μ-loop
+shared-slice-read-if1 c = omega arith
+
+returns : tie.Need-returns Inv-loop μ-loop
+returns c = (finding-here _ _ _ _ _ (c .before .before .before .loop-test .taken) (c .before .if1 .taken) (c .if2 .taken) (c .before .before .before .before .loop .inv), omega arith)
+
+sub-left : tie.Need-sub-left Inv-loop μ-loop
+sub-left c = omega arith
+
+add-v : tie.Need-add-v Inv-loop μ-loop
+add-v c = omega arith
+
+loop-less : tie.Need-loop-less Inv-loop μ-loop
+loop-less c = omega arith
+
+loop-again : tie.Need-loop-again Inv-loop μ-loop
+loop-again c = ⊎-elim (λ w. subst (Finding _ _ _ _) (sym (w .2)) (finding-yes _ _ _ _ _ (c .before .before .loop-test .taken) (w .0 .taken) (w .1 .left) (c .before .before .before .loop .inv))) (λ w. subst (Finding _ _ _ _) (sym (w .1)) (finding-no _ _ _ _ _ (c .before .before .loop-test .taken) (w .0 .left) (c .before .before .before .loop .inv))) (c .if1 .came)
+
+returns-2 : tie.Need-returns-2 Inv-loop μ-loop
+returns-2 c = absurd (finding-end _ _ _ _ _ (c .loop-test .left) (c .before .loop .inv))
+
+pub external-spec : {M : Type 1} → statement M
+external-spec =
+    tie.close
+    (tie.spec
+    Inv-loop
+    μ-loop
+    loop-holds
+    mul-if1
+    shared-slice-read-if1
+    returns
+    sub-left
+    add-v
+    loop-less
+    loop-again
+    returns-2)

@@ -1,0 +1,47 @@
+use native.Mathlib.Omega.{arith}
+use mathlib.Core.Path.{sym, _∙_}
+use Rattle.step.proofs.Cells.{sizes, normal-fields, guard-empty, guard-reads, guard-value}
+use borrow.Author.Needs.{needs}
+use Rattle.step.proofs.mover.guard_true.Statement.{statement}
+use Rattle.step.proofs.mover.guard_true.Tie as tie
+
+add-wide : tie.Need-add-wide
+add-wide c = search needs
+
+shared-slice-read-wide : tie.Need-shared-slice-read-wide
+shared-slice-read-wide c = search needs
+
+wide-requires : tie.Need-wide-requires
+wide-requires c κs = search needs
+
+returns : tie.Need-returns
+returns c = λ x. guard-empty _ _ _ _ _ (c .before .before .before .before .before .pre .0) _ x (sym (c .before .wide .ensures .0) ∙ c .if1 .taken)
+
+add-eval-bool : tie.Need-add-eval-bool
+add-eval-bool c = search needs
+
+add-eval-bool-2 : tie.Need-add-eval-bool-2
+add-eval-bool-2 c = search needs
+
+add-eval-bool-3 : tie.Need-add-eval-bool-3
+add-eval-bool-3 c = search needs
+
+eval-bool-requires : tie.Need-eval-bool-requires
+eval-bool-requires c κs = (guard-reads _ _ _ _ _ (c .before .before .before .before .before .pre .0) _ (c .before .before .before .before .before .pre .1) _ (c .before .wide .ensures .0) (c .if1 .left), omega (arith, c .before .wide .ensures .0, normal-fields _ _ _ _ _ (c .before .before .before .before .before .pre .0) _ (c .before .before .before .before .before .pre .1) .past, sizes _ _ _ _ _ (c .before .before .before .before .before .pre .0)), omega (arith, c .before .before .before .before .before .pre .0 .size))
+
+returns-2 : tie.Need-returns-2
+returns-2 c = λ x. guard-value _ _ _ _ _ (c .before .before .before .before .before .before .pre .0) _ x _ (c .before .before .wide .ensures .0) (c .before .if1 .left) _ (c .eval-bool .ensures .0)
+
+pub guard-true-spec : {M : Type 1} → statement M
+guard-true-spec =
+    tie.close
+    (tie.spec
+    add-wide
+    shared-slice-read-wide
+    wide-requires
+    returns
+    add-eval-bool
+    add-eval-bool-2
+    add-eval-bool-3
+    eval-bool-requires
+    returns-2)

@@ -1,0 +1,37 @@
+-- What contracts of code that walks accepted bytes say: of what a reader found there, its value and the position past it.
+use mathlib.Core.Bool.{Bool, true, false}
+use Prim.Native.Nat.{ℕ}
+use Rattle.design.specs.Tree.{IntExpr, BoolExpr, Stmt, Stmts}
+use Rattle.design.specs.State.{State, Layout}
+use Rattle.design.specs.Reading.{Read, got, bad}
+use Rattle.step.specs.Evaluation.{evalInt, evalBool}
+use Rattle.step.specs.OneStep.{execute, executeAll}
+
+abbrev pub isRead : {A : Type 0} → Read A → Bool
+isRead (got a n) = true
+isRead bad = false
+
+abbrev pub past : {A : Type 0} → Read A → ℕ
+past (got a n) = n
+past bad = 0
+
+abbrev pub valueOf : {A B : Type 0} → (A → B) → B → Read A → B
+valueOf f z (got a n) = f a
+valueOf f z bad = z
+
+-- the layout of a design with so many variables
+abbrev pub layoutOf : ℕ → Layout
+layoutOf n = record { statuses = n }
+
+abbrev pub intValue : Layout → State → Read IntExpr → ℕ
+intValue l s x = valueOf (evalInt l s) 0 x
+
+abbrev pub boolValue : Layout → State → Read BoolExpr → Bool
+boolValue l s x = valueOf (evalBool l s) false x
+
+-- the state after the statement, or the list of statements
+abbrev pub afterStmt : Layout → Read Stmt → State → State
+afterStmt l x s = valueOf {B = State → State} (λ (t : Stmt) (z : State). execute t l z) (λ z. z) x s
+
+abbrev pub afterList : Layout → Read Stmts → State → State
+afterList l x s = valueOf {B = State → State} (λ (t : Stmts) (z : State). executeAll t l z) (λ z. z) x s

@@ -1,0 +1,52 @@
+-- The state as the calls take and give it, 32 values and 8 statuses, and refusal 11 (document 01, "Turned-back calls").
+-- A value is a signed 16-bit number. In a slot stands its pattern.
+use mathlib.Core.Bool.{Bool, true, false}
+use mathlib.Core.List.{List, [], _∷_, _++_, map}
+use Prim.Native.Nat.{ℕ, suc, _-_}
+use lib.IntN.{ℤ, pos}
+use lib.ListN.{length, take, drop, replicate}
+use lib.Dec.{ltb, leb, eqb}
+use Rattle.design.specs.Tree.{Kind, boolean, integer, external, Variable, Design}
+use Rattle.design.specs.State.{State}
+use Rattle.design.specs.Limits.{maxVariables, maxMatrices}
+use Rattle.step.specs.Pattern.{signed, wrap}
+
+-- "Boolean not 0/1": an external is a Boolean too
+abbrev pub rightKind : Kind → ℕ → Bool
+rightKind boolean p = leb p 1
+rightKind integer p = true
+rightKind external p = leb p 1
+
+-- each entry is right, or "unused entry nonzero"
+abbrev pub valuesRight : List Variable → List ℕ → List Bool
+valuesRight xs [] = []
+valuesRight [] (p ∷ ps) = eqb p 0 ∷ valuesRight [] ps
+valuesRight (x ∷ xs) (p ∷ ps) = rightKind (x .kind) p ∷ valuesRight xs ps
+
+-- "status too high": `counts` are the matrices' status counts
+abbrev pub statusesRight : List ℕ → List ℕ → List Bool
+statusesRight counts [] = []
+statusesRight [] (s ∷ ss) = eqb s 0 ∷ statusesRight [] ss
+statusesRight (n ∷ ns) (s ∷ ss) = ltb s n ∷ statusesRight ns ss
+
+-- how many are right before the first that is not: its index, or all
+abbrev pub firstWrong : List Bool → ℕ
+firstWrong [] = 0
+firstWrong (false ∷ ts) = 0
+firstWrong (true ∷ ts) = suc (firstWrong ts)
+
+module _ (d : Design) where
+  -- "(place: first such index, statuses from 32)": there are 32 values
+  abbrev pub entriesRight : List ℤ → List ℕ → List Bool
+  entriesRight values statuses = valuesRight (d .variables) (map wrap values) ++ statusesRight (d .statuses) statuses
+
+  -- the state that entries give
+  abbrev pub slotsOf : List ℤ → List ℕ → State
+  slotsOf values statuses = take (length (d .variables)) (map wrap values) ++ take (length (d .statuses)) statuses
+
+  -- the entries that a state gives; unused ones are 0
+  abbrev pub valuesOf : State → List ℤ
+  valuesOf s = take (length (d .variables)) (map signed s) ++ replicate (maxVariables - length (d .variables)) (pos 0)
+
+  abbrev pub statusesOf : State → List ℕ
+  statusesOf s = drop (length (d .variables)) s ++ replicate (maxMatrices - length (d .statuses)) 0

@@ -1,0 +1,88 @@
+-- What one step does, what a list of choices does, and what it breaks (document 01, "One step").
+use mathlib.Core.Bool.{Bool, true, false, not, _&&_, _||_, cond}
+use mathlib.Core.List.{List, [], _∷_}
+use mathlib.Core.Option.{Option, none, some}
+use Prim.Native.Nat.{ℕ, zero, suc}
+use lib.Dec.{leb, eqb}
+use lib.ListN.{length, getD, set, take, getElem?}
+use Rattle.design.specs.Tree.{BoolExpr, Stmt, Stmts, assign, assignB, ifElse, done, then, Cell, InvalidCell, Design, Mover, cell, raise, movers, truth, bit}
+use Rattle.design.specs.State.{State, Layout, layout, statusSlot, start}
+use Rattle.step.specs.Evaluation.{evalInt, evalBool}
+
+-- "its statements run in order, each reading what earlier ones left"
+unfoldable mutual
+  pub execute : Stmt → Layout → State → State
+  execute (assign v e) l s = set s v (evalInt l s e)
+  execute (assignB v e) l s = set s v (bit (evalBool l s e))
+  execute (ifElse c a b) l s = cond (evalBool l s c) (executeAll a l s) (executeAll b l s)
+
+  pub executeAll : Stmts → Layout → State → State
+  executeAll done l s = s
+  executeAll (then x xs) l s = executeAll xs l (execute x l s)
+
+-- a matrix has this status and the event is true
+abbrev pub statusAndEvent : Layout → State → ℕ → ℕ → BoolExpr → Bool
+statusAndEvent l s m st event = eqb (getD s (statusSlot l m) 0) st && evalBool l s event
+
+-- "A cell is enabled when its matrix has its status and event and guard are true"; "an external is enabled when false"
+unfoldable pub enabled : Layout → State → Mover → Bool
+enabled l s (cell c) = statusAndEvent l s (c .matrix) (c .status) (c .event) && evalBool l s (c .guard)
+enabled l s (raise v) = not (truth (getD s v 0))
+
+-- "then its statements run in order, .. and the status becomes the target"; an external "becomes true"
+unfoldable pub effect : Layout → State → Mover → State
+effect l s (cell c) = set (executeAll (c .action) l s) (statusSlot l (c .matrix)) (c .target)
+effect l s (raise v) = set s v 1
+
+-- "A disabled choice is idle and changes nothing."
+unfoldable pub move : Layout → State → Mover → State
+move l s m = cond (enabled l s m) (effect l s m) s
+
+-- of the mover that a choice names, if it names one
+abbrev pub moved : Layout → State → Option Mover → State
+moved l s none = s
+moved l s (some m) = move l s m
+
+abbrev pub idles : Layout → State → Option Mover → Bool
+idles l s none = true
+idles l s (some m) = not (enabled l s m)
+
+-- at no invalid cell do status and event hold together
+abbrev pub noInvalid : Layout → State → List InvalidCell → Bool
+noInvalid l s [] = true
+noInvalid l s (c ∷ cs) = not (statusAndEvent l s (c .matrix) (c .status) (c .event)) && noInvalid l s cs
+
+module _ (d : Design) where
+  -- A choice (document 01's term) is a mover number.
+  unfoldable pub step : State → ℕ → State
+  step s c = moved (layout d) s (getElem? (movers d) c)
+
+  unfoldable pub idle : State → ℕ → Bool
+  idle s c = idles (layout d) s (getElem? (movers d) c)
+
+  -- the state that a list of choices leads to
+  unfoldable pub run : State → List ℕ → State
+  run s [] = s
+  run s (c ∷ cs) = run (step s c) cs
+
+  -- Property 0 is the invariant, property 1 that at no invalid cell status and event hold together.
+  unfoldable pub property : ℕ → State → Bool
+  property zero s = evalBool (layout d) s (d .invariant)
+  property (suc p) s = noInvalid (layout d) s (d .invalid)
+
+  -- "It breaks the property at step i if the property is false after its first i choices; step 0 is the first state."
+  unfoldable pub breaksAt : ℕ → List ℕ → ℕ → Bool
+  breaksAt p cs i = leb i (length cs) && not (property p (run (start d) (take i cs)))
+
+  -- "A list of choices breaks a property if it is false in the first state or after any choice."
+  unfoldable pub breaksFrom : ℕ → State → List ℕ → Bool
+  breaksFrom p s [] = not (property p s)
+  breaksFrom p s (c ∷ cs) = not (property p s) || breaksFrom p (step s c) cs
+
+  unfoldable pub breaks : ℕ → List ℕ → Bool
+  breaks p cs = breaksFrom p (start d) cs
+
+-- Not part of the step rule: to unfold this is to unfold all of it, for facts about given designs.
+unfoldable pub stepping : ℕ
+unfolding evalInt evalBool execute executeAll enabled effect move step idle run property breaksAt breaksFrom breaks movers layout start
+stepping = 0

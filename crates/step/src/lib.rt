@@ -1,0 +1,97 @@
+// The step rule: START, STEP, HOLDS, REPLAY.
+pub mod calls;
+pub mod evaluate;
+pub mod execute;
+pub mod interface;
+pub mod mover;
+pub mod number;
+pub mod property;
+pub mod replaying;
+
+ghost use mathlib.Core.Path.{_≡_};
+ghost use Rattle.step.specs.Operations.{START, STEP, HOLDS, REPLAY};
+use calls::holds_accepted;
+use calls::refuse_holds;
+use calls::refuse_start;
+use calls::refuse_step;
+use calls::start_accepted;
+use calls::step_accepted;
+use design::Refusal;
+use replaying::refuse_replay;
+use replaying::replay_accepted;
+
+// A refusal of number 0 is none.
+pub struct Started {
+    pub refusal: Refusal,
+    pub values: [i16; 32],
+    pub statuses: [u16; 8],
+}
+
+pub struct Stepped {
+    pub refusal: Refusal,
+    pub values: [i16; 32],
+    pub statuses: [u16; 8],
+    pub idle: bool,
+}
+
+pub struct Held {
+    pub refusal: Refusal,
+    pub holds: bool,
+}
+
+// The first breaking step, where there is one.
+pub struct Replayed {
+    pub refusal: Refusal,
+    pub broken: bool,
+    pub step: usize,
+}
+
+// START
+pub fn start(file: &[u8]) -> Started
+    ensures { λ r. ⌜ r ≡ START (now (file .entry)) ⌝ }
+{
+    let checked = design::check(file);
+    if checked.number != 0 {
+        return refuse_start(checked.number, checked.place);
+    }
+    start_accepted(file)
+}
+
+// STEP
+pub fn step(file: &[u8], values: [i16; 32], statuses: [u16; 8], choice: u8) -> Stepped
+    ensures { λ r. ⌜ r ≡ STEP (now (file .entry)) values statuses choice ⌝ }
+{
+    let checked = design::check(file);
+    if checked.number != 0 {
+        return refuse_step(checked.number, checked.place);
+    }
+    step_accepted(file, values, statuses, choice)
+}
+
+// HOLDS
+pub fn holds(file: &[u8], values: [i16; 32], statuses: [u16; 8], property: u8) -> Held
+    ensures { λ r. ⌜ r ≡ HOLDS (now (file .entry)) values statuses property ⌝ }
+{
+    let checked = design::check(file);
+    if checked.number != 0 {
+        return refuse_holds(checked.number, checked.place);
+    }
+    holds_accepted(file, values, statuses, property)
+}
+
+// REPLAY
+pub fn replay(file: &[u8], property: u8, choices: &[u8]) -> Replayed
+    ensures { λ r. ⌜ r ≡ REPLAY (now (file .entry)) property (now (choices .entry)) ⌝ }
+{
+    let checked = design::check(file);
+    if checked.number != 0 {
+        return refuse_replay(checked.number, checked.place);
+    }
+    if 1 < property {
+        return refuse_replay(13, 0);
+    }
+    if 100 < choices.len() {
+        return refuse_replay(14, 0);
+    }
+    replay_accepted(file, property, choices)
+}

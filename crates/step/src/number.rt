@@ -1,0 +1,46 @@
+// Integers as 16-bit patterns.
+ghost use mathlib.Core.Path.{_≡_};
+ghost use Rattle.step.specs.Pattern.{plus, minus, below, signed, wrap};
+
+// The sum of two 16-bit patterns, wrapped.
+pub fn plus16(a: u16, b: u16) -> u16
+    ensures { λ r. ⌜ r ≡ plus a b ⌝ }
+{
+    std::num::wrapping_add_u16(a, b)
+}
+
+// Their difference, wrapped.
+pub fn minus16(a: u16, b: u16) -> u16
+    ensures { λ r. ⌜ r ≡ minus a b ⌝ }
+{
+    std::num::wrapping_sub_u16(a, b)
+}
+
+// Whether a is below b as a signed number.
+pub fn below16(a: u16, b: u16) -> bool
+    ensures { λ r. ⌜ r ≡ below a b ⌝ }
+{
+    plus16(a, 32768) < plus16(b, 32768)
+}
+
+// The pattern of a signed number.
+pub fn pattern(x: i16) -> u16
+    ensures { λ r. ⌜ r ≡ wrap x ⌝ }
+{
+    if x < 0 {
+        ((x as i32) + 65536) as u16
+    } else {
+        x as u16
+    }
+}
+
+// The signed number that a pattern stands for.
+pub fn integer(p: u16) -> i16
+    ensures { λ r. ⌜ r ≡ signed p ⌝ }
+{
+    if p < 32768 {
+        p as i16
+    } else {
+        ((p as i32) - 65536) as i16
+    }
+}
