@@ -1,0 +1,257 @@
+-- The circuits on bits: sum, difference, signed less, equal, each over any width w. The number that bits stand for is low first.
+use mathlib.Core.Path.{_≡_, refl, sym, ap, ap₂, _∙_}
+use mathlib.Core.Bool.{Bool, true, false, not, _&&_, _||_}
+use mathlib.Core.List.{[], _∷_, map}
+use Prim.Native.Nat.{ℕ, zero, suc, _+_, _-_, _*_, _^_, _%_, _<_, _≤_}
+use native.Mathlib.Nat.{le-refl, pow-suc, mul-comm, mod-eq-of-lt, add-mul-mod-self-left}
+use native.Mathlib.Omega.{arith}
+use lib.Dec.{ltb, eqb}
+use borrow.Author.Tests.{eqb-true, eqb-false, eq-eqb, ne-eqb, lt-ltb, le-ltb}
+use lib.ListN.{length}
+use Rattle.design.specs.Tree.{bit}
+use Rattle.clauses.specs.Literal.{Literal, negate, yes!, no! }
+use Rattle.clauses.specs.Meaning.{Assignment, literalTrue}
+use Rattle.clauses.specs.Circuit.{Bits, Summed, sum!, difference!, negateTop, less!, xors!, chain!, equal! }
+use Rattle.clauses.proofs.Gates.{differ, negate-true, and-assoc}
+use Rattle.clauses.proofs.Correct.{LiteralBelow, Correct, correct-give, correct-bind, correct-weaken, correct-means, and-correct, xor-correct, or-correct, negate-below}
+
+abbrev pub BitsBelow : ℕ → Bits → Type 0
+BitsBelow n [] = Unit {0}
+BitsBelow n (l ∷ ls) = LiteralBelow n l × BitsBelow n ls
+
+pub bits-up : {n k : ℕ} → n ≤ k → (xs : Bits) → BitsBelow n xs → BitsBelow k xs
+bits-up h [] b = tt
+bits-up h (x ∷ xs) b = (omega arith, bits-up h xs (b .1))
+
+-- so many bits, below k
+pub record Word (w k : ℕ) (xs : Bits) : Type 0 where
+  pub below : BitsBelow k xs
+  pub wide : length xs ≡ w
+
+pub word-up : {w n k : ℕ} {xs : Bits} → n ≤ k → Word w n xs → Word w k xs
+word-up {xs = xs} h x = record { below = bits-up h xs (x .below); wide = x .wide }
+
+-- the number that bits stand for
+abbrev pub number : Assignment → Bits → ℕ
+number ρ [] = 0
+number ρ (l ∷ ls) = bit (literalTrue ρ l) + 2 * number ρ ls
+
+full-adder : (a b c : Bool) → bit (differ (differ a b) c) + 2 * bit ((a && b) || (differ a b && c)) ≡ bit a + bit b + bit c
+full-adder true true true = refl
+full-adder true true false = refl
+full-adder true false true = refl
+full-adder true false false = refl
+full-adder false true true = refl
+full-adder false true false = refl
+full-adder false false true = refl
+full-adder false false false = refl
+
+suc-inj : {a b : ℕ} → suc a ≡ suc b → a ≡ b
+suc-inj e = omega arith
+
+-- bits and last carry together are the sum
+abbrev SumLaw : Bits → Bits → Literal → Assignment → Summed → Type 0
+SumLaw xs ys c ρ r = number ρ (r .bits) + 2 ^ length xs * bit (literalTrue ρ (r .carry)) ≡ number ρ xs + number ρ ys + bit (literalTrue ρ c)
+
+record SumShape (w k : ℕ) (r : Summed) : Type 0 where
+  bits : Word w k (r .bits)
+  carry : LiteralBelow k (r .carry)
+
+ripple : (x y c s d cy : ℕ) (X Y R W : ℕ) → s + 2 * d ≡ x + y + c → R + W * cy ≡ X + Y + d
+    → (s + 2 * R) + 2 * W * cy ≡ (x + 2 * X) + (y + 2 * Y) + c
+ripple x y c s d cy X Y R W p q = omega arith
+
+sum-correct : (xs ys : Bits) (c : Literal) (n : ℕ) → length xs ≡ length ys → BitsBelow n xs → BitsBelow n ys → LiteralBelow n c
+    → Correct n (sum! xs ys c n) (SumShape (length xs)) (SumLaw xs ys c)
+unfolding sum!
+sum-correct [] [] c n e bx by bc = correct-give _ (record { bits = record { below = tt; wide = refl }; carry = bc }) λ ρ t. omega arith
+sum-correct [] (y ∷ ys) c n e bx by bc = absurd (omega arith)
+sum-correct (x ∷ xs) [] c n e bx by bc = absurd (omega arith)
+sum-correct (x ∷ xs) (y ∷ ys) c n e bx by bc =
+    correct-bind _ _ (xor-correct x y n (bx .0) (by .0)) λ p k₁ l₁ bp.
+    correct-bind _ _ (xor-correct p c k₁ bp (omega arith)) λ s k₂ l₂ bs.
+    correct-bind _ _ (and-correct x y k₂ (omega (arith, bx .0)) (omega (arith, by .0))) λ u k₃ l₃ bu.
+    correct-bind _ _ (and-correct p c k₃ (omega arith) (omega arith)) λ t k₄ l₄ bt.
+    correct-bind _ _ (or-correct u t k₄ (omega arith) bt) λ c′ k₅ l₅ bc′.
+    correct-bind _ _ (sum-correct xs ys c′ k₅ (suc-inj e) (bits-up (omega arith) xs (bx .1)) (bits-up (omega arith) ys (by .1)) bc′) λ r k₆ l₆ br.
+    correct-give _ (record { bits = record { below = (omega arith, br .bits .below); wide = ap suc (br .bits .wide) }; carry = br .carry })
+    λ ρ one er ec et eu es ep.
+    let h : bit (literalTrue ρ s) + 2 * bit (literalTrue ρ c′) ≡ bit (literalTrue ρ x) + bit (literalTrue ρ y) + bit (literalTrue ρ c)
+    = rw (es, ec, et, eu, ep) (full-adder (literalTrue ρ x) (literalTrue ρ y) (literalTrue ρ c)) in
+    rw (pow-suc 2 (length xs), mul-comm (2 ^ length xs) 2)
+    (ripple (bit (literalTrue ρ x)) (bit (literalTrue ρ y)) (bit (literalTrue ρ c)) (bit (literalTrue ρ s)) (bit (literalTrue ρ c′)) (bit (literalTrue ρ (r .carry)))
+    (number ρ xs) (number ρ ys) (number ρ (r .bits)) (2 ^ length xs) h er)
+
+-- bits stand for a number below the power of their count
+pub number-lt : (ρ : Assignment) (xs : Bits) → number ρ xs < 2 ^ length xs
+number-lt ρ [] = le-refl 1
+number-lt ρ (x ∷ xs) = let h = number-lt ρ xs in let b = bit-le (literalTrue ρ x) in rw (pow-suc 2 (length xs)) (omega arith)
+  where
+    bit-le : (b : Bool) → bit b ≤ 1
+    bit-le true = le-refl 1
+    bit-le false = omega arith
+
+pub length-negate : (xs : Bits) → length (map negate xs) ≡ length xs
+length-negate [] = refl
+length-negate (x ∷ xs) = ap suc (length-negate xs)
+
+bits-negate : (n : ℕ) (xs : Bits) → BitsBelow n xs → BitsBelow n (map negate xs)
+bits-negate n [] b = tt
+bits-negate n (x ∷ xs) b = (negate-below n x (b .0), bits-negate n xs (b .1))
+
+-- bits and their negations sum to the ones
+number-negate : (ρ : Assignment) (xs : Bits) → number ρ (map negate xs) + number ρ xs + 1 ≡ 2 ^ length xs
+number-negate ρ [] = refl
+number-negate ρ (x ∷ xs) = let h = number-negate ρ xs in let b = bit-not (literalTrue ρ x) in rw (negate-true ρ x, pow-suc 2 (length xs)) (omega arith)
+  where
+    bit-not : (b : Bool) → bit (not b) + bit b ≡ 1
+    bit-not true = refl
+    bit-not false = refl
+
+mod-of : (a b W q : ℕ) → a < W → a + W * q ≡ b → a ≡ b % W
+mod-of a b W q h e = sym (mod-eq-of-lt h) ∙ sym (add-mul-mod-self-left a W q) ∙ ap (λ x. x % W) e
+
+-- the sum's bits alone, modulo the power of the width
+sum-mod : (w : ℕ) (ρ : Assignment) (xs ys : Bits) (c : Literal) (r : Summed) (k : ℕ) → length xs ≡ w → SumShape (length xs) k r → SumLaw xs ys c ρ r
+    → number ρ (r .bits) ≡ (number ρ xs + number ρ ys + bit (literalTrue ρ c)) % 2 ^ w
+sum-mod w ρ xs ys c r k e sh law =
+    mod-of (number ρ (r .bits)) (number ρ xs + number ρ ys + bit (literalTrue ρ c)) (2 ^ w) (bit (literalTrue ρ (r .carry)))
+    (rw (sh .bits .wide ∙ e) at (number-lt ρ (r .bits))) (rw e at law)
+
+abbrev SummedWord : ℕ → ℕ → Summed → Type 0
+SummedWord w k r = Word w k (r .bits)
+
+-- "sums and differences wrap"
+pub add-correct : (w : ℕ) (xs ys : Bits) (n : ℕ) → 1 < n → Word w n xs → Word w n ys
+    → Correct n (sum! xs ys no! n) (SummedWord w) (λ ρ r. number ρ (r .bits) ≡ (number ρ xs + number ρ ys) % 2 ^ w)
+add-correct w xs ys n h bx by =
+    correct-weaken (sum-correct xs ys no! n (bx .wide ∙ sym (by .wide)) (bx .below) (by .below) (omega arith)) λ r k l br. (
+      record { below = br .bits .below; wide = br .bits .wide ∙ bx .wide },
+      λ ρ one e. sum-mod w ρ xs ys no! r k (bx .wide) br e ∙ ap (λ x. x % 2 ^ w) (rw one (omega arith)),
+    )
+
+minus-negate : (x y f W : ℕ) → f + y + 1 ≡ W → x + f + 1 ≡ x + (W - y)
+minus-negate x y f W e = omega arith
+
+pub difference-correct : (w : ℕ) (xs ys : Bits) (n : ℕ) → 1 < n → Word w n xs → Word w n ys
+    → Correct n (difference! xs ys n) (SummedWord w) (λ ρ r. number ρ (r .bits) ≡ (number ρ xs + (2 ^ w - number ρ ys)) % 2 ^ w)
+unfolding difference!
+difference-correct w xs ys n h bx by =
+    correct-weaken (sum-correct xs (map negate ys) yes! n (bx .wide ∙ sym (length-negate ys ∙ by .wide)) (bx .below) (bits-negate n ys (by .below)) (omega arith)) λ r k l br. (
+      record { below = br .bits .below; wide = br .bits .wide ∙ bx .wide },
+      λ ρ one e. sum-mod w ρ xs (map negate ys) yes! r k (bx .wide) br e
+          ∙ ap (λ x. x % 2 ^ w) (rw one (minus-negate (number ρ xs) (number ρ ys) (number ρ (map negate ys)) (2 ^ w) (rw (by .wide) at (number-negate ρ ys)))),
+    )
+
+-- the top bit negated: half the range is added
+abbrev top : Assignment → Bits → Bool
+top ρ [] = false
+top ρ (x ∷ []) = literalTrue ρ x
+top ρ (x ∷ y ∷ ys) = top ρ (y ∷ ys)
+
+top-step : (x F t N P Q : ℕ) → F + Q * t ≡ N + P → x + 2 * F + Q * 2 * t ≡ x + 2 * N + P * 2
+top-step x F t N P Q e = omega arith
+
+number-negateTop : (ρ : Assignment) (v : ℕ) (xs : Bits) → length xs ≡ suc v → number ρ (negateTop xs) + 2 ^ suc v * bit (top ρ xs) ≡ number ρ xs + 2 ^ v
+number-negateTop ρ v [] e = absurd (omega arith)
+number-negateTop ρ zero (x ∷ []) e = rw (negate-true ρ x) (go (literalTrue ρ x))
+  where
+    go : (b : Bool) → bit (not b) + 2 * 0 + 2 ^ 1 * bit b ≡ bit b + 2 * 0 + 2 ^ 0
+    go true = refl
+    go false = refl
+number-negateTop ρ zero (x ∷ y ∷ ys) e = absurd (omega arith)
+number-negateTop ρ (suc v) (x ∷ []) e = absurd (omega arith)
+number-negateTop ρ (suc v) (x ∷ y ∷ ys) e =
+    rw (← pow-suc 2 (suc v), ← pow-suc 2 v) at
+    (top-step (bit (literalTrue ρ x)) (number ρ (negateTop (y ∷ ys))) (bit (top ρ (y ∷ ys))) (number ρ (y ∷ ys)) (2 ^ v) (2 ^ suc v)
+    (number-negateTop ρ v (y ∷ ys) (suc-inj e)))
+
+pub length-negateTop : (xs : Bits) → length (negateTop xs) ≡ length xs
+length-negateTop [] = refl
+length-negateTop (x ∷ []) = refl
+length-negateTop (x ∷ y ∷ ys) = ap suc (length-negateTop (y ∷ ys))
+
+bits-negateTop : (n : ℕ) (xs : Bits) → BitsBelow n xs → BitsBelow n (negateTop xs)
+bits-negateTop n [] b = tt
+bits-negateTop n (x ∷ []) b = (negate-below n x (b .0), tt)
+bits-negateTop n (x ∷ y ∷ ys) b = (b .0, bits-negateTop n (y ∷ ys) (b .1))
+
+-- the last carry of A - B is 1 exactly when B ≤ A
+last-carry : (c : Bool) (A B W r : ℕ) → r < W → B < W → A < W → r + W * bit c ≡ A + (W - B) → not c ≡ ltb A B
+last-carry true A B W r hr hb ha e = sym (le-ltb A B (omega arith))
+last-carry false A B W r hr hb ha e = sym (lt-ltb A B (omega arith))
+
+-- signed less: the order of what is left when half the range is added
+pub less-correct : (v : ℕ) (xs ys : Bits) (n : ℕ) → 1 < n → Word (suc v) n xs → Word (suc v) n ys
+    → Correct n (less! xs ys n) LiteralBelow (λ ρ r. literalTrue ρ r ≡ ltb ((number ρ xs + 2 ^ v) % 2 ^ suc v) ((number ρ ys + 2 ^ v) % 2 ^ suc v))
+unfolding less! difference!
+less-correct v xs ys n h bx by =
+    let ex = length-negateTop xs ∙ bx .wide in
+    let ey = length-negateTop ys ∙ by .wide in
+    correct-bind _ _ (sum-correct (negateTop xs) (map negate (negateTop ys)) yes! n (ex ∙ sym (length-negate (negateTop ys) ∙ ey))
+    (bits-negateTop n xs (bx .below)) (bits-negate n (negateTop ys) (bits-negateTop n ys (by .below))) (omega arith)) λ r k l br.
+    correct-give _ (negate-below k (r .carry) (br .carry)) λ ρ one e.
+    let X = number ρ (negateTop xs) in
+    let Y = number ρ (negateTop ys) in
+    let hx : X < 2 ^ suc v = rw ex at (number-lt ρ (negateTop xs)) in
+    let hy : Y < 2 ^ suc v = rw ey at (number-lt ρ (negateTop ys)) in
+    let hr : number ρ (r .bits) < 2 ^ suc v = rw (br .bits .wide ∙ ex) at (number-lt ρ (r .bits)) in
+    let fy : number ρ (map negate (negateTop ys)) + Y + 1 ≡ 2 ^ suc v = rw ey at (number-negate ρ (negateTop ys)) in
+    let e′ : number ρ (r .bits) + 2 ^ suc v * bit (literalTrue ρ (r .carry)) ≡ X + (2 ^ suc v - Y)
+    = rw (ex, one) at e ∙ minus-negate X Y (number ρ (map negate (negateTop ys))) (2 ^ suc v) fy in
+    negate-true ρ (r .carry)
+    ∙ last-carry (literalTrue ρ (r .carry)) X Y (2 ^ suc v) (number ρ (r .bits)) hr hy hx e′
+    ∙ ap₂ ltb
+    (mod-of X (number ρ xs + 2 ^ v) (2 ^ suc v) (bit (top ρ xs)) hx (number-negateTop ρ v xs (bx .wide)))
+    (mod-of Y (number ρ ys + 2 ^ v) (2 ^ suc v) (bit (top ρ ys)) hy (number-negateTop ρ v ys (by .wide)))
+
+-- equal
+abbrev every : Assignment → Bits → Bool
+every ρ [] = true
+every ρ (l ∷ ls) = literalTrue ρ l && every ρ ls
+
+and-true : (a : Bool) → a ≡ a && true
+and-true true = refl
+and-true false = refl
+
+chain-correct : (c : Literal) (xs : Bits) (n : ℕ) → LiteralBelow n c → BitsBelow n xs
+    → Correct n (chain! c xs n) LiteralBelow (λ ρ r. literalTrue ρ r ≡ literalTrue ρ c && every ρ xs)
+unfolding chain!
+chain-correct c [] n bc bx = correct-give _ bc λ ρ one. and-true (literalTrue ρ c)
+chain-correct c (x ∷ xs) n bc bx =
+    correct-bind _ _ (and-correct c x n bc (bx .0)) λ y k l by.
+    correct-means (chain-correct y xs k by (bits-up l xs (bx .1))) λ ρ a one e ey.
+    e ∙ ap (λ b. b && every ρ xs) ey ∙ and-assoc (literalTrue ρ c) (literalTrue ρ x) (every ρ xs)
+
+eqb-same : (a b c d : ℕ) → (a ≡ b → c ≡ d) → (c ≡ d → a ≡ b) → eqb a b ≡ eqb c d
+eqb-same a b c d f g = go (eqb a b) refl
+  where
+    go : (t : Bool) → eqb a b ≡ t → t ≡ eqb c d
+    go true e = sym (eq-eqb c d (f (eqb-true a b e)))
+    go false e = sym (ne-eqb c d (λ q. eqb-false a b e (g q)))
+
+same-step : (a b : Bool) (n m : ℕ) → not (differ a b) && eqb n m ≡ eqb (bit a + 2 * n) (bit b + 2 * m)
+same-step true true n m = eqb-same n m (1 + 2 * n) (1 + 2 * m) (λ e. omega arith) (λ e. omega arith)
+same-step false false n m = eqb-same n m (0 + 2 * n) (0 + 2 * m) (λ e. omega arith) (λ e. omega arith)
+same-step true false n m = sym (ne-eqb (1 + 2 * n) (0 + 2 * m) (λ e. omega arith))
+same-step false true n m = sym (ne-eqb (0 + 2 * n) (1 + 2 * m) (λ e. omega arith))
+
+xors-correct : (xs ys : Bits) (n : ℕ) → length xs ≡ length ys → BitsBelow n xs → BitsBelow n ys
+    → Correct n (xors! xs ys n) BitsBelow (λ ρ r. every ρ (map negate r) ≡ eqb (number ρ xs) (number ρ ys))
+unfolding xors!
+xors-correct [] [] n e bx by = correct-give _ tt λ ρ one. refl
+xors-correct [] (y ∷ ys) n e bx by = absurd (omega arith)
+xors-correct (x ∷ xs) [] n e bx by = absurd (omega arith)
+xors-correct (x ∷ xs) (y ∷ ys) n e bx by =
+    correct-bind _ _ (xor-correct x y n (bx .0) (by .0)) λ z k l bz.
+    correct-bind _ _ (xors-correct xs ys k (suc-inj e) (bits-up l xs (bx .1)) (bits-up l ys (by .1))) λ r k′ l′ br.
+    correct-give _ (omega arith, br) λ ρ one er ez.
+    rw (negate-true ρ z, er, ez) (same-step (literalTrue ρ x) (literalTrue ρ y) (number ρ xs) (number ρ ys))
+
+pub equal-correct : (w : ℕ) (xs ys : Bits) (n : ℕ) → 1 < n → Word w n xs → Word w n ys
+    → Correct n (equal! xs ys n) LiteralBelow (λ ρ r. literalTrue ρ r ≡ eqb (number ρ xs) (number ρ ys))
+unfolding equal!
+equal-correct w xs ys n h bx by =
+    correct-bind _ _ (xors-correct xs ys n (bx .wide ∙ sym (by .wide)) (bx .below) (by .below)) λ r k l br.
+    correct-means (chain-correct yes! (map negate r) k (omega arith) (bits-negate k r br)) λ ρ a one e er.
+    e ∙ ap (λ b. b && every ρ (map negate r)) one ∙ er

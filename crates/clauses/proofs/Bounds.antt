@@ -1,0 +1,196 @@
+-- "the limits keep n below 2^31": the sizes of an accepted design, and of its formula for a bound up to 100.
+use mathlib.Core.Path.{_≡_, refl, sym, ap, _∙_}
+use mathlib.Core.Bool.{true, false}
+use mathlib.Core.List.{List, [], _∷_, _++_, map}
+use Prim.Native.Nat.{ℕ, zero, suc, _+_, _*_, _<_, _≤_}
+use native.Mathlib.Omega.{arith}
+use lib.Dec.{eqb}
+use borrow.Author.Tests.{eqb-true}
+use lib.ListN.{length, getD, replicate, length-map}
+use Rattle.design.specs.Tree.{BoolExpr, constantB, Kind, boolean, integer, external, Variable, Cell, InvalidCell, Design, Mover, cell, raise, ifExternal, externals, movers}
+use Rattle.design.specs.State.{width, statusWidth, widths}
+use Rattle.design.specs.Limits.{maxDepth, maxNest}
+use Rattle.design.specs.Reading.{Read, got, bad}
+use Rattle.design.specs.Expression.{Names, boolExpr}
+use Rattle.design.specs.DesignFile.{item, Matrix, Entry, normal, invalid, eventAt, guard, filling, c-matrix, c-event, c-guard, c-middle, c-past, c-kind, cellAt}
+use Rattle.design.specs.Check.{Checked, check, trailer, normals, invalids, matricesOffset, eventsOffset, cellsOffset, invariantOffset, names}
+use Rattle.design.proofs.Sections.{need-inv, item-same, Run, Rows, Cells, eventIn, Whole, whole}
+use Rattle.design.proofs.Positions.{event-reads, EntryRead, cell-reads, invariant-stands}
+use Rattle.clauses.specs.Formula.{total, S, w}
+use Rattle.clauses.specs.Cost.{gatesIn, boolCost, enableCost, effectCost, moverCost, moversCost, invalidCost, propertyCost, stepCost}
+use Rattle.clauses.proofs.Bytes.{bool-bytes, list-bytes}
+
+-- an event has at most 255 bytes
+abbrev Cheap : BoolExpr → Type 0
+Cheap e = gatesIn (boolCost e) ≤ 20400
+
+abbrev AllCheap : List BoolExpr → Type 0
+AllCheap [] = Unit {0}
+AllCheap (e ∷ es) = Cheap e × AllCheap es
+
+abbrev RowsCheap : List (List BoolExpr) → Type 0
+RowsCheap [] = Unit {0}
+RowsCheap (r ∷ rs) = AllCheap r × RowsCheap rs
+
+constant-cheap : Cheap (constantB false)
+unfolding boolCost
+constant-cheap = omega arith
+
+event-cheap : (row : List BoolExpr) (e : ℕ) → AllCheap row → Cheap (getD row e (constantB false))
+event-cheap [] e h = constant-cheap
+event-cheap (x ∷ xs) zero h = h .0
+event-cheap (x ∷ xs) (suc e) h = event-cheap xs e (h .1)
+
+row-cheap : (rows : List (List BoolExpr)) (m : ℕ) → RowsCheap rows → AllCheap (getD rows m [])
+row-cheap [] m h = tt
+row-cheap (r ∷ rs) zero h = h .0
+row-cheap (r ∷ rs) (suc m) h = row-cheap rs m (h .1)
+
+-- the slots' bits
+variables-total : (vs : List Variable) → total (map (λ (x : Variable). width (x .kind)) vs) ≤ 16 * length vs
+variables-total [] = omega arith
+variables-total (x ∷ xs) = let h = variables-total xs in let k = narrow (x .kind) in omega arith
+  where
+    narrow : (k : Kind) → width k ≤ 16
+    narrow boolean = omega arith
+    narrow integer = omega arith
+    narrow external = omega arith
+
+statuses-total : (m : ℕ) → total (replicate m statusWidth) ≡ 4 * m
+statuses-total zero = refl
+statuses-total (suc m) = let h = statuses-total m in omega arith
+
+total-append : (xs ys : List ℕ) → total (xs ++ ys) ≡ total xs + total ys
+total-append [] ys = omega arith
+total-append (x ∷ xs) ys = let h = total-append xs ys in omega arith
+
+-- movers one after the other
+movers-append : (bits : ℕ) (xs ys : List Mover) → gatesIn (moversCost bits (xs ++ ys)) ≡ gatesIn (moversCost bits xs) + gatesIn (moversCost bits ys)
+unfolding moversCost
+movers-append bits [] ys = omega arith
+movers-append bits (x ∷ xs) ys = let h = movers-append bits xs ys in omega arith
+
+raises-cost : (bits : ℕ) → bits ≤ 544 → (vs : List Variable) (v : ℕ) → gatesIn (moversCost bits (externals v vs)) ≤ 544 * length vs
+unfolding moversCost moverCost enableCost effectCost
+raises-cost bits few [] v = omega arith
+raises-cost bits few (x ∷ xs) v = go (x .kind) (raises-cost bits few xs (suc v))
+  where
+    go : (k : Kind) → gatesIn (moversCost bits (externals (suc v) xs)) ≤ 544 * length xs
+        → gatesIn (moversCost bits (ifExternal k (raise v ∷ externals (suc v) xs) (externals (suc v) xs))) ≤ 544 * suc (length xs)
+    go boolean h = omega arith
+    go integer h = omega arith
+    go external h = omega arith
+
+filling-reads : {A : Type 0} (i p past : ℕ) (r : Read A) (a : A) (n : ℕ) → filling i p past r ≡ item a n → r ≡ got a past
+filling-reads i p past (got b m) a n e =
+    let h = need-inv (eqb m past) i p (item b past) a n e in
+    let q : m ≡ past = eqb-true m past (h .0) in
+    let s : b ≡ a = item-same _ _ _ _ (h .1) in
+    cc
+filling-reads i p past bad a n e = let z : _≡_ {A = ℕ} 0 1 = cc in absurd (omega arith)
+
+module _ (file : List ℕ) (bytes : (i : ℕ) → getD file i 0 < 256) where
+  abbrev E : ℕ
+  E = trailer file
+
+  abbrev N : Names
+  N = names file
+
+  events-cheap : (row : List BoolExpr) (at past : ℕ) → Run (eventAt file E N) at row past → AllCheap row
+  events-cheap [] at past r = tt
+  events-cheap (x ∷ xs) at past r =
+      let e = event-reads file E N at x (r .0) (r .1) in
+      (omega (arith, bool-bytes file N (r .0) maxDepth (at + 1) .of x (r .0) (e .reads), e .past, bytes at), events-cheap xs (r .0) past (r .2))
+
+  rows-cheap : (rows : List (List BoolExpr)) (m at past : ℕ) → Rows file m at rows past → RowsCheap rows
+  rows-cheap [] m at past r = tt
+  rows-cheap (x ∷ xs) m at past r = (events-cheap x at (r .0) (r .2), rows-cheap xs (m + 1) (r .0) past (r .3))
+
+  guard-bytes : (at k : ℕ) (g : BoolExpr) (n : ℕ) → guard file E N at k ≡ item g n → gatesIn (boolCost g) + 80 * (at + 8) ≤ 80 * c-middle file at
+  unfolding boolCost
+  guard-bytes at zero g n e =
+      let q : constantB true ≡ g = item-same _ _ _ _ e in
+      let z : gatesIn (boolCost g) ≡ 0 = ap (λ x. gatesIn (boolCost x)) (sym q) in
+      omega arith
+  guard-bytes at (suc k) g n e =
+      bool-bytes file N (c-middle file at) maxDepth (at + 8) .of g (c-middle file at)
+      (filling-reads 8 at (c-middle file at) (boolExpr file N (c-middle file at) maxDepth (at + 8)) g n e)
+
+  module _ (bits : ℕ) (few : bits ≤ 544) (f : ℕ → ℕ → BoolExpr) (cheap : (m e : ℕ) → Cheap (f m e)) where
+    -- the gates of a cell's mover, or of an invalid cell in property 1
+    abbrev entryGates : Entry → ℕ
+    entryGates (normal c) = gatesIn (moverCost bits (cell c))
+    entryGates (invalid p) = gatesIn (invalidCost (p ∷ []))
+
+    entry-bytes : (at : ℕ) (x : Entry) → EntryRead file E N (matricesOffset file) f at (c-kind file at) x → entryGates x + 544 * at ≤ 544 * c-past file at + 20400
+    unfolding moverCost enableCost effectCost invalidCost
+    entry-bytes at (normal c) r =
+        let e = cheap (c-matrix file at) (c-event file at) in
+        let q = ap (λ x. gatesIn (boolCost x)) (r .1 .event) in
+        let g = guard-bytes at (c-guard file at) (c .guard) (c-middle file at) (r .1 .guard) in
+        let a = list-bytes file N (c-past file at) bits few maxNest (c-middle file at) .of (c .action) (c-past file at) (r .1 .action) in
+        omega arith
+    entry-bytes at (invalid p) r =
+        let e = cheap (c-matrix file at) (c-event file at) in
+        let q = ap (λ x. gatesIn (boolCost x)) (r .1 .event) in
+        omega arith
+
+    cell-bytes : (before at : ℕ) (x : Entry) (n : ℕ) → cellAt file E N (matricesOffset file) f before at ≡ item x n → entryGates x + 544 * at ≤ 544 * n + 20400
+    cell-bytes before at x n e =
+        let r = cell-reads file E N (matricesOffset file) f before at x n e in
+        rw (r .past) (entry-bytes at x (r .entry))
+
+    cells-bytes : (es : List Entry) (before at past : ℕ) → Cells file f before at es past
+        → gatesIn (moversCost bits (map cell (normals es))) + gatesIn (invalidCost (invalids es)) + 544 * at ≤ 544 * past + 20400 * length es
+    unfolding moversCost invalidCost
+    cells-bytes [] before at past r = omega arith
+    cells-bytes (normal c ∷ xs) before at past r = let h = cell-bytes before at (normal c) (r .0) (r .1) in let k = cells-bytes xs at (r .0) past (r .2) in omega arith
+    cells-bytes (invalid p ∷ xs) before at past r = let h = cell-bytes before at (invalid p) (r .0) (r .1) in let k = cells-bytes xs at (r .0) past (r .2) in omega arith
+
+-- the state bits, the movers, and the gates of a frame
+pub record Bounded (d : Design) : Type 0 where
+  pub bits : S d ≤ 544
+  pub movers : w d ≤ 64
+  pub gates : (p : ℕ) → gatesIn (propertyCost d p) + gatesIn (stepCost d) ≤ 14144000
+
+module _ (file : List ℕ) (bytes : (i : ℕ) → getD file i 0 < 256) (d : Design) (h : Whole file d) where
+  S-bound : S d ≤ 544
+  unfolding S widths
+  S-bound =
+      let v = variables-total (d .variables) in
+      let q = total-append (map (λ (x : Variable). width (x .kind)) (d .variables)) (replicate (length (d .statuses)) statusWidth) in
+      let s = statuses-total (length (d .statuses)) in
+      let m : length (d .statuses) ≡ length (h .parts .matrices) = ap length (h .parts .statuses) ∙ length-map (h .parts .matrices) (λ (x : Matrix). x .statuses) in
+      omega (arith, h .parts .variable-count, h .parts .matrix-count, h .variables, h .matrices)
+
+  w-bound : w d ≤ 64
+  unfolding w
+  w-bound = h .movers
+
+  cheap : (m e : ℕ) → Cheap (eventIn file (h .parts .rows) m e)
+  cheap m e = event-cheap (getD (h .parts .rows) m []) e (row-cheap (h .parts .rows) m (rows-cheap file bytes (h .parts .rows) 0 (eventsOffset file) (cellsOffset file) (h .parts .row-run)))
+
+  cells-bound : gatesIn (moversCost (S d) (map cell (d .cells))) + gatesIn (invalidCost (d .invalid)) ≤ 544 * invariantOffset file + 5222400
+  cells-bound =
+      let c = cells-bytes file bytes (S d) S-bound (eventIn file (h .parts .rows)) cheap (h .parts .entries) (cellsOffset file) (cellsOffset file) (invariantOffset file) (h .parts .cell-run) in
+      let k : 20400 * length (h .parts .entries) ≤ 5222400 = omega (arith, h .parts .cell-count, h .cells) in
+      let a = ap (λ (l : List Cell). gatesIn (moversCost (S d) (map cell l))) (h .parts .cells) in
+      let b = ap (λ (l : List InvalidCell). gatesIn (invalidCost l)) (h .parts .invalid) in
+      omega arith
+
+  step-bound : gatesIn (stepCost d) ≤ gatesIn (moversCost (S d) (map cell (d .cells))) + 17408
+  unfolding stepCost movers
+  step-bound = omega (arith, movers-append (S d) (map cell (d .cells)) (externals 0 (d .variables)), raises-cost (S d) S-bound (d .variables) 0, h .parts .variable-count, h .variables)
+
+  invariant-bound : gatesIn (boolCost (d .invariant)) + 80 * invariantOffset file ≤ 80 * trailer file
+  invariant-bound = bool-bytes file (names file) (trailer file) maxDepth (invariantOffset file) .of (d .invariant) (trailer file) (invariant-stands file d (h .parts))
+
+  gates-bound : (p : ℕ) → gatesIn (propertyCost d p) + gatesIn (stepCost d) ≤ 14144000
+  unfolding propertyCost
+  gates-bound zero = omega (arith, invariant-bound, cells-bound, step-bound, h .short)
+  gates-bound (suc p) = omega (arith, invariant-bound, cells-bound, step-bound, h .short)
+
+pub bounded : (file : List ℕ) → ((i : ℕ) → getD file i 0 < 256) → (d : Design) → check file ≡ Checked.accepted d → Bounded d
+bounded file bytes d e =
+    let h = whole file d e in
+    record { bits = S-bound file bytes d h; movers = w-bound file bytes d h; gates = gates-bound file bytes d h }

@@ -1,0 +1,299 @@
+-- Gates of the cells of an accepted file, over the bytes.
+use mathlib.Core.Path.{_≡_, refl, sym, ap, ap₂, subst, _∙_}
+use mathlib.Core.Bool.{Bool, true, false}
+use mathlib.Core.List.{List, [], _∷_}
+use Prim.Native.Nat.{ℕ, zero, suc, _+_, _*_, _-_, _<_, _≤_}
+use native.Mathlib.Omega.{arith}
+use lib.ListN.{getD, length, replicate, length-replicate}
+use Rattle.design.specs.Tree.{BoolExpr, constantB, Stmts, Cell, InvalidCell, Design, cell}
+use Rattle.design.specs.Limits.{maxDepth, maxNest}
+use Rattle.design.specs.State.{State}
+use Rattle.design.specs.Reading.{Read, got}
+use Rattle.design.specs.Expression.{Names, boolExpr}
+use Rattle.design.specs.Action.{list}
+use Rattle.design.specs.DesignFile.{Entry, normal, invalid, c-matrix, c-event, c-kind, c-guard, c-middle, c-past, events}
+use Rattle.design.specs.Check.{trailer, names, namesOf, matricesOffset, matrixCount, cellsOffset, cellCount, invariantOffset}
+use Rattle.design.proofs.Sections.{Parts, Cells, eventIn}
+use Rattle.design.proofs.Positions.{CellRead, EntryRead, NormalRead, InvalidRead, cell-reads}
+use Rattle.design.proofs.Places.{Read as Tree, read, Standing, CellFields, cell-fields}
+use Rattle.step.specs.Accepted.{isRead}
+use Rattle.step.specs.Ready.{Ready, NormalCell}
+use Rattle.step.proofs.Cells as cells
+use Rattle.clauses.specs.Cost.{Cost, cost, plus, boolCost, statementsCost, statusAndEventCost, enableCost, effectCost, moverCost}
+use Rattle.clauses.specs.FrameSizes.{gatesAt, both, listGates, entryCost, entriesCost, HasGates, FewGates, Prepared, CellHere}
+use Rattle.clauses.specs.declared.cost.GatesAt.{GatesAt}
+use Rattle.clauses.proofs.Bounds.{bounded}
+use Rattle.clauses.proofs.FrameCounts.{entries-few}
+use Rattle.clauses.proofs.Inside.{Few, bool-few, list-few}
+
+-- the gates of what is known to be read
+known-gates : {A : Type 0} (f : A → Cost) (x : Read A) (a : A) (n : ℕ) (r : GatesAt) → x ≡ got a n → r ≡ gatesAt f x → HasGates r (f a)
+known-gates f x a n r e q =
+    let z = q ∙ ap (gatesAt f) e in
+    record { ands = ap (λ (y : GatesAt). y .ands) z; wides = ap (λ (y : GatesAt). y .wides) z }
+
+pub few-gates : (r : GatesAt) → Few r → FewGates r
+few-gates r f = record { ands = omega (arith, f .ands); wides = omega (arith, f .wides) }
+
+module _ (file table : List ℕ) (nv nm bits : ℕ) (h : Prepared file table nv nm bits) where
+  -- the laws of the step rule speak of a state too: any will do
+  slots : State
+  slots = replicate (nv + nm) 0
+
+  ready : Ready file table nv nm slots
+  unfolding slots
+  ready = record { accepted = h .accepted; events = h .events; variables = h .variables; matrices = h .matrices; size = length-replicate (nv + nm) 0 }
+
+  abbrev N : Names
+  N = namesOf file nv nm
+
+  pub sizes : (16 ≤ length file) × (length file ≤ 16384) × (nm ≤ 8) × (nv ≤ 32)
+  sizes = cells.sizes file table nv nm slots ready
+
+  pub kinds : 3 * nv ≤ length file
+  kinds = cells.kinds file table nv nm slots ready
+
+  -- event e of matrix m
+  module _ (m e : ℕ) (a : m < nm) (b : e < events file (matricesOffset file) m) where
+    abbrev place : ℕ
+    place = getD table (16 * m + e) 0
+
+    pub event-slot : 16 * m + e < 128
+    event-slot = cells.event-slot file table nv nm slots ready m e a b
+
+    pub event-inside : place + 1 + getD file place 0 ≤ trailer file
+    event-inside = cells.event-inside file table nv nm slots ready m e a b
+
+    module _ (k : ℕ) (q : k ≡ getD file place 0) where
+      past-is : place + 1 + k ≡ place + 1 + getD file place 0
+      past-is = ap (λ (x : ℕ). place + 1 + x) q
+
+      pub event-reads : isRead (boolExpr file N (place + 1 + k) maxDepth (place + 1)) ≡ true
+      event-reads = cells.event-reads file table nv nm slots ready m e a b (place + 1 + k) (place + 1) past-is refl
+
+      pub event-gates : (r : GatesAt) → r ≡ gatesAt boolCost (boolExpr file N (place + 1 + k) maxDepth (place + 1)) → (r .ands ≤ 8912896) × (r .wides ≤ 8912896) × ((d : Design) (w : Parts file d) → HasGates r (boolCost (eventIn file (w .rows) m e)))
+      event-gates r z =
+        let f = bool-few file N (place + 1 + k) (omega (arith, past-is, event-inside, sizes .1)) maxDepth (place + 1) r z in (
+        f .ands,
+        f .wides,
+        λ d w. known-gates boolCost _ _ _ r (cells.event-got file table nv nm slots ready m e a b d w (place + 1 + k) (place + 1) past-is refl) z,
+      )
+
+  -- status and event of the cell at p
+  module _ (p m e : ℕ) (a : m ≡ c-matrix file p) (b : e ≡ c-event file p) where
+    pub place-range : CellFields file p → (m < nm) × (e < events file (matricesOffset file) m)
+    place-range g =
+        let q = g .matrix in
+        (omega (arith, h .matrices), subst (λ (j : ℕ). e < events file (matricesOffset file) j) (sym a) (subst (λ (j : ℕ). j < events file (matricesOffset file) (c-matrix file p)) (sym b) (g .event)))
+
+    pub place-gates : (x r : GatesAt) → ((d : Design) (w : Parts file d) → HasGates x (boolCost (eventIn file (w .rows) m e)))
+        → r .ands ≡ x .ands + 17 → r .wides ≡ x .wides + 16 → (d : Design) (w : Parts file d) → HasGates r (statusAndEventCost (eventIn file (w .rows) (c-matrix file p) (c-event file p)))
+    place-gates x r k u v d w =
+        let s = subst (λ (i : ℕ). HasGates x (boolCost (eventIn file (w .rows) i (c-event file p)))) a (subst (λ (j : ℕ). HasGates x (boolCost (eventIn file (w .rows) m j))) b (k d w)) in
+        record { ands = omega (arith, s .ands); wides = omega (arith, s .wides) }
+
+  -- a normal cell
+  module _ (p : ℕ) (x : NormalCell file p) where
+    pub normal-fields : CellFields file p
+    normal-fields = cells.normal-fields file table nv nm slots ready p x
+
+    module _ (n : ℕ) (q : n ≡ c-guard file p) where
+      pub guard-inside : p + 8 + n ≤ trailer file
+      guard-inside = let f = normal-fields .past in omega arith
+
+      pub guard-none : n ≡ 0 → (r : GatesAt) → r .ands ≡ 0 → r .wides ≡ 0 → HasGates r (boolCost (x .cell .guard))
+      unfolding boolCost
+      guard-none z r u v =
+          let g = ap boolCost (cells.guard-none file table nv nm slots ready p x (sym q ∙ z)) in
+          record { ands = u ∙ sym (ap (λ (k : Cost). k .ands) g); wides = v ∙ sym (ap (λ (k : Cost). k .wides) g) }
+
+      module _ (z : n ≡ 0 → ⊥) where
+        pub guard-reads : isRead (boolExpr file N (p + 8 + n) maxDepth (p + 8)) ≡ true
+        guard-reads = cells.guard-reads file table nv nm slots ready p x n q z
+
+        pub guard-gates : (r : GatesAt) → r ≡ gatesAt boolCost (boolExpr file N (p + 8 + n) maxDepth (p + 8)) → HasGates r (boolCost (x .cell .guard))
+        guard-gates r k = known-gates boolCost _ _ _ r (cells.guard-got file table nv nm slots ready p x n q z) k
+
+    module _ (m n : ℕ) (a : m ≡ c-middle file p) (b : n ≡ c-past file p) where
+      pub action-reads : isRead (list file N n maxNest m) ≡ true
+      action-reads = cells.action-reads file table nv nm slots ready p x m n a b
+
+      -- enable, the action, and the muxes
+      pub normal-gates : (e g s t r : GatesAt) → ((d : Design) (w : Parts file d) → HasGates e (statusAndEventCost (eventIn file (w .rows) (c-matrix file p) (c-event file p))))
+          → HasGates g (boolCost (x .cell .guard)) → s ≡ listGates bits (list file N n maxNest m) → t ≡ both e g 1 0 → r ≡ both t s 0 bits → HasGates r (moverCost bits (cell (x .cell)))
+      unfolding moverCost enableCost effectCost
+      normal-gates e g s t r f k q u v =
+          let is : NormalRead file (trailer file) (names file) (matricesOffset file) (eventIn file (x .parts .rows)) p (x .cell) = x .stands .1 .entry .1 in
+          let ev = ap statusAndEventCost (is .event) in
+          let i = f (x .tree) (x .parts) in
+          let j = known-gates (λ (y : Stmts). statementsCost y bits) _ _ _ s (cells.action-got file table nv nm slots ready p x m n a b) q in
+          record {
+            ands = omega (arith, ap (λ (y : Cost). y .ands) ev, i .ands, k .ands, j .ands, ap (λ (y : GatesAt). y .ands) u, ap (λ (y : GatesAt). y .ands) v);
+            wides = omega (arith, ap (λ (y : Cost). y .wides) ev, i .wides, k .wides, j .wides, ap (λ (y : GatesAt). y .wides) u, ap (λ (y : GatesAt). y .wides) v);
+          }
+
+  -- the cell at p by its kind
+  module _ (p : ℕ) where
+    pub here-fields : CellHere file p → CellFields file p
+    here-fields x = cell-fields file (eventIn file (x .parts .rows)) p (x .entry) (x .stands)
+
+    pub here-normal : CellHere file p → c-kind file p ≡ 0 → NormalCell file p
+    here-normal x z = go (x .entry) (x .stands)
+      where
+        go : (y : Entry) → Standing file (eventIn file (x .parts .rows)) p y → NormalCell file p
+        go (normal c) s = record { tree = x .tree; parts = x .parts; cell = c; stands = s }
+        go (invalid i) s = absurd (s .1 .entry .0 z)
+
+    abbrev Right : Bool → GatesAt → Type 0
+    Right t r = (d : Design) (w : Parts file d) (x : Entry) → Standing file (eventIn file (w .rows)) p x → HasGates r (entryCost bits t x)
+
+    no-gates : (r : GatesAt) → r .ands ≡ 0 → r .wides ≡ 0 → HasGates r (cost 0 0)
+    no-gates r a b = record { ands = a; wides = b }
+
+    pub normal-passed : c-kind file p ≡ 0 → (t : Bool) → t ≡ true → (r : GatesAt) → r .ands ≡ 0 → r .wides ≡ 0 → Right t r
+    normal-passed z t e r a b d w x s = subst (λ (k : Bool). HasGates r (entryCost bits k x)) (sym e) (go x s)
+      where
+        go : (y : Entry) → Standing file (eventIn file (w .rows)) p y → HasGates r (entryCost bits true y)
+        go (normal c) u = no-gates r a b
+        go (invalid i) u = absurd (u .1 .entry .0 z)
+
+    pub invalid-passed : (c-kind file p ≡ 0 → ⊥) → (t : Bool) → t ≡ false → (r : GatesAt) → r .ands ≡ 0 → r .wides ≡ 0 → Right t r
+    invalid-passed z t e r a b d w x s = subst (λ (k : Bool). HasGates r (entryCost bits k x)) (sym e) (go x s)
+      where
+        go : (y : Entry) → Standing file (eventIn file (w .rows)) p y → HasGates r (entryCost bits false y)
+        go (normal c) u = absurd (z (u .1 .entry .0))
+        go (invalid i) u = no-gates r a b
+
+    pub normal-counted : c-kind file p ≡ 0 → (t : Bool) → t ≡ false → (r y : GatesAt) → ((x : NormalCell file p) → HasGates y (moverCost bits (cell (x .cell)))) → r .ands ≡ y .ands → r .wides ≡ y .wides → Right t r
+    normal-counted z t e r y k a b d w x s = subst (λ (i : Bool). HasGates r (entryCost bits i x)) (sym e) (go x s)
+      where
+        go : (v : Entry) → Standing file (eventIn file (w .rows)) p v → HasGates r (entryCost bits false v)
+        go (normal c) u = let g = k (record { tree = d; parts = w; cell = c; stands = u }) in record { ands = a ∙ g .ands; wides = b ∙ g .wides }
+        go (invalid i) u = absurd (u .1 .entry .0 z)
+
+    pub invalid-counted : (c-kind file p ≡ 0 → ⊥) → (t : Bool) → t ≡ true → (r y : GatesAt) → ((d : Design) (w : Parts file d) → HasGates y (statusAndEventCost (eventIn file (w .rows) (c-matrix file p) (c-event file p))))
+        → r .ands ≡ y .ands + 1 → r .wides ≡ y .wides → Right t r
+    invalid-counted z t e r y k a b d w x s = subst (λ (i : Bool). HasGates r (entryCost bits i x)) (sym e) (go x s)
+      where
+        go : (v : Entry) → Standing file (eventIn file (w .rows)) p v → HasGates r (entryCost bits true v)
+        go (normal c) u = absurd (z (u .1 .entry .0))
+        go (invalid i) u =
+            let g = k d w in
+            let ev = ap statusAndEventCost (u .1 .entry .1 .event) in
+            record { ands = omega (arith, g .ands, ap (λ (q : Cost). q .ands) ev); wides = omega (arith, g .wides, ap (λ (q : Cost). q .wides) ev) }
+
+-- The loop over the cells: the gates so far, with those of the cells that are left, are those of all.
+pub record CellsLeft (file : List ℕ) (d : Design) (w : Parts file d) (bits : ℕ) (t : Bool) (left : ℕ) (g : GatesAt) : Type 0 where
+  pub rest : List Entry
+  pub before : ℕ
+  pub run : Cells file (eventIn file (w .rows)) before (g .next) rest (invariantOffset file)
+  pub count : length rest ≡ left
+  pub ands : g .ands + entriesCost bits t rest .ands ≡ entriesCost bits t (w .entries) .ands
+  pub wides : g .wides + entriesCost bits t rest .wides ≡ entriesCost bits t (w .entries) .wides
+
+pub record Walking (file : List ℕ) (bits : ℕ) (t : Bool) (left : ℕ) (g : GatesAt) : Type 0 where
+  pub of : (d : Design) (w : Parts file d) → CellsLeft file d w bits t left g
+
+module _ (file : List ℕ) (bits : ℕ) (t : Bool) where
+  pub walking-start : (left : ℕ) (g : GatesAt) → left ≡ cellCount file → g .ands ≡ 0 → g .wides ≡ 0 → g .next ≡ cellsOffset file → Walking file bits t left g
+  walking-start left g e a b n = record {
+    of = λ d w. record {
+      rest = w .entries;
+      before = cellsOffset file;
+      run = subst (λ (p : ℕ). Cells file (eventIn file (w .rows)) (cellsOffset file) p (w .entries) (invariantOffset file)) (sym n) (w .cell-run);
+      count = w .cell-count ∙ sym e;
+      ands = omega arith;
+      wides = omega arith;
+    };
+  }
+
+  module _ (left : ℕ) (g : GatesAt) (l : 0 < left) (k : Walking file bits t left g) where
+    -- the first cell that is left
+    pub record First (d : Design) (w : Parts file d) : Type 0 where
+      pub entry : Entry
+      pub more : List Entry
+      pub stands : Standing file (eventIn file (w .rows)) (g .next) entry
+      pub run : Cells file (eventIn file (w .rows)) (g .next) (c-past file (g .next)) more (invariantOffset file)
+      pub count : length more ≡ left - 1
+      pub ands : g .ands + (entryCost bits t entry .ands + entriesCost bits t more .ands) ≡ entriesCost bits t (w .entries) .ands
+      pub wides : g .wides + (entryCost bits t entry .wides + entriesCost bits t more .wides) ≡ entriesCost bits t (w .entries) .wides
+
+    first : (d : Design) (w : Parts file d) → First d w
+    unfolding entriesCost
+    first d w = let c = k .of d w in go (c .rest) (c .before) (c .run) (c .count) (c .ands) (c .wides)
+      where
+        go : (es : List Entry) (b : ℕ) → Cells file (eventIn file (w .rows)) b (g .next) es (invariantOffset file) → length es ≡ left
+            → g .ands + entriesCost bits t es .ands ≡ entriesCost bits t (w .entries) .ands → g .wides + entriesCost bits t es .wides ≡ entriesCost bits t (w .entries) .wides → First d w
+        go [] b r c a v = absurd (omega arith)
+        go (x ∷ xs) b r c a v =
+            let q = cell-reads file (trailer file) (names file) (matricesOffset file) (eventIn file (w .rows)) b (g .next) x (r .0) (r .1) in
+            record {
+              entry = x;
+              more = xs;
+              stands = (b, subst (CellRead file (trailer file) (names file) (matricesOffset file) (eventIn file (w .rows)) b (g .next) x) (q .past) q);
+              run = subst (λ (p : ℕ). Cells file (eventIn file (w .rows)) (g .next) p xs (invariantOffset file)) (q .past) (r .2);
+              count = omega arith;
+              ands = a;
+              wides = v;
+            }
+
+    pub walking-here : (d : Design) (w : Parts file d) → CellHere file (g .next)
+    walking-here d w = let f = first d w in record { tree = d; parts = w; entry = f .entry; stands = f .stands }
+
+    module _ (x : GatesAt) (n : x .next ≡ c-past file (g .next)) (s : (d : Design) (w : Parts file d) (y : Entry) → Standing file (eventIn file (w .rows)) (g .next) y → HasGates x (entryCost bits t y)) where
+      pub walking-within : (d : Design) (w : Parts file d) → (g .ands + x .ands ≤ entriesCost bits t (w .entries) .ands) × (g .wides + x .wides ≤ entriesCost bits t (w .entries) .wides)
+      walking-within d w =
+          let f = first d w in
+          let u = s d w (f .entry) (f .stands) in
+          (omega (arith, u .ands, f .ands), omega (arith, u .wides, f .wides))
+
+      pub walking-on : (r : GatesAt) → r ≡ both g x 0 0 → Walking file bits t (left - 1) r
+      walking-on r e = subst (Walking file bits t (left - 1)) (sym e) (record {
+        of = λ d w.
+            let f = first d w in
+            let u = s d w (f .entry) (f .stands) in
+            record {
+              rest = f .more;
+              before = g .next;
+              run = subst (λ (p : ℕ). Cells file (eventIn file (w .rows)) (g .next) p (f .more) (invariantOffset file)) (sym n) (f .run);
+              count = f .count;
+              ands = omega (arith, u .ands, f .ands);
+              wides = omega (arith, u .wides, f .wides);
+            };
+      })
+
+  pub walking-end : (left : ℕ) (g : GatesAt) → left ≤ 0 → Walking file bits t left g → (d : Design) (w : Parts file d) → HasGates g (entriesCost bits t (w .entries))
+  unfolding entriesCost
+  walking-end left g l k d w = let c = k .of d w in go (c .rest) (c .count) (c .ands) (c .wides)
+    where
+      go : (es : List Entry) → length es ≡ left → g .ands + entriesCost bits t es .ands ≡ entriesCost bits t (w .entries) .ands → g .wides + entriesCost bits t es .wides ≡ entriesCost bits t (w .entries) .wides
+          → HasGates g (entriesCost bits t (w .entries))
+      go [] c a v = record { ands = omega arith; wides = omega arith }
+      go (x ∷ xs) c a v = absurd (omega arith)
+
+-- the sums of the loop are few
+module _ (file table : List ℕ) (nv nm bits : ℕ) (h : Prepared file table nv nm bits) (bytes : (i : ℕ) → getD file i 0 < 256) where
+  tree : Tree file
+  tree = read file (h .accepted)
+
+  total-few : (t : Bool) → (entriesCost bits t (tree .all .parts .entries) .ands ≤ 14144000) × (entriesCost bits t (tree .all .parts .entries) .wides ≤ 14144000)
+  total-few t = entries-few file (tree .tree) (tree .all .parts) bits (h .state (tree .tree) (tree .all .parts)) (bounded file bytes (tree .tree) (tree .is)) t
+
+  module _ (t : Bool) (left : ℕ) (g : GatesAt) where
+    pub cell-here : 0 < left → Walking file bits t left g → CellHere file (g .next)
+    cell-here l k = walking-here file bits t left g l k (tree .tree) (tree .all .parts)
+
+    pub sum-few : 0 < left → Walking file bits t left g → (x : GatesAt)
+        → (x .next ≡ c-past file (g .next)) × ((d : Design) (w : Parts file d) (y : Entry) → Standing file (eventIn file (w .rows)) (g .next) y → HasGates x (entryCost bits t y))
+        → (g .ands + x .ands ≤ 14144000) × (g .wides + x .wides ≤ 14144000)
+    sum-few l k x s =
+        let f = walking-within file bits t left g l k x (s .0) (s .1) (tree .tree) (tree .all .parts) in
+        let m = total-few t in
+        (omega arith, omega arith)
+
+    pub all-counted : left ≤ 0 → Walking file bits t left g → FewGates g × ((d : Design) (w : Parts file d) → HasGates g (entriesCost bits t (w .entries)))
+    all-counted l k =
+        let e = walking-end file bits t left g l k in
+        let f = e (tree .tree) (tree .all .parts) in
+        let m = total-few t in
+        (record { ands = omega (arith, f .ands); wides = omega (arith, f .wides) }, e)

@@ -1,0 +1,218 @@
+-- What stands at the cells of an accepted file, and the gates of cells and externals. Assumes nothing.
+use mathlib.Core.Path.{_≡_, refl, sym, ap, ap₂, subst, _∙_}
+use mathlib.Core.Bool.{Bool, true, false}
+use mathlib.Core.List.{List, [], _∷_, _++_}
+use Prim.Native.Nat.{ℕ, zero, suc, _+_, _*_, _-_, _/_, _%_, _<_, _≤_}
+use native.Mathlib.Omega.{arith}
+use lib.ListN.{getD, length, set, take, drop}
+use lib.Seq.{length-take-le}
+use lib.Dec.{eqb}
+use lib.IntN.{ℤ}
+use borrow.Author.Tests.{eqb-true}
+use Rattle.design.specs.Tree.{BoolExpr, Stmts, constantB, boolean, Cell, Design, Mover, cell, raise, truth}
+use Rattle.design.specs.Limits.{maxDepth, maxNest}
+use Rattle.design.specs.State.{Layout, statusSlot, statusWidth}
+use Rattle.design.specs.Reading.{Read, got, bad}
+use Rattle.design.specs.Expression.{Names, boolExpr}
+use Rattle.design.specs.Action.{list}
+use Rattle.design.specs.DesignFile.{item, filling, guard, normal, c-matrix, c-status, c-event, c-target, c-guard, c-action, c-middle, c-past, events}
+use Rattle.design.specs.Check.{namesOf, names, trailer, variableCount, matricesOffset, matrixCount}
+use Rattle.design.specs.Places.{Accepted, pastEvents, eventsStart}
+use Rattle.design.specs.Answers.{walked}
+use Rattle.design.proofs.Sections.{Parts, eventIn, need-inv, item-same}
+use Rattle.design.proofs.Items.{variable-ends}
+use Rattle.design.proofs.Positions.{NormalRead, EventRead, variable-stands}
+use Rattle.design.proofs.Places.{Read as Tree, read, event-stands, CellFields, cell-fields}
+use Rattle.design.proofs.Tables.{few-events}
+use Rattle.step.specs.Ready.{NormalCell}
+use Rattle.clauses.specs.Literal.{Literal, positive, negate, yes!, literalOf}
+use Rattle.clauses.specs.Circuit.{Built, Build, give, _>>=_, and!, mux!, equal!, Bits}
+use Rattle.clauses.specs.Expression.{Slots, constantBits, integerAt, booleanAt, bool! }
+use Rattle.clauses.specs.Action.{muxBits!, muxes!, statements!, statusAndEvent!, enable!, effect!, mover! }
+use Rattle.clauses.specs.Formula.{total, variablesFrom}
+use Rattle.clauses.specs.Writing.{fromCode, fromCodes, Emits}
+use Rattle.clauses.specs.FlatState.{widthsFrom, widthsOf, cut, slotsOf, layoutOf, over, Slotted, Reads}
+use Rattle.clauses.specs.Ready.{Ready, resultFrom}
+use Rattle.clauses.proofs.Costs.{muxBits-costs}
+use Rattle.clauses.proofs.EmitWords.{code-yes}
+use Rattle.clauses.proofs.EmitLists.{codes-length, codes-take}
+use Rattle.clauses.proofs.EmitBuilds.{emits-same, emits-result, emits-give, emits-bind, emits-map}
+use Rattle.clauses.proofs.EmitExpressions.{Wrote}
+use Rattle.clauses.proofs.EmitSlots.{boolean-width, status-room}
+use Rattle.clauses.proofs.EmitStates.{state-size, variables-small, muxes-flat, status-over, boolean-set, boolean-room}
+
+module _ (file table : List ℕ) (nv nm : ℕ) (h : Ready file table nv nm) where
+  abbrev E : ℕ
+  E = trailer file
+
+  abbrev N : Names
+  N = namesOf file nv nm
+
+  names-here : N ≡ names file
+  names-here = ap₂ (namesOf file) (h .variables) (h .matrices)
+
+  tree : Tree file
+  tree = read file (h .accepted)
+
+  pub sizes : (16 ≤ length file) × (length file ≤ 16384) × (nm ≤ 8) × (nv ≤ 32)
+  sizes = let b = tree .all in (b .long, b .short, omega (arith, b .matrices, h .matrices), omega (arith, b .variables, h .variables))
+
+  -- the variables stand in the file
+  pub kinds : 3 * nv ≤ length file
+  kinds = go nv (h .variables)
+    where
+      go : (n : ℕ) → n ≡ variableCount file → 3 * n ≤ length file
+      go zero e = omega arith
+      go (suc n) e =
+          let w = tree .all .parts in
+          let v = variable-stands file (tree .tree) w n (omega arith) (record { kind = boolean; initial = 0 }) in
+          let k = variable-ends file E (3 * n) (3 * n + 3) (sym (ap walked v)) in
+          omega (arith, k .1, sizes)
+
+  pub few-bits : total (widthsOf file nv nm) ≤ 544
+  few-bits = omega (arith, sizes, state-size file nv nm (total (widthsFrom file 0 nv)) refl, variables-small file 0 nv)
+
+  pub slotted : (codes : List ℕ) → length codes ≡ 544 → Slotted file nv nm codes
+  slotted codes e = record {
+    kinds = kinds;
+    variables = sizes .3;
+    matrices = sizes .2;
+    bits = omega (arith, few-bits);
+  }
+
+  -- event e of matrix m
+  module _ (m e : ℕ) (a : m < nm) (b : e < events file (matricesOffset file) m) where
+    abbrev place : ℕ
+    place = getD table (16 * m + e) 0
+
+    pub event-slot : 16 * m + e < 128
+    event-slot = omega (arith, few-events file (h .accepted) m (omega (arith, h .matrices)), sizes)
+
+    module _ (d : Design) (w : Parts file d) where
+      event-read : EventRead file E (names file) place (eventIn file (w .rows) m e) (pastEvents file (suc e) (eventsStart file m))
+      event-read = subst (λ (p : ℕ). EventRead file E (names file) p (eventIn file (w .rows) m e) (pastEvents file (suc e) (eventsStart file m))) (sym (h .events .entry m e (omega (arith, h .matrices)) b)) (event-stands file d w m e (omega (arith, h .matrices)) b)
+
+      pub event-got : (n at : ℕ) → n ≡ place + 1 + getD file place 0 → at ≡ place + 1 → boolExpr file N n maxDepth at ≡ got (eventIn file (w .rows) m e) n
+      event-got n at p q =
+          let t = event-read in
+          let z : pastEvents file (suc e) (eventsStart file m) ≡ n = t .past ∙ sym p in
+          ap (λ (x : Names). boolExpr file x n maxDepth at) names-here ∙ ap (boolExpr file (names file) n maxDepth) q ∙ subst (λ (j : ℕ). boolExpr file (names file) j maxDepth (place + 1) ≡ got (eventIn file (w .rows) m e) j) z (t .reads)
+
+    pub event-inside : place + 1 + getD file place 0 ≤ E
+    event-inside = let t = event-read (tree .tree) (tree .all .parts) in omega (arith, t .past, t .inside)
+
+    pub event-reads : (n at : ℕ) → n ≡ place + 1 + getD file place 0 → at ≡ place + 1 → Reads (boolExpr file N n maxDepth at)
+    event-reads n at p q = record { tree = eventIn file (tree .all .parts .rows) m e; past = n; reads = event-got (tree .tree) (tree .all .parts) n at p q }
+
+  -- a normal cell
+  module _ (p : ℕ) (x : NormalCell file p) where
+    pub normal-fields : CellFields file p
+    normal-fields = cell-fields file (eventIn file (x .parts .rows)) p (normal (x .cell)) (x .stands)
+
+    pub is : NormalRead file E (names file) (matricesOffset file) (eventIn file (x .parts .rows)) p (x .cell)
+    is = x .stands .1 .entry .1
+
+    pub guard-none : c-guard file p ≡ 0 → x .cell .guard ≡ constantB true
+    guard-none e = sym (item-same _ _ _ _ (sym (ap (guard file E (names file) p) e) ∙ is .guard))
+
+    filled : (k : ℕ) → (k ≡ 0 → ⊥) → (g : BoolExpr) (n : ℕ) → guard file E (names file) p k ≡ item g n → boolExpr file (names file) (c-middle file p) maxDepth (p + 8) ≡ got g (c-middle file p)
+    filled zero z g n e = absurd (z refl)
+    filled (suc k) z g n e = go (boolExpr file (names file) (c-middle file p) maxDepth (p + 8)) e
+      where
+        go : (r : Read BoolExpr) → filling 8 p (c-middle file p) r ≡ item g n → r ≡ got g (c-middle file p)
+        go (got b m) q =
+            let (t, u) = need-inv (eqb m (c-middle file p)) 8 p (item b (c-middle file p)) g n q in
+            ap (got b) (eqb-true m (c-middle file p) t) ∙ ap (λ (y : BoolExpr). got y (c-middle file p)) (item-same _ _ _ _ u)
+        go bad q = let z : _≡_ {A = ℕ} 0 1 = cc in absurd (omega arith)
+
+    pub guard-got : (n : ℕ) → n ≡ c-guard file p → (n ≡ 0 → ⊥) → boolExpr file N (p + 8 + n) maxDepth (p + 8) ≡ got (x .cell .guard) (c-middle file p)
+    guard-got n e z =
+        ap (λ (k : ℕ). boolExpr file N (p + 8 + k) maxDepth (p + 8)) e ∙ ap (λ (y : Names). boolExpr file y (c-middle file p) maxDepth (p + 8)) names-here
+        ∙ filled (c-guard file p) (λ q. z (e ∙ q)) (x .cell .guard) (c-middle file p) (is .guard)
+
+    pub action-got : (m n : ℕ) → m ≡ c-middle file p → n ≡ c-past file p → list file N n maxNest m ≡ got (x .cell .action) n
+    action-got m n a b =
+        ap (λ (y : Names). list file y n maxNest m) names-here ∙ ap (λ (j : ℕ). list file (names file) j maxNest m) b ∙ ap (list file (names file) (c-past file p) maxNest) a ∙ is .action ∙ ap (got (x .cell .action)) (sym b)
+
+-- gates of a cell's parts
+pub event-emits : (l : Layout) (s : Slots) (m st : ℕ) (event : BoolExpr) (x k : Bits) (q v r : Literal) {n : ℕ} {x0 x1 x2 x3 : List ℤ} {c0 c1 c2 c3 v1 v2 v3 : ℕ} → x ≡ integerAt s (statusSlot l m) → k ≡ constantBits 16 st
+    → Emits n (equal! x k n) x0 x1 c0 q c1 v1 → Emits v1 (bool! l s event v1) x1 x2 c1 v c2 v2 → Emits v2 (and! q v v2) x2 x3 c2 r c3 v3 → Emits n (statusAndEvent! l s m st event n) x0 x3 c0 r c3 v3
+unfolding statusAndEvent!
+event-emits l s m st event x k q v r {n = n} ex ek w1 w2 w3 =
+    emits-bind (equal! (integerAt s (statusSlot l m)) (constantBits 16 st)) _ (emits-same _ _ (ap₂ (λ (a b : Bits). equal! a b n) ex ek) w1) (emits-bind (bool! l s event) (and! q) w2 w3)
+
+pub enable-emits : (l : Layout) (s : Slots) (c : Cell) (a g r : Literal) {n : ℕ} {x0 x1 x2 x3 : List ℤ} {c0 c1 c2 c3 v1 v2 v3 : ℕ}
+    → Emits n (statusAndEvent! l s (c .matrix) (c .status) (c .event) n) x0 x1 c0 a c1 v1 → Emits v1 (bool! l s (c .guard) v1) x1 x2 c1 g c2 v2 → Emits v2 (and! a g v2) x2 x3 c2 r c3 v3 → Emits n (enable! l s (cell c) n) x0 x3 c0 r c3 v3
+unfolding enable!
+enable-emits l s c a g r w1 w2 w3 = emits-bind (statusAndEvent! l s (c .matrix) (c .status) (c .event)) _ w1 (emits-bind (bool! l s (c .guard)) (and! a) w2 w3)
+
+pub guard-true : (l : Layout) (s : Slots) (g : BoolExpr) (n : ℕ) (xs : List ℤ) (cur : ℕ) → g ≡ constantB true → Emits n (bool! l s g n) xs xs cur (fromCode 2) cur n
+unfolding bool!
+guard-true l s g n xs cur e = emits-result _ (sym code-yes) (emits-same _ _ (sym (ap (λ (x : BoolExpr). bool! l s x n) e)) (emits-give n yes! xs cur))
+
+-- the result of muxes is consecutive variables
+bits-out : (c : Literal) (xs ys : Bits) (n : ℕ) → length xs ≡ length ys → (muxBits! c xs ys n) .out ≡ variablesFrom n (length xs)
+unfolding muxBits! mux! give _>>=_
+bits-out c [] ys n e = refl
+bits-out c (x ∷ xs) [] n e = absurd (omega arith)
+bits-out c (x ∷ xs) (y ∷ ys) n e = ap (λ (r : Bits). positive n ∷ r) (bits-out c xs ys (suc n) (omega arith))
+
+module _ (file : List ℕ) (nv nm : ℕ) where
+  pub muxes-result : (c : Literal) (a b : List ℕ) (n : ℕ) → total (widthsOf file nv nm) ≤ length a → total (widthsOf file nv nm) ≤ length b → (muxes! c (slotsOf file nv nm a) (slotsOf file nv nm b) n) .out ≡ resultFrom file nv nm n
+  unfolding slotsOf resultFrom _>>=_ give
+  muxes-result c a b n p q =
+      let ws = widthsOf file nv nm in
+      let T = total ws in
+      let la : length (take T (fromCodes a)) ≡ T = length-take-le T (fromCodes a) (omega (arith, codes-length a)) in
+      let lb : length (take T (fromCodes b)) ≡ T = length-take-le T (fromCodes b) (omega (arith, codes-length b)) in
+      ap (λ (z : Built Slots). z .out) (muxes-flat c ws (fromCodes a) (fromCodes b) n (omega (arith, codes-length a)) (omega (arith, codes-length b)))
+      ∙ ap (cut ws) (bits-out c (take T (fromCodes a)) (take T (fromCodes b)) n (la ∙ sym lb) ∙ ap (variablesFrom n) la)
+
+  -- so the result may be named by the first of them
+  pub muxes-first : (c : Literal) (a b : List ℕ) {n : ℕ} {xs ys : List ℤ} {cur : ℕ} {out : Slots} {c′ v′ : ℕ} → total (widthsOf file nv nm) ≤ 544 → length a ≡ 544 → length b ≡ 544
+      → Emits n (muxes! c (slotsOf file nv nm a) (slotsOf file nv nm b) n) xs ys cur out c′ v′ → Emits n (muxes! c (slotsOf file nv nm a) (slotsOf file nv nm b) n) xs ys cur (resultFrom file nv nm n) c′ v′
+  muxes-first c a b {n = n} t p q w = record { emits = λ r.
+      let k = w .emits r in
+      record { written = k .written; cursor = k .cursor; result = sym (muxes-result c a b n (omega arith) (omega arith)); next = k .next; counted = k .counted } }
+
+take-bits : (w k n : ℕ) → take w (constantBits (w + k) n) ≡ constantBits w n
+take-bits zero k n = none (constantBits (0 + k) n)
+  where
+    none : (l : Bits) → take 0 l ≡ []
+    none [] = refl
+    none (x ∷ l) = refl
+take-bits (suc w) k n = ap (λ (j : ℕ). take (suc w) (constantBits j n)) (let q : suc w + k ≡ suc (w + k) = omega arith in q) ∙ ap (λ (r : Bits). literalOf (truth (n % 2)) ∷ r) (take-bits w k (n / 2))
+
+module _ (file : List ℕ) (nv nm : ℕ) (codes : List ℕ) (few : total (widthsOf file nv nm) ≤ 544) (size : length codes ≡ 544) where
+  -- the target stored into the state
+  pub target-set : (m m′ o t t′ : ℕ) (x s : List ℕ) → m′ ≡ m → t′ ≡ t → m < nm → o ≡ total (widthsFrom file 0 nv) + 4 * m′ → fromCodes x ≡ constantBits 16 t′ → length x ≡ 16 → s ≡ over o (take 4 x) codes
+      → slotsOf file nv nm s ≡ set (slotsOf file nv nm codes) (nv + m) (constantBits statusWidth t)
+  target-set m m′ o t t′ x s em et l e k lx w =
+      ap (slotsOf file nv nm) w
+      ∙ status-over file nv nm m o (take 4 x) codes l (e ∙ ap (λ (j : ℕ). total (widthsFrom file 0 nv) + 4 * j) em) (length-take-le 4 x (omega arith)) (omega arith)
+      ∙ ap (set (slotsOf file nv nm codes) (nv + m)) (codes-take 4 x ∙ ap (take 4) k ∙ take-bits 4 12 t′ ∙ ap (constantBits 4) et)
+
+-- a mover, from its parts
+pub cell-emits : (l : Layout) (s : Slots) (c : Cell) {e : Literal} {r r′ out : Slots} {n : ℕ} {x0 x1 x2 x3 : List ℤ} {c0 c1 c2 c3 v1 v2 v3 : ℕ}
+    → Emits n (enable! l s (cell c) n) x0 x1 c0 e c1 v1 → Emits v1 (statements! (c .action) l s v1) x1 x2 c1 r c2 v2 → r′ ≡ set r (statusSlot l (c .matrix)) (constantBits statusWidth (c .target))
+    → Emits v2 (muxes! e r′ s v2) x2 x3 c2 out c3 v3 → Emits n (mover! l s (cell c) n) x0 x3 c0 out c3 v3
+unfolding mover! effect!
+cell-emits l s c {e = e} {v2 = v2} w1 w2 q w3 =
+    emits-bind (enable! l s (cell c)) _ w1
+    (emits-bind (statements! (c .action) l s >>= (λ (r : Slots). give (set r (statusSlot l (c .matrix)) (constantBits statusWidth (c .target))))) (λ (r : Slots). muxes! e r s)
+    (emits-result _ (sym q) (emits-map (statements! (c .action) l s) (λ (r : Slots). set r (statusSlot l (c .matrix)) (constantBits statusWidth (c .target))) w2)) w3)
+
+pub external-emits : (l : Layout) (s : Slots) (v : ℕ) (e : Literal) (r : Slots) {out : Slots} {n : ℕ} {x0 x1 : List ℤ} {c0 c1 v1 : ℕ} → e ≡ negate (booleanAt s v) → r ≡ set s v (yes! ∷ []) → Emits n (muxes! e r s n) x0 x1 c0 out c1 v1 → Emits n (mover! l s (raise v) n) x0 x1 c0 out c1 v1
+unfolding mover! enable! effect!
+external-emits l s v e r {n = n} {x0 = x0} {c0 = c0} p q w =
+    emits-bind (give (negate (booleanAt s v))) _ (emits-give n (negate (booleanAt s v)) x0 c0)
+    (emits-bind (give (set s v (yes! ∷ []))) (λ (r : Slots). muxes! (negate (booleanAt s v)) r s) (emits-give n (set s v (yes! ∷ [])) x0 c0)
+    (emits-same _ _ (ap₂ (λ (a : Literal) (b : Slots). muxes! a b s n) p q) w))
+
+-- what a cell's bytes name is what its tree has
+module _ (file table : List ℕ) (nv nm : ℕ) (h : Ready file table nv nm) (p : ℕ) (x : NormalCell file p) (l : Layout) (s : Slots) (n : ℕ) where
+  pub cell-event : statusAndEvent! l s (c-matrix file p) (c-status file p) (eventIn file (x .parts .rows) (c-matrix file p) (c-event file p)) n ≡ statusAndEvent! l s (x .cell .matrix) (x .cell .status) (x .cell .event) n
+  cell-event =
+      let i = is file table nv nm h p x in
+      ap₂ (λ (a b : ℕ). statusAndEvent! l s a b (eventIn file (x .parts .rows) (c-matrix file p) (c-event file p)) n) (sym (i .matrix)) (sym (i .status))
+      ∙ ap (λ (e : BoolExpr). statusAndEvent! l s (x .cell .matrix) (x .cell .status) e n) (sym (i .event))

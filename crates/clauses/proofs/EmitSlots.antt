@@ -1,0 +1,220 @@
+-- The state's literals in a flat list: widths, offsets, slots. Assumes nothing.
+use Prim.Native.Nat.{ℕ, zero, suc, _+_, _-_, _*_, _/_, _%_, _<_, _≤_}
+use mathlib.Core.Path.{_≡_, refl, sym, ap, ap₂, subst, _∙_}
+use mathlib.Core.Bool.{Bool, true, false, cond}
+use mathlib.Core.List.{List, [], _∷_, _++_, append-assoc}
+use native.Mathlib.Omega.{arith}
+use native.Mathlib.Numerals.{add-one}
+use lib.Dec.{eqb}
+use borrow.Author.Tests.{eq-eqb, ne-eqb}
+use lib.ListN.{length, getD, take, drop, set, replicate, length-append, length-set, length-replicate, length-drop, getD-replicate, List·getD-append}
+use lib.Seq.{take-suc, drop-drop, getD-drop, take-append-le, take-append-add, getD-append-add, length-take-le}
+use Rattle.design.specs.Tree.{truth}
+use Rattle.clauses.specs.Literal.{Literal, yes!, no!, literalOf}
+use Rattle.clauses.specs.Expression.{Slots, pad, constantBits, lowest}
+use Rattle.clauses.specs.Formula.{total}
+use Rattle.clauses.specs.Writing.{fromCode, fromCodes}
+use Rattle.clauses.specs.FlatState.{widthsFrom, widthsOf, cut, slotsOf}
+use Rattle.clauses.proofs.EmitWords.{code-no, code-yes, append-nil}
+use Rattle.clauses.proofs.EmitLists.{codes-append, codes-length, codes-take, codes-drop, codes-more, take-all, take-none, drop-none}
+
+abbrev wd : List ℕ → ℕ → ℕ
+wd file v = cond (eqb (getD file (3 * v) 0) 1) 16 1
+
+wd-small : (t : Bool) → cond t 16 1 ≤ 16
+wd-small true = omega arith
+wd-small false = omega arith
+
+total-more : (file : List ℕ) (u n : ℕ) → total (widthsFrom file u (suc n)) ≡ total (widthsFrom file u n) + wd file (u + n)
+unfolding widthsFrom
+total-more file u zero = let q : u ≡ u + 0 = omega arith in omega (arith, ap (wd file) q)
+total-more file u (suc n) = let q : suc u + n ≡ u + suc n = omega arith in omega (arith, total-more file (suc u) n, ap (wd file) q)
+
+pub record Adding (file : List ℕ) (v sum i : ℕ) : Type 0 where
+  pub within : i ≤ v
+  pub same : sum ≡ total (widthsFrom file 0 i)
+  pub small : sum ≤ 16 * i
+
+pub adding-start : (file : List ℕ) (v : ℕ) → Adding file v 0 0
+unfolding widthsFrom
+adding-start file v = record { within = omega arith; same = refl; small = omega arith }
+
+pub adding-on : (file : List ℕ) (v sum i w : ℕ) → i < v → w ≡ wd file i → Adding file v sum i → Adding file v (sum + w) (i + 1)
+adding-on file v sum i w h e l =
+    record {
+      within = omega arith;
+      same = ap₂ (λ (a b : ℕ). a + b) (l .same) e ∙ ap (λ (k : ℕ). total (widthsFrom file 0 i) + wd file k) (let q : i ≡ 0 + i = omega arith in q) ∙ sym (total-more file 0 i) ∙ ap (λ (k : ℕ). total (widthsFrom file 0 k)) (sym (add-one i));
+      small = omega (arith, l .small, e, wd-small (eqb (getD file (3 * i) 0) 1));
+    }
+
+pub wd-bound : (file : List ℕ) (i w : ℕ) → w ≡ wd file i → w ≤ 16
+wd-bound file i w e = omega (arith, wd-small (eqb (getD file (3 * i) 0) 1), e)
+
+pub adding-end : (file : List ℕ) (v sum i : ℕ) → v ≤ i → Adding file v sum i → sum ≡ total (widthsFrom file 0 v)
+adding-end file v sum i h l = l .same ∙ ap (λ (k : ℕ). total (widthsFrom file 0 k)) (let q : i ≡ v = omega (arith, l .within) in q)
+
+-- slots of a flat list
+cut-get : (ws : List ℕ) (v : ℕ) (xs : List Literal) → v < length ws → getD (cut ws xs) v [] ≡ take (getD ws v 0) (drop (total (take v ws)) xs)
+unfolding cut
+cut-get [] v xs h = absurd (omega arith)
+cut-get (w ∷ ws) zero xs h = ap (take w) (sym (drop-none xs))
+cut-get (w ∷ ws) (suc v) xs h = cut-get ws v (drop w xs) (omega arith) ∙ ap (take (getD ws v 0)) (drop-drop (total (take v ws)) w xs)
+
+cut-room : (ws : List ℕ) (v : ℕ) → v < length ws → total (take v ws) + getD ws v 0 ≤ total ws
+cut-room [] v h = absurd (omega arith)
+cut-room (w ∷ ws) zero h = omega arith
+cut-room (w ∷ ws) (suc v) h = omega (arith, cut-room ws v (omega arith))
+
+from-length : (file : List ℕ) (u n : ℕ) → length (widthsFrom file u n) ≡ n
+unfolding widthsFrom
+from-length file u zero = refl
+from-length file u (suc n) = ap suc (from-length file (suc u) n)
+
+from-get : (file : List ℕ) (u n v : ℕ) → v < n → getD (widthsFrom file u n) v 0 ≡ wd file (u + v)
+unfolding widthsFrom
+from-get file u zero v h = absurd (omega arith)
+from-get file u (suc n) zero h = ap (wd file) (let q : u ≡ u + 0 = omega arith in q)
+from-get file u (suc n) (suc v) h = from-get file (suc u) n v (omega arith) ∙ ap (wd file) (let q : suc u + v ≡ u + suc v = omega arith in q)
+
+from-take : (file : List ℕ) (u n v : ℕ) → v ≤ n → take v (widthsFrom file u n) ≡ widthsFrom file u v
+unfolding widthsFrom
+from-take file u zero zero h = refl
+from-take file u zero (suc v) h = absurd (omega arith)
+from-take file u (suc n) zero h = refl
+from-take file u (suc n) (suc v) h = ap (λ (r : List ℕ). wd file u ∷ r) (from-take file (suc u) n v (omega arith))
+
+total-append : (a b : List ℕ) → total (a ++ b) ≡ total a + total b
+total-append [] b = omega arith
+total-append (x ∷ a) b = omega (arith, total-append a b)
+
+total-fours : (m n : ℕ) → m ≤ n → total (take m (replicate n 4)) ≡ 4 * m
+total-fours zero zero h = refl
+total-fours zero (suc n) h = refl
+total-fours (suc m) zero h = absurd (omega arith)
+total-fours (suc m) (suc n) h = omega (arith, total-fours m n (omega arith))
+
+module _ (file : List ℕ) (nv nm : ℕ) where
+  pub widths-length : length (widthsOf file nv nm) ≡ nv + nm
+  unfolding widthsOf
+  widths-length = length-append (widthsFrom file 0 nv) (replicate nm 4) ∙ omega (arith, from-length file 0 nv, length-replicate {A = ℕ} nm 4)
+
+  pub variable-width : (v : ℕ) → v < nv → getD (widthsOf file nv nm) v 0 ≡ wd file v
+  unfolding widthsOf
+  variable-width v h = List·getD-append (widthsFrom file 0 nv) (replicate nm 4) 0 v (omega (arith, from-length file 0 nv)) ∙ from-get file 0 nv v h ∙ ap (wd file) (let q : 0 + v ≡ v = omega arith in q)
+
+  pub variable-start : (v : ℕ) → v < nv → total (take v (widthsOf file nv nm)) ≡ total (widthsFrom file 0 v)
+  unfolding widthsOf
+  variable-start v h = ap total (take-append-le v (widthsFrom file 0 nv) (replicate nm 4) (omega (arith, from-length file 0 nv)) ∙ from-take file 0 nv v (omega arith))
+
+  pub status-width : (m : ℕ) → m < nm → getD (widthsOf file nv nm) (nv + m) 0 ≡ 4
+  unfolding widthsOf
+  status-width m h = ap (λ (k : ℕ). getD (widthsFrom file 0 nv ++ replicate nm 4) (k + m) 0) (sym (from-length file 0 nv)) ∙ getD-append-add (widthsFrom file 0 nv) (replicate nm 4) m 0 ∙ getD-replicate nm m 4 0 h
+
+  pub status-start : (m : ℕ) → m < nm → total (take (nv + m) (widthsOf file nv nm)) ≡ total (widthsFrom file 0 nv) + 4 * m
+  unfolding widthsOf
+  status-start m h =
+      ap (λ (k : ℕ). total (take (k + m) (widthsFrom file 0 nv ++ replicate nm 4))) (sym (from-length file 0 nv))
+      ∙ ap total (take-append-add (widthsFrom file 0 nv) (replicate nm 4) m)
+      ∙ total-append (widthsFrom file 0 nv) (take m (replicate nm 4)) ∙ ap (λ (k : ℕ). total (widthsFrom file 0 nv) + k) (total-fours m nm (omega arith))
+
+  module _ (codes : List ℕ) where
+    -- the slot of a variable, or of a status, and that it lies within the state
+    pub variable-slot : (v o w : ℕ) → v < nv → o ≡ total (widthsFrom file 0 v) → w ≡ wd file v → getD (slotsOf file nv nm codes) v [] ≡ take w (drop o (fromCodes codes))
+    unfolding slotsOf
+    variable-slot v o w h e q = cut-get (widthsOf file nv nm) v (fromCodes codes) (omega (arith, widths-length)) ∙ ap₂ (λ (a b : ℕ). take a (drop b (fromCodes codes))) (variable-width v h ∙ sym q) (variable-start v h ∙ sym e)
+
+    pub status-slot : (m o : ℕ) → m < nm → o ≡ total (widthsFrom file 0 nv) + 4 * m → getD (slotsOf file nv nm codes) (nv + m) [] ≡ take 4 (drop o (fromCodes codes))
+    unfolding slotsOf
+    status-slot m o h e = cut-get (widthsOf file nv nm) (nv + m) (fromCodes codes) (omega (arith, widths-length)) ∙ ap₂ (λ (a b : ℕ). take a (drop b (fromCodes codes))) (status-width m h) (status-start m h ∙ sym e)
+
+  pub variable-room : (v o w : ℕ) → v < nv → o ≡ total (widthsFrom file 0 v) → w ≡ wd file v → o + w ≤ total (widthsOf file nv nm)
+  variable-room v o w h e q = omega (arith, cut-room (widthsOf file nv nm) v (omega (arith, widths-length)), variable-width v h, variable-start v h)
+
+  pub status-room : (m o : ℕ) → m < nm → o ≡ total (widthsFrom file 0 nv) + 4 * m → o + 4 ≤ total (widthsOf file nv nm)
+  status-room m o h e = omega (arith, cut-room (widthsOf file nv nm) (nv + m) (omega (arith, widths-length)), status-width m h, status-start m h)
+
+pub integer-width : (file : List ℕ) (v : ℕ) → getD file (3 * v) 0 ≡ 1 → _≡_ {A = ℕ} 16 (cond (eqb (getD file (3 * v) 0) 1) 16 1)
+integer-width file v e = ap {B = ℕ} (λ (t : Bool). cond t 16 1) (sym (eq-eqb (getD file (3 * v) 0) 1 e))
+
+pub boolean-width : (file : List ℕ) (v : ℕ) → (getD file (3 * v) 0 ≡ 1 → ⊥) → _≡_ {A = ℕ} 1 (cond (eqb (getD file (3 * v) 0) 1) 16 1)
+boolean-width file v h = ap {B = ℕ} (λ (t : Bool). cond t 16 1) (sym (ne-eqb (getD file (3 * v) 0) 1 h))
+
+-- loading a slot
+pad-none : (k : ℕ) → fromCodes (replicate k 3) ≡ pad k []
+pad-none zero = refl
+pad-none (suc k) = ap₂ (λ (a : Literal) (r : List Literal). a ∷ r) code-no (pad-none k)
+
+pad-codes : (xs : List ℕ) (k : ℕ) → fromCodes (xs ++ replicate k 3) ≡ pad (length xs + k) (fromCodes xs)
+pad-codes [] k = pad-none k ∙ ap (λ (j : ℕ). pad j []) (let q : k ≡ 0 + k = omega arith in q)
+pad-codes (x ∷ xs) k = ap (λ (r : List Literal). fromCode x ∷ r) (pad-codes xs k) ∙ ap (λ (j : ℕ). pad j (fromCode x ∷ fromCodes xs)) (let q : suc (length xs + k) ≡ suc (length xs) + k = omega arith in q)
+
+pub set-seam : (xs : List ℕ) (z y : ℕ) (r : List ℕ) (n : ℕ) → length xs ≡ n → set (xs ++ (z ∷ r)) n y ≡ xs ++ (y ∷ r)
+set-seam [] z y r zero h = refl
+set-seam [] z y r (suc n) h = absurd (omega arith)
+set-seam (x ∷ xs) z y r zero h = absurd (omega arith)
+set-seam (x ∷ xs) z y r (suc n) h = ap (λ (l : List ℕ). x ∷ l) (set-seam xs z y r n (omega arith))
+
+pub record Loading (bits : List ℕ) (off w : ℕ) (out : List ℕ) (i : ℕ) : Type 0 where
+  pub within : i ≤ w
+  pub size : length out ≡ 16
+  pub same : out ≡ take i (drop off bits) ++ replicate (16 - i) 3
+
+pub loading-start : (bits : List ℕ) (off w : ℕ) → Loading bits off w (replicate 16 3) 0
+loading-start bits off w = record { within = omega arith; size = refl; same = ap (λ (l : List ℕ). l ++ replicate 16 3) (sym (take-none (drop off bits))) }
+
+pub loading-on : (bits : List ℕ) (off w : ℕ) (out : List ℕ) (i : ℕ) → off + w ≤ length bits → w ≤ 16 → i < w → Loading bits off w out i → Loading bits off w (set out i (getD bits (off + i) 0)) (i + 1)
+loading-on bits off w out i room small h l =
+    let xs = take i (drop off bits) in
+    let y = getD bits (off + i) 0 in
+    let lx : length xs ≡ i = length-take-le i (drop off bits) (omega (arith, length-drop off bits)) in
+    let k : 16 - i ≡ suc (16 - (i + 1)) = omega arith in
+    let tk : take (i + 1) (drop off bits) ≡ xs ++ (y ∷ []) = ap (λ (j : ℕ). take j (drop off bits)) (add-one i) ∙ take-suc (drop off bits) i 0 (omega (arith, length-drop off bits)) ∙ ap (λ (z : ℕ). xs ++ (z ∷ [])) (getD-drop off bits i 0) in
+    record {
+      within = omega arith;
+      size = length-set out i y ∙ l .size;
+      same = ap (λ (o : List ℕ). set o i y) (l .same ∙ ap (λ (j : ℕ). xs ++ replicate j 3) k) ∙ set-seam xs 3 y (replicate (16 - (i + 1)) 3) i lx ∙ sym (append-assoc xs (y ∷ []) (replicate (16 - (i + 1)) 3)) ∙ ap (λ (t : List ℕ). t ++ replicate (16 - (i + 1)) 3) (sym tk);
+    }
+
+pub loading-end : (bits : List ℕ) (off w : ℕ) (out : List ℕ) (i : ℕ) → off + w ≤ length bits → w ≤ 16 → w ≤ i → Loading bits off w out i → fromCodes out ≡ pad 16 (take w (drop off (fromCodes bits)))
+loading-end bits off w out i room small h l =
+    let e : i ≡ w = omega (arith, l .within) in
+    let lx : length (take w (drop off bits)) ≡ w = length-take-le w (drop off bits) (omega (arith, length-drop off bits)) in
+    let q : length (take w (drop off bits)) + (16 - w) ≡ 16 = omega arith in
+    ap fromCodes (l .same ∙ ap (λ (j : ℕ). take j (drop off bits) ++ replicate (16 - j) 3) e) ∙ pad-codes (take w (drop off bits)) (16 - w) ∙ ap₂ (λ (j : ℕ) (r : List Literal). pad j r) q (codes-take w (drop off bits) ∙ ap (take w) (codes-drop off bits))
+
+-- the one literal of a Boolean
+pub lowest-one : (bits : List ℕ) (o : ℕ) → o < length bits → lowest (take 1 (drop o (fromCodes bits))) ≡ fromCode (getD bits o 0)
+lowest-one [] o h = absurd (omega arith)
+lowest-one (x ∷ l) zero h = refl
+lowest-one (x ∷ l) (suc o) h = lowest-one l o (omega arith)
+
+-- the literals of a number
+pub record Counting (x : ℕ) (out : List ℕ) (n i : ℕ) : Type 0 where
+  pub within : i ≤ 16
+  pub size : length out ≡ 16
+  pub same : fromCodes (take i out) ++ constantBits (16 - i) n ≡ constantBits 16 x
+
+pub counting-start : (x : ℕ) (out : List ℕ) → length out ≡ 16 → Counting x out x 0
+counting-start x out h = record { within = omega arith; size = h; same = ap (λ (l : List ℕ). fromCodes l ++ constantBits 16 x) (take-none out) }
+
+pub counting-on : (x : ℕ) (out : List ℕ) (n i s : ℕ) → i < 16 → fromCode s ≡ literalOf (truth (n % 2)) → Counting x out n i → Counting x (set out i s) (n / 2) (i + 1)
+counting-on x out n i s h e l =
+    let k : 16 - i ≡ suc (16 - (i + 1)) = omega arith in
+    record {
+      within = omega arith;
+      size = length-set out i s ∙ l .size;
+      same = sym (codes-more out i s (literalOf (truth (n % 2))) (constantBits (16 - (i + 1)) (n / 2)) (omega (arith, l .size)) e) ∙ ap (λ (j : ℕ). fromCodes (take i out) ++ constantBits j n) (sym k) ∙ l .same;
+    }
+
+pub counting-end : (x : ℕ) (out : List ℕ) (n i : ℕ) → 16 ≤ i → Counting x out n i → fromCodes out ≡ constantBits 16 x
+counting-end x out n i h l =
+    let k : 16 - i ≡ 0 = omega arith in
+    sym (append-nil (fromCodes out)) ∙ ap (λ (o : List ℕ). fromCodes o ++ []) (sym (take-all out i (omega (arith, l .size)))) ∙ ap (λ (j : ℕ). fromCodes (take i out) ++ constantBits j n) (sym k) ∙ l .same
+
+-- a Boolean of a byte
+pub truth-no : (b : ℕ) → b ≡ 0 → fromCode 3 ≡ literalOf (truth b)
+truth-no b e = code-no ∙ ap (λ (k : ℕ). literalOf (truth k)) (sym e)
+
+pub truth-yes : (b : ℕ) → (b ≡ 0 → ⊥) → fromCode 2 ≡ literalOf (truth b)
+truth-yes zero h = absurd (h refl)
+truth-yes (suc b) h = code-yes

@@ -1,0 +1,305 @@
+-- Loops over movers and over invalid cells. Assumes nothing.
+use mathlib.Core.Path.{_≡_, refl, sym, ap, ap₂, subst, _∙_}
+use mathlib.Core.Bool.{Bool, true, false, cond}
+use mathlib.Core.List.{List, [], _∷_, _++_, map, append-assoc}
+use mathlib.Core.Option.{Option, some}
+use mathlib.Core.Logic.{_⊎_, ⊎-elim}
+use Prim.Native.Nat.{ℕ, zero, suc, _+_, _*_, _-_, _<_, _≤_}
+use native.Mathlib.Omega.{arith}
+use native.Mathlib.Numerals.{add-one}
+use lib.ListN.{getD, length, set, take, drop, getElem?, length-set, length-append, length-map}
+use lib.Seq.{drop-cons, take-suc-set, getD-take}
+use lib.Dec.{eqb}
+use lib.IntN.{ℤ}
+use borrow.Author.Tests.{eqb-true, eq-eqb, ne-eqb}
+use Rattle.design.specs.Tree.{BoolExpr, constantB, done, Cell, InvalidCell, Design, Mover, cell, raise, movers, Variable}
+use Rattle.design.specs.Limits.{maxDepth}
+use Rattle.design.specs.State.{Layout, layout}
+use Rattle.design.specs.Reading.{got}
+use Rattle.design.specs.Expression.{boolExpr}
+use Rattle.design.specs.DesignFile.{Entry, normal, invalid, c-matrix, c-status, c-event, c-kind, c-past}
+use Rattle.design.specs.Check.{namesOf, trailer, variableCount, matricesOffset, cellsOffset, cellCount, invariantOffset, normals, invalids, names}
+use Rattle.design.specs.Places.{Accepted, pastCells, normalPlaces, CellsIndexed}
+use Rattle.design.proofs.Sections.{Parts, Cells, eventIn}
+use Rattle.design.proofs.Positions.{CellRead, EntryRead, invariant-stands}
+use Rattle.design.proofs.Places.{Read as Tree, read, Standing, CellFields, cell-fields, cell-stands, cell-inside, normal-stands}
+use Rattle.step.specs.Ready.{NormalCell, externalsFrom}
+use Rattle.step.proofs.Externals.{mover-count, cell-mover, raise-mover}
+use Rattle.clauses.specs.Literal.{Literal, negate, yes! }
+use Rattle.clauses.specs.Circuit.{Built, Build, give, _>>=_, and! }
+use Rattle.clauses.specs.Expression.{Slots, bool! }
+use Rattle.clauses.specs.Action.{statusAndEvent!, mover!, movers!, noInvalid! }
+use Rattle.clauses.specs.Formula.{property! }
+use Rattle.clauses.specs.Writing.{fromCode, Emits}
+use Rattle.clauses.specs.Piece.{link! }
+use Rattle.clauses.specs.FlatState.{slotsOf, layoutOf}
+use Rattle.clauses.specs.Ready.{Ready, resultFrom}
+use Rattle.clauses.proofs.EmitWords.{append-nil, code-yes}
+use Rattle.clauses.proofs.EmitLists.{drop-all}
+use Rattle.clauses.proofs.EmitBuilds.{emits-same, emits-result, emits-give, emits-bind, Left, left-start, left-on, left-map, left-same, left-result, left-end}
+use Rattle.clauses.proofs.EmitStates.{built-same}
+use Rattle.clauses.proofs.EmitCells.{sizes}
+
+-- every external's kind byte is 2
+kind-in : (file : List ℕ) (v : ℕ) (rest : List ℕ) → ((k : ℕ) → k < length rest → getD file (3 * getD rest k 0) 0 ≡ 2) → (t : Bool) → eqb (getD file (3 * v) 0) 2 ≡ t → (k : ℕ) → k < length (cond t (v ∷ rest) rest) → getD file (3 * getD (cond t (v ∷ rest) rest) k 0) 0 ≡ 2
+kind-in file v rest h true e zero l = eqb-true _ _ e
+kind-in file v rest h true e (suc k) l = h k (omega arith)
+kind-in file v rest h false e k l = h k l
+
+external-kind : (file : List ℕ) (v n k : ℕ) → k < length (externalsFrom file v n) → getD file (3 * getD (externalsFrom file v n) k 0) 0 ≡ 2
+unfolding externalsFrom
+external-kind file v zero k h = absurd (omega arith)
+external-kind file v (suc n) k h = kind-in file v (externalsFrom file (suc v) n) (λ j l. external-kind file (suc v) n j l) (eqb (getD file (3 * v) 0) 2) refl k h
+
+some-same : {A : Type 0} (a b : A) → some a ≡ some b → a ≡ b
+some-same a b e = cc
+
+module _ (file table cells : List ℕ) (nv nm count : ℕ) (h : Ready file table nv nm) (x : CellsIndexed file cells count) where
+  tree : Tree file
+  tree = read file (h .accepted)
+
+  place-is : (i : ℕ) → i < count → getD cells i 0 ≡ getD (normalPlaces file) i 0
+  place-is i l = sym (getD-take count cells i 0 l) ∙ ap (λ (t : List ℕ). getD t i 0) (x .entries)
+
+  -- the cell that entry i of the table names
+  abbrev named : (d : Design) (w : Parts file d) (i : ℕ) → i < count → (c : Cell) → NormalCell file (getD cells i 0)
+  named d w i l c = record {
+    tree = d;
+    parts = w;
+    cell = getD (d .cells) i c;
+    stands = subst (λ (p : ℕ). Standing file (eventIn file (w .rows)) p (normal (getD (d .cells) i c))) (sym (place-is i l)) (let n = normal-stands file d w in n .reads i (omega (arith, n .count, x .count)) c);
+  }
+
+  abbrev anything : Cell
+  anything = record { matrix = 0; status = 0; event = constantB false; target = 0; guard = constantB false; action = done }
+
+  pub cell-here : (i : ℕ) → i < count → NormalCell file (getD cells i 0)
+  cell-here i l = named (tree .tree) (tree .all .parts) i l anything
+
+  pub place-small : (i : ℕ) → i < count → getD cells i 0 < 16384
+  place-small i l =
+      let c = cell-here i l in
+      let f = cell-fields file (eventIn file (c .parts .rows)) (getD cells i 0) (normal (c .cell)) (c .stands) in
+      omega (arith, f .header, sizes file table nv nm h)
+
+  pub few-cells : count ≤ 64
+  few-cells =
+      let m = mover-count file (tree .tree) (tree .all .parts) in
+      omega (arith, m, tree .all .movers, x .count)
+
+  externals-same : externalsFrom file 0 nv ≡ externalsFrom file 0 (variableCount file)
+  externals-same = ap (externalsFrom file 0) (h .variables)
+
+  pub all-few : count + length (externalsFrom file 0 nv) ≤ 64
+  all-few =
+      let m = mover-count file (tree .tree) (tree .all .parts) in
+      omega (arith, m, tree .all .movers, x .count, ap length externals-same)
+
+  -- mover i
+  module _ (l : Layout) (s : Slots) {n : ℕ} {xs ys : List ℤ} {cur : ℕ} {out : Slots} {c v : ℕ} (i : ℕ) where
+    pub cell-is : i < count → ((y : NormalCell file (getD cells i 0)) → Emits n (mover! l s (cell (y .cell)) n) xs ys cur out c v) → (d : Design) (w : Parts file d) (m : Mover) → getElem? (movers d) i ≡ some m → Emits n (mover! l s m n) xs ys cur out c v
+    cell-is k f d w m e =
+        let q : cell (getD (d .cells) i anything) ≡ m = some-same _ _ (sym (cell-mover file d w i (omega (arith, x .count)) anything) ∙ e) in
+        emits-same _ _ (ap (λ (y : Mover). mover! l s y n) q) (f (named d w i k anything))
+
+    pub external-is : count ≤ i → (j : ℕ) → j ≡ getD (externalsFrom file 0 nv) (i - count) 0 → i < count + length (externalsFrom file 0 nv) → Emits n (mover! l s (raise j) n) xs ys cur out c v → (d : Design) (w : Parts file d) (m : Mover) → getElem? (movers d) i ≡ some m → Emits n (mover! l s m n) xs ys cur out c v
+    external-is k j q b f d w m e =
+        let z : length (externalsFrom file 0 nv) ≡ length (externalsFrom file 0 (variableCount file)) = ap length externals-same in
+        let r : raise (getD (externalsFrom file 0 (variableCount file)) (i - count) 0) ≡ m = some-same _ _ (sym (raise-mover file d w i (i - count) (omega (arith, x .count)) (omega arith)) ∙ e) in
+        emits-same _ _ (ap (λ (y : Mover). mover! l s y n) (ap raise (q ∙ ap (λ (t : List ℕ). getD t (i - count) 0) externals-same) ∙ r)) f
+
+  pub raised-kind : (i j : ℕ) → count ≤ i → i < count + length (externalsFrom file 0 nv) → j ≡ getD (externalsFrom file 0 nv) (i - count) 0 → getD file (3 * j) 0 ≡ 2
+  raised-kind i j k b q = ap (λ (t : ℕ). getD file (3 * t) 0) q ∙ external-kind file 0 nv (i - count) (omega arith)
+
+-- all movers
+found : (ms : List Mover) (i : ℕ) → i < length ms → getElem? ms i ≡ some (getD ms i (raise 0))
+found [] i h = absurd (omega arith)
+found (m ∷ ms) zero h = refl
+found (m ∷ ms) (suc i) h = found ms i (omega arith)
+
+movers-step : (l : Layout) (s : Slots) (m : Mover) (ms : List Mover) (n : ℕ) → movers! l s (m ∷ ms) n ≡ (mover! l s m >>= (λ (r : Slots). movers! l s ms >>= (λ (rs : List Slots). give (r ∷ rs)))) n
+unfolding movers!
+movers-step l s m ms n = refl
+
+movers-none : (l : Layout) (s : Slots) (n : ℕ) → movers! l s [] n ≡ give [] n
+unfolding movers!
+movers-none l s n = refl
+
+map-append : {A B : Type 0} (f : A → B) (a b : List A) → map f (a ++ b) ≡ map f a ++ map f b
+map-append f [] b = refl
+map-append f (x ∷ a) b = ap (λ l. f x ∷ l) (map-append f a b)
+
+module _ (file : List ℕ) (nv nm all : ℕ) (codes : List ℕ) where
+  abbrev R : ℕ → Slots
+  R v = resultFrom file nv nm v
+
+  abbrev S : Slots
+  S = slotsOf file nv nm codes
+
+  pub record Moving (n₀ : ℕ) (xs₀ : List ℤ) (cur₀ : ℕ) (firsts : List ℕ) (xs : List ℤ) (cur n i : ℕ) : Type 0 where
+    pub within : i ≤ all
+    pub size : length firsts ≡ 64
+    pub left : (d : Design) (w : Parts file d) → Left n₀ (movers! (layoutOf nv) S (movers d) n₀) xs₀ cur₀ n (movers! (layoutOf nv) S (drop i (movers d)) n) xs cur (λ (rs : List Slots). map R (take i firsts) ++ rs)
+
+  pub moving-start : (n : ℕ) (xs : List ℤ) (cur : ℕ) (firsts : List ℕ) → length firsts ≡ 64 → Moving n xs cur firsts xs cur n 0
+  moving-start n xs cur firsts e = record {
+    within = omega arith;
+    size = e;
+    left = λ d w. left-result _ _ (λ (rs : List Slots). ap (λ (l : List ℕ). map R l ++ rs) (sym (none firsts))) (left-same _ _ (ap (λ (ms : List Mover). movers! (layoutOf nv) S ms n) (sym (whole (movers d)))) (left-start n (movers! (layoutOf nv) S (movers d) n) xs cur));
+  }
+    where
+      none : (l : List ℕ) → take 0 l ≡ []
+      none [] = refl
+      none (x ∷ l) = refl
+
+      whole : (l : List Mover) → drop 0 l ≡ l
+      whole [] = refl
+      whole (x ∷ l) = refl
+
+  pub moving-on : {n₀ : ℕ} {xs₀ : List ℤ} {cur₀ : ℕ} (firsts : List ℕ) {xs : List ℤ} {cur n i : ℕ} → i < all → all ≤ 64 → ((d : Design) (w : Parts file d) → length (movers d) ≡ all) → Moving n₀ xs₀ cur₀ firsts xs cur n i
+      → {ys : List ℤ} (first : ℕ) {cur′ n′ : ℕ} → ((d : Design) (w : Parts file d) (m : Mover) → getElem? (movers d) i ≡ some m → Emits n (mover! (layoutOf nv) S m n) xs ys cur (R first) cur′ n′) → Moving n₀ xs₀ cur₀ (set firsts i first) ys cur′ n′ (i + 1)
+  moving-on firsts {n = n} {i = i} l few len k first e = record {
+    within = omega arith;
+    size = length-set firsts i first ∙ k .size;
+    left = λ d w.
+        let b = len d w in
+        let c : drop i (movers d) ≡ getD (movers d) i (raise 0) ∷ drop (i + 1) (movers d) = rw (add-one, drop-cons (movers d) i (raise 0)  (omega arith)) in
+        let m = getD (movers d) i (raise 0) in
+        let one = left-same _ _ (ap (λ (ms : List Mover). movers! (layoutOf nv) S ms n) c ∙ movers-step (layoutOf nv) S m (drop (i + 1) (movers d)) n) (k .left d w) in
+        let two = left-on (mover! (layoutOf nv) S m) _ one (e d w m (found (movers d) i (omega arith))) in
+        let three = left-map (movers! (layoutOf nv) S (drop (i + 1) (movers d))) (λ (rs : List Slots). R first ∷ rs) two in
+        left-result _ _ (λ (rs : List Slots). more firsts i first rs (omega (arith, k .size))) three;
+  }
+    where
+      more : (firsts : List ℕ) (i first : ℕ) (rs : List Slots) → i < length firsts → map R (take i firsts) ++ (R first ∷ rs) ≡ map R (take (i + 1) (set firsts i first)) ++ rs
+      more firsts i first rs h =
+          let tk : take (i + 1) (set firsts i first) ≡ take i firsts ++ (first ∷ []) = ap (λ (j : ℕ). take j (set firsts i first)) (add-one i) ∙ take-suc-set firsts i first h in
+          sym (ap (λ (l : List ℕ). map R l ++ rs) tk ∙ ap (λ (l : List Slots). l ++ rs) (map-append R (take i firsts) (first ∷ [])) ∙ append-assoc (map R (take i firsts)) (R first ∷ []) rs)
+
+  pub moving-end : {n₀ : ℕ} {xs₀ : List ℤ} {cur₀ : ℕ} (firsts : List ℕ) {xs : List ℤ} {cur n i : ℕ} → all ≤ i → ((d : Design) (w : Parts file d) → length (movers d) ≡ all) → Moving n₀ xs₀ cur₀ firsts xs cur n i
+      → (d : Design) (w : Parts file d) → Emits n₀ (movers! (layoutOf nv) S (movers d) n₀) xs₀ xs cur₀ (map R (take all firsts)) cur n
+  moving-end firsts {n = n} {i = i} l len k d w =
+      let b = len d w in
+      let q : i ≡ all = omega (arith, k .within) in
+      emits-result _ (append-nil (map R (take i firsts)) ∙ ap (λ (j : ℕ). map R (take j firsts)) q)
+      (left-end [] (left-same _ _ (ap (λ (ms : List Mover). movers! (layoutOf nv) S ms n) (drop-all (movers d) i (omega arith)) ∙ movers-none (layoutOf nv) S n) (k .left d w)))
+
+bind-assoc : {A B C : Type 0} (m : Build A) (f : A → Build B) (g : B → Build C) (n : ℕ) → ((m >>= f) >>= g) n ≡ (m >>= (λ x. f x >>= g)) n
+unfolding _>>=_
+bind-assoc m f g n =
+    let a = m n in
+    let b = f (a .out) (a .next) in
+    let c = g (b .out) (b .next) in
+    built-same _ _ refl refl (append-assoc (a .gates) (b .gates) (c .gates))
+
+-- a cell of property 1's chain
+pub link-pass : (l : Layout) (s : Slots) (c : Literal) (k m st : ℕ) (e : BoolExpr) (n : ℕ) (xs : List ℤ) (cur : ℕ) → k ≡ 0 → Emits n (link! l s c k m st e n) xs xs cur c cur n
+unfolding link!
+link-pass l s c k m st e n xs cur z = emits-same _ _ (ap (λ (t : Bool). cond t (give c) (statusAndEvent! l s m st e >>= (λ (x : Literal). and! c (negate x))) n) (sym (eq-eqb k 0 z))) (emits-give n c xs cur)
+
+pub link-emits : (l : Layout) (s : Slots) (c : Literal) (k m st : ℕ) (e : BoolExpr) (a b : Literal) {y : Literal} {n : ℕ} {x0 x1 x2 : List ℤ} {c0 c1 c2 v1 v2 : ℕ} → (k ≡ 0 → ⊥) → b ≡ negate a
+    → Emits n (statusAndEvent! l s m st e n) x0 x1 c0 a c1 v1 → Emits v1 (and! c b v1) x1 x2 c1 y c2 v2 → Emits n (link! l s c k m st e n) x0 x2 c0 y c2 v2
+unfolding link!
+link-emits l s c k m st e a b {n = n} {v1 = v1} z eb w1 w2 =
+    emits-same _ _ (ap (λ (t : Bool). cond t (give c) (statusAndEvent! l s m st e >>= (λ (x : Literal). and! c (negate x))) n) (sym (ne-eqb k 0 z)))
+    (emits-bind (statusAndEvent! l s m st e) (λ (x : Literal). and! c (negate x)) w1 (emits-same _ _ (ap (λ (t : Literal). and! c t v1) eb) w2))
+
+-- the invalid cells
+module _ (file : List ℕ) (nv nm : ℕ) (codes : List ℕ) where
+  abbrev SL : Slots
+  SL = slotsOf file nv nm codes
+
+  pub record Scanning (n₀ : ℕ) (xs₀ : List ℤ) (cur₀ : ℕ) (p : ℕ) (xs : List ℤ) (part : Literal) (cur n i : ℕ) : Type 0 where
+    pub within : i ≤ cellCount file
+    pub place : p ≡ pastCells file i (cellsOffset file)
+    pub left : (d : Design) (w : Parts file d) → Left n₀ (noInvalid! (layoutOf nv) SL yes! (d .invalid) n₀) xs₀ cur₀ n (noInvalid! (layoutOf nv) SL part (invalids (drop i (w .entries))) n) xs cur (λ (l : Literal). l)
+
+  pub scanning-start : (n : ℕ) (xs : List ℤ) (cur p : ℕ) (part : Literal) → p ≡ cellsOffset file → part ≡ yes! → Scanning n xs cur p xs part cur n 0
+  unfolding pastCells
+  scanning-start n xs cur p part e q = record {
+    within = omega arith;
+    place = e;
+    left = λ d w. left-same _ _ (ap₂ (λ (ps : List InvalidCell) (l : Literal). noInvalid! (layoutOf nv) SL l ps n) (w .invalid ∙ ap invalids (sym (whole (w .entries)))) (sym q)) (left-start n (noInvalid! (layoutOf nv) SL yes! (d .invalid) n) xs cur);
+  }
+    where
+      whole : (l : List Entry) → drop 0 l ≡ l
+      whole [] = refl
+      whole (x ∷ l) = refl
+
+  abbrev none : Entry
+  none = invalid (record { matrix = 0; status = 0; event = constantB false })
+
+  module _ (d : Design) (w : Parts file d) (i : ℕ) (h : i < cellCount file) where
+    here : Standing file (eventIn file (w .rows)) (pastCells file i (cellsOffset file)) (getD (w .entries) i none)
+    unfolding pastCells
+    here = cell-stands file (eventIn file (w .rows)) (w .entries) (cellsOffset file) (cellsOffset file) (invariantOffset file) (w .cell-run) i (omega (arith, w .cell-count)) none
+
+    cons : drop i (w .entries) ≡ getD (w .entries) i none ∷ drop (i + 1) (w .entries)
+    cons = rw (add-one, drop-cons (w .entries) i none (omega (arith, w .cell-count)))
+
+  pub scan-fields : (d : Design) (w : Parts file d) (p i : ℕ) → i < cellCount file → p ≡ pastCells file i (cellsOffset file) → CellFields file p
+  scan-fields d w p i h e = subst (CellFields file) (sym e) (cell-fields file (eventIn file (w .rows)) (pastCells file i (cellsOffset file)) (getD (w .entries) i none) (here d w i h))
+
+  -- a cell and the cells after it
+  link-is : (l : Layout) (s : Slots) (c : Literal) (f : ℕ → ℕ → BoolExpr) (p : ℕ) (x : Entry) (xs : List Entry) → EntryRead file (trailer file) (names file) (matricesOffset file) f p (c-kind file p) x → (n : ℕ)
+      → noInvalid! l s c (invalids (x ∷ xs)) n ≡ (link! l s c (c-kind file p) (c-matrix file p) (c-status file p) (f (c-matrix file p) (c-event file p)) >>= (λ (y : Literal). noInvalid! l s y (invalids xs))) n
+  unfolding noInvalid! link! _>>=_ give
+  link-is l s c f p (normal q) xs r n = ap (λ (t : Bool). (cond t (give c) (statusAndEvent! l s (c-matrix file p) (c-status file p) (f (c-matrix file p) (c-event file p)) >>= (λ (x : Literal). and! c (negate x))) >>= (λ (y : Literal). noInvalid! l s y (invalids xs))) n) (sym (eq-eqb _ _ (r .0)))
+  link-is l s c f p (invalid q) xs r n =
+      let same : statusAndEvent! l s (q .matrix) (q .status) (q .event) ≡ statusAndEvent! l s (c-matrix file p) (c-status file p) (f (c-matrix file p) (c-event file p)) =
+          ap₂ (λ (a b : ℕ). statusAndEvent! l s a b (q .event)) (r .1 .matrix) (r .1 .status) ∙ ap (statusAndEvent! l s (c-matrix file p) (c-status file p)) (r .1 .event) in
+      ap (λ (m : Build Literal). (m >>= (λ (x : Literal). and! c (negate x) >>= (λ (y : Literal). noInvalid! l s y (invalids xs)))) n) same
+      ∙ sym (bind-assoc (statusAndEvent! l s (c-matrix file p) (c-status file p) (f (c-matrix file p) (c-event file p))) (λ (x : Literal). and! c (negate x)) (λ (y : Literal). noInvalid! l s y (invalids xs)) n)
+      ∙ ap (λ (t : Bool). (cond t (give c) (statusAndEvent! l s (c-matrix file p) (c-status file p) (f (c-matrix file p) (c-event file p)) >>= (λ (x : Literal). and! c (negate x))) >>= (λ (y : Literal). noInvalid! l s y (invalids xs))) n) (sym (ne-eqb _ _ (r .0)))
+
+  module _ {n₀ : ℕ} {xs₀ : List ℤ} {cur₀ p : ℕ} {xs : List ℤ} (part : Literal) {cur n i : ℕ} (h : i < cellCount file) (k : Scanning n₀ xs₀ cur₀ p xs part cur n i) (p′ : ℕ) (e : p′ ≡ c-past file p) where
+    next-place : p′ ≡ pastCells file (i + 1) (cellsOffset file)
+    unfolding pastCells
+    next-place = e ∙ ap (c-past file) (k .place) ∙ ap (λ (j : ℕ). pastCells file j (cellsOffset file)) (sym (add-one i))
+
+    pub scanning-on : {ys : List ℤ} (y : Literal) {c1 v1 : ℕ}
+        → ((d : Design) (w : Parts file d) → Emits n (link! (layoutOf nv) SL part (c-kind file p) (c-matrix file p) (c-status file p) (eventIn file (w .rows) (c-matrix file p) (c-event file p)) n) xs ys cur y c1 v1) → Scanning n₀ xs₀ cur₀ p′ ys y c1 v1 (i + 1)
+    scanning-on y e1 = record {
+      within = omega arith;
+      place = next-place;
+      left = λ d w.
+          let f = eventIn file (w .rows) in
+          let rest = drop (i + 1) (w .entries) in
+          let P = pastCells file i (cellsOffset file) in
+          let built = ap (λ (ps : List InvalidCell). noInvalid! (layoutOf nv) SL part ps n) (ap invalids (cons d w i h))
+              ∙ link-is (layoutOf nv) SL part f P (getD (w .entries) i none) rest (here d w i h .1 .entry) n
+              ∙ ap (λ (j : ℕ). (link! (layoutOf nv) SL part (c-kind file j) (c-matrix file j) (c-status file j) (f (c-matrix file j) (c-event file j)) >>= (λ (y : Literal). noInvalid! (layoutOf nv) SL y (invalids rest))) n) (sym (k .place)) in
+          left-on (link! (layoutOf nv) SL part (c-kind file p) (c-matrix file p) (c-status file p) (f (c-matrix file p) (c-event file p))) (λ (y : Literal). noInvalid! (layoutOf nv) SL y (invalids rest)) (left-same _ _ built (k .left d w)) (e1 d w);
+    }
+
+  pub scanning-end : {n₀ : ℕ} {xs₀ : List ℤ} {cur₀ p : ℕ} {xs : List ℤ} (part : Literal) {cur n i : ℕ} → cellCount file ≤ i → Scanning n₀ xs₀ cur₀ p xs part cur n i
+      → (d : Design) (w : Parts file d) → Emits n₀ (noInvalid! (layoutOf nv) SL yes! (d .invalid) n₀) xs₀ xs cur₀ part cur n
+  unfolding noInvalid!
+  scanning-end part {n = n} {i = i} h k d w = left-end part (left-same _ _ (ap (λ (es : List Entry). noInvalid! (layoutOf nv) SL part (invalids es) n) (drop-all (w .entries) i (omega (arith, w .cell-count)))) (k .left d w))
+
+-- the invariant, and the layout
+module _ (file table : List ℕ) (nv nm : ℕ) (h : Ready file table nv nm) where
+  pub invariant-got : (d : Design) (w : Parts file d) (at end : ℕ) → at ≡ invariantOffset file → end ≡ trailer file → boolExpr file (namesOf file nv nm) end maxDepth at ≡ got (d .invariant) end
+  invariant-got d w at end a e =
+      ap₂ (λ (x y : ℕ). boolExpr file (namesOf file nv nm) y maxDepth x) a e ∙ ap₂ (λ (x y : ℕ). boolExpr file (namesOf file x y) (trailer file) maxDepth (invariantOffset file)) (h .variables) (h .matrices)
+      ∙ invariant-stands file d w ∙ ap (got (d .invariant)) (sym e)
+
+  pub layout-is : (d : Design) (w : Parts file d) → layout d ≡ layoutOf nv
+  unfolding layout
+  layout-is d w = ap (λ (n : ℕ). record { statuses = n }) (w .variable-count ∙ sym (h .variables))
+
+  pub property-0 : (d : Design) (w : Parts file d) (p : ℕ) (s : Slots) (n : ℕ) → p ≡ 0 → bool! (layoutOf nv) s (d .invariant) n ≡ property! d p s n
+  unfolding property!
+  property-0 d w zero s n e = ap (λ (l : Layout). bool! l s (d .invariant) n) (sym (layout-is d w))
+  property-0 d w (suc p) s n e = absurd (omega arith)
+
+  pub property-1 : (d : Design) (w : Parts file d) (p : ℕ) (s : Slots) (n : ℕ) → (p ≡ 0 → ⊥) → noInvalid! (layoutOf nv) s yes! (d .invalid) n ≡ property! d p s n
+  unfolding property!
+  property-1 d w zero s n e = absurd (e refl)
+  property-1 d w (suc p) s n e = ap (λ (l : Layout). noInvalid! l s yes! (d .invalid) n) (sym (layout-is d w))
+
+  pub cell-in : (p i : ℕ) → i < cellCount file → p ≡ pastCells file i (cellsOffset file) → CellFields file p
+  cell-in p i l e = let t = read file (h .accepted) in scan-fields file nv nm [] (t .tree) (t .all .parts) p i l e
+
+  pub mover-total : (cells : List ℕ) (count all : ℕ) → CellsIndexed file cells count → all ≡ count + length (externalsFrom file 0 nv) → (d : Design) (w : Parts file d) → length (movers d) ≡ all
+  mover-total cells count all x e d w = omega (arith, mover-count file d w, x .count, ap (λ (n : ℕ). length (externalsFrom file 0 n)) (h .variables))

@@ -1,0 +1,100 @@
+-- The gates of a frame are those of the file's cells, externals and invariant.
+use mathlib.Core.Path.{_≡_, refl, sym, ap, ap₂, subst, _∙_}
+use mathlib.Core.Bool.{Bool, true, false}
+use mathlib.Core.List.{List, [], _∷_, _++_, map}
+use Prim.Native.Nat.{ℕ, zero, suc, _+_, _*_, _<_, _≤_}
+use native.Mathlib.Nat.{suc-mul}
+use native.Mathlib.Omega.{arith}
+use lib.ListN.{getD, length}
+use Rattle.design.specs.Tree.{Cell, InvalidCell, Design, Mover, cell, raise, externals, movers}
+use Rattle.design.specs.DesignFile.{Entry, normal, invalid}
+use Rattle.design.specs.Check.{Checked, check, normals, invalids, variableCount}
+use Rattle.design.proofs.Sections.{Parts}
+use Rattle.step.specs.Ready.{externalsFrom}
+use Rattle.step.proofs.Externals.{raises}
+use Rattle.clauses.specs.Formula.{S}
+use Rattle.clauses.specs.Cost.{Cost, cost, plus, gatesIn, boolCost, statusAndEventCost, enableCost, effectCost, moverCost, moversCost, invalidCost, propertyCost, stepCost}
+use Rattle.clauses.specs.FrameSizes.{entryCost, entriesCost}
+use Rattle.clauses.proofs.Bounds.{Bounded, bounded}
+
+-- a cost is its two numbers
+same-cost : (x y : Cost) → x .ands ≡ y .ands → x .wides ≡ y .wides → x ≡ y
+same-cost x y p q = ap₂ cost p q
+
+entries-normal : (bits : ℕ) (es : List Entry) → entriesCost bits false es ≡ moversCost bits (map cell (normals es))
+unfolding entriesCost moversCost
+entries-normal bits [] = refl
+entries-normal bits (normal c ∷ es) = ap (plus (moverCost bits (cell c))) (entries-normal bits es)
+entries-normal bits (invalid p ∷ es) =
+    let e = entries-normal bits es in
+    same-cost _ _ (omega (arith, ap (λ (x : Cost). x .ands) e)) (omega (arith, ap (λ (x : Cost). x .wides) e))
+
+entries-invalid : (bits : ℕ) (es : List Entry) → entriesCost bits true es ≡ invalidCost (invalids es)
+unfolding entriesCost invalidCost
+entries-invalid bits [] = refl
+entries-invalid bits (normal c ∷ es) =
+    let e = entries-invalid bits es in
+    same-cost _ _ (omega (arith, ap (λ (x : Cost). x .ands) e)) (omega (arith, ap (λ (x : Cost). x .wides) e))
+entries-invalid bits (invalid p ∷ es) = ap (plus (plus (statusAndEventCost (p .event)) (cost 1 0))) (entries-invalid bits es)
+
+movers-ands : (bits : ℕ) (xs ys : List Mover) → moversCost bits (xs ++ ys) .ands ≡ moversCost bits xs .ands + moversCost bits ys .ands
+unfolding moversCost
+movers-ands bits [] ys = omega arith
+movers-ands bits (x ∷ xs) ys = let h = movers-ands bits xs ys in omega arith
+
+movers-wides : (bits : ℕ) (xs ys : List Mover) → moversCost bits (xs ++ ys) .wides ≡ moversCost bits xs .wides + moversCost bits ys .wides
+unfolding moversCost
+movers-wides bits [] ys = omega arith
+movers-wides bits (x ∷ xs) ys = let h = movers-wides bits xs ys in omega arith
+
+raises-ands : (bits : ℕ) (us : List ℕ) → moversCost bits (map raise us) .ands ≡ 0
+unfolding moversCost moverCost enableCost effectCost
+raises-ands bits [] = refl
+raises-ands bits (u ∷ us) = let h = raises-ands bits us in omega arith
+
+raises-wides : (bits : ℕ) (us : List ℕ) → moversCost bits (map raise us) .wides ≡ length us * bits
+unfolding moversCost moverCost enableCost effectCost
+raises-wides bits [] = omega arith
+raises-wides bits (u ∷ us) = let h = raises-wides bits us in let q = suc-mul (length us) bits in omega arith
+
+module _ (file : List ℕ) (d : Design) (w : Parts file d) (bits : ℕ) (b : bits ≡ S d) where
+  abbrev cellsCost : Cost
+  cellsCost = entriesCost bits false (w .entries)
+
+  abbrev raised : List ℕ
+  raised = externalsFrom file 0 (variableCount file)
+
+  cells-are : moversCost (S d) (map cell (d .cells)) ≡ cellsCost
+  cells-are =
+      ap (λ (l : List Cell). moversCost (S d) (map cell l)) (w .cells) ∙ ap (λ (k : ℕ). moversCost k (map cell (normals (w .entries)))) (sym b)
+      ∙ sym (entries-normal bits (w .entries))
+
+  raises-are : moversCost (S d) (externals 0 (d .variables)) ≡ moversCost bits (map raise raised)
+  raises-are = ap (moversCost (S d)) (raises file d w) ∙ ap (λ (k : ℕ). moversCost k (map raise raised)) (sym b)
+
+  pub step-ands : stepCost d .ands ≡ cellsCost .ands
+  unfolding stepCost movers
+  step-ands =
+      omega (arith, movers-ands (S d) (map cell (d .cells)) (externals 0 (d .variables)), ap (λ (x : Cost). x .ands) cells-are, ap (λ (x : Cost). x .ands) raises-are, raises-ands bits raised)
+
+  pub step-wides : stepCost d .wides ≡ cellsCost .wides + length raised * bits
+  unfolding stepCost movers
+  step-wides =
+      omega (arith, movers-wides (S d) (map cell (d .cells)) (externals 0 (d .variables)), ap (λ (x : Cost). x .wides) cells-are, ap (λ (x : Cost). x .wides) raises-are, raises-wides bits raised)
+
+  pub property-cells : (p : ℕ) → (p ≡ 0 → ⊥) → propertyCost d p ≡ entriesCost bits true (w .entries)
+  unfolding propertyCost
+  property-cells zero z = absurd (z refl)
+  property-cells (suc p) z = ap invalidCost (w .invalid) ∙ sym (entries-invalid bits (w .entries))
+
+  pub property-invariant : (p : ℕ) → p ≡ 0 → propertyCost d p ≡ boolCost (d .invariant)
+  unfolding propertyCost
+  property-invariant zero z = refl
+  property-invariant (suc p) z = absurd (omega arith)
+
+  pub entries-few : Bounded d → (t : Bool) → (entriesCost bits t (w .entries) .ands ≤ 14144000) × (entriesCost bits t (w .entries) .wides ≤ 14144000)
+  entries-few k false =
+      (omega (arith, step-ands, k .gates 0), omega (arith, step-wides, k .gates 0))
+  entries-few k true =
+      let e = property-cells 1 (λ z. omega arith) in
+      (omega (arith, ap (λ (x : Cost). x .ands) e, k .gates 1), omega (arith, ap (λ (x : Cost). x .wides) e, k .gates 1))

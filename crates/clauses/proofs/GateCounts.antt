@@ -1,0 +1,171 @@
+-- Gates over the bytes: the answers of the operands make the answer of the whole.
+use mathlib.Core.Path.{_≡_, refl, sym, ap, ap₂, subst, _∙_}
+use mathlib.Core.Bool.{Bool, true, false, false≢true, cond}
+use mathlib.Core.List.{List}
+use mathlib.Core.Logic.{_⊎_, inl, inr, ⊎-elim}
+use native.Mathlib.Nat.{eq-or-lt-of-le}
+use Prim.Native.Nat.{ℕ, zero, suc, _+_, _-_, _<_, _≤_}
+use native.Mathlib.Omega.{arith}
+use lib.ListN.{getD}
+use lib.Dec.{eqb}
+use borrow.Author.Tests.{eq-eqb, ne-eqb}
+use Rattle.design.specs.Tree.{IntExpr, BoolExpr, constant, variable, status, sum, difference, constantB, variableB, notB, andB, orB, equal, less}
+use Rattle.design.specs.Reading.{Read, got, bad, bind}
+use Rattle.design.specs.Expression.{Names, intExpr, boolExpr}
+use Rattle.step.specs.Accepted.{isRead, past}
+use Rattle.step.proofs.Accepted.{two, three}
+use Rattle.step.proofs.Values.{arithmeticOf, logicOf, compareOf, i-two, b-one, b-logic, b-compare, int-constant, int-variable, int-status, bool-constant, bool-variable, int-second, logic-second, compare-second}
+use Rattle.clauses.specs.Cost.{Cost, cost, plus, intCost, boolCost}
+use Rattle.clauses.specs.FrameSizes.{gatesAt, both}
+use Rattle.clauses.specs.declared.cost.GatesAt.{GatesAt}
+
+abbrev pub gates : ℕ → ℕ → ℕ → GatesAt
+gates x y n = record { ands = x; wides = y; next = n }
+
+pub gates-past : {A : Type 0} (f : A → Cost) (x : Read A) (r : GatesAt) → r ≡ gatesAt f x → r .next ≡ past x
+gates-past f (got a n) r e = ap (λ (z : GatesAt). z .next) e
+gates-past f bad r e = ap (λ (z : GatesAt). z .next) e
+
+-- what has no gates
+pub no-gates : {A : Type 0} (f : A → Cost) (x : Read A) (a : A) (n m : ℕ) → x ≡ got a n → f a ≡ cost 0 0 → m ≡ n → gates 0 0 m ≡ gatesAt f x
+no-gates f x a n m e p q = ap₂ (λ (c : Cost) (j : ℕ). gates (c .ands) (c .wides) j) (sym p) q ∙ sym (ap (gatesAt f) e)
+
+-- one operand, which has all the gates
+module _ {A C : Type 0} (f : A → C) (cA : A → Cost) (cC : C → Cost) (law : (a : A) → cC (f a) ≡ cA a) where
+  pub one-gates : (x : Read A) → gatesAt cA x ≡ gatesAt cC (bind x (λ a n. got (f a) n))
+  one-gates (got a n) = ap (λ (c : Cost). gates (c .ands) (c .wides) n) (sym (law a))
+  one-gates bad = refl
+
+-- two operands, and so many gates more
+module _ {A B C : Type 0} (f : A → B → C) (cA : A → Cost) (cB : B → Cost) (cC : C → Cost) (u v : ℕ) (law : (a : A) (b : B) → cC (f a b) ≡ plus (plus (cA a) (cB b)) (cost u v)) where
+  join-second : (a : A) (m : ℕ) (y : Read B) → isRead (bind y (λ b n. got (f a b) n)) ≡ true → both (gatesAt cA (got a m)) (gatesAt cB y) u v ≡ gatesAt cC (bind y (λ b n. got (f a b) n))
+  join-second a m (got b n) h = ap (λ (c : Cost). gates (c .ands) (c .wides) n) (sym (law a b))
+  join-second a m bad h = absurd (false≢true h)
+
+  join-both : (x : Read A) (q : ℕ → Read B) → isRead (two f x q) ≡ true → both (gatesAt cA x) (gatesAt cB (q (gatesAt cA x .next))) u v ≡ gatesAt cC (two f x q)
+  join-both (got a m) q h = join-second a m (q m) h
+  join-both bad q h = absurd (false≢true h)
+
+  pub two-gates : (x : Read A) (q : ℕ → Read B) → isRead (two f x q) ≡ true → (r s : GatesAt) → r ≡ gatesAt cA x → s ≡ gatesAt cB (q (r .next)) → both r s u v ≡ gatesAt cC (two f x q)
+  two-gates x q h r s e k =
+      ap₂ (λ (y z : GatesAt). both y z u v) e (k ∙ ap (λ (y : GatesAt). gatesAt cB (q (y .next))) e) ∙ join-both x q h
+
+-- three operands, and so many gates more
+module _ {A B C : Type 0} (f : A → B → B → C) (cA : A → Cost) (cB : B → Cost) (cC : C → Cost) (u v : ℕ) (law : (a : A) (b c : B) → cC (f a b c) ≡ plus (plus (plus (cA a) (cB b)) (cB c)) (cost u v)) where
+  join-third : (a : A) (b : B) (m n : ℕ) (z : Read B) → isRead (bind z (λ c j. got (f a b c) j)) ≡ true
+      → both (both (gatesAt cA (got a m)) (gatesAt cB (got b n)) 0 0) (gatesAt cB z) u v ≡ gatesAt cC (bind z (λ c j. got (f a b c) j))
+  join-third a b m n (got c j) h =
+      let p : cA a .ands + cB b .ands + 0 + cB c .ands + u ≡ cA a .ands + cB b .ands + cB c .ands + u = omega arith in
+      let q : cA a .wides + cB b .wides + 0 + cB c .wides + v ≡ cA a .wides + cB b .wides + cB c .wides + v = omega arith in
+      ap₂ (λ (x y : ℕ). gates x y j) p q ∙ ap (λ (k : Cost). gates (k .ands) (k .wides) j) (sym (law a b c))
+  join-third a b m n bad h = absurd (false≢true h)
+
+  join-rest : (a : A) (m : ℕ) (y : Read B) (q : ℕ → Read B) → isRead (two (f a) y q) ≡ true
+      → both (both (gatesAt cA (got a m)) (gatesAt cB y) 0 0) (gatesAt cB (q (gatesAt cB y .next))) u v ≡ gatesAt cC (two (f a) y q)
+  join-rest a m (got b n) q h = join-third a b m n (q n) h
+  join-rest a m bad q h = absurd (false≢true h)
+
+  join-all : (x : Read A) (q : ℕ → Read B) → isRead (three f x q) ≡ true
+      → both (both (gatesAt cA x) (gatesAt cB (q (gatesAt cA x .next))) 0 0) (gatesAt cB (q (gatesAt cB (q (gatesAt cA x .next)) .next))) u v ≡ gatesAt cC (three f x q)
+  join-all (got a m) q h = join-rest a m (q m) q h
+  join-all bad q h = absurd (false≢true h)
+
+  pub three-gates : (x : Read A) (q : ℕ → Read B) → isRead (three f x q) ≡ true → (r s t : GatesAt) → r ≡ gatesAt cA x → s ≡ gatesAt cB (q (r .next)) → t ≡ gatesAt cB (q (s .next))
+      → both (both r s 0 0) t u v ≡ gatesAt cC (three f x q)
+  three-gates x q h r s t e k w =
+      let k′ : s ≡ gatesAt cB (q (gatesAt cA x .next)) = k ∙ ap (λ (y : GatesAt). gatesAt cB (q (y .next))) e in
+      let w′ : t ≡ gatesAt cB (q (gatesAt cB (q (gatesAt cA x .next)) .next)) = w ∙ ap (λ (y : GatesAt). gatesAt cB (q (y .next))) k′ in
+      ap₂ (λ (y z : GatesAt). both y z u v) (ap₂ (λ (y z : GatesAt). both y z 0 0) e k′) w′ ∙ join-all x q h
+
+-- the costs of the operators
+arithmetic-cost : (t : Bool) (a b : IntExpr) → intCost (cond t sum difference a b) ≡ plus (plus (intCost a) (intCost b)) (cost 48 32)
+unfolding intCost
+arithmetic-cost true a b = refl
+arithmetic-cost false a b = refl
+
+logic-cost : (t : Bool) (a b : BoolExpr) → boolCost (cond t andB orB a b) ≡ plus (plus (boolCost a) (boolCost b)) (cost 1 0)
+unfolding boolCost
+logic-cost true a b = refl
+logic-cost false a b = refl
+
+compare-cost : (t : Bool) (u v : ℕ) → cost u v ≡ cond t (cost 16 16) (cost 48 32) → (a b : IntExpr) → boolCost (cond t equal less a b) ≡ plus (plus (intCost a) (intCost b)) (cost u v)
+unfolding boolCost
+compare-cost true u v e a b = ap (plus (plus (intCost a) (intCost b))) (sym e)
+compare-cost false u v e a b = ap (plus (plus (intCost a) (intCost b))) (sym e)
+
+one-of-two : (b k : ℕ) → k ≤ b → b < k + 2 → (b ≡ k) ⊎ (b ≡ k + 1)
+one-of-two b k p q = ⊎-elim (λ e. inl (sym e)) (λ l. inr (omega arith)) (eq-or-lt-of-le p)
+
+module _ (text : List ℕ) (N : Names) (end d at : ℕ) where
+  abbrev I : ℕ → ℕ → Read IntExpr
+  I k p = intExpr text N end k p
+
+  abbrev B : ℕ → ℕ → Read BoolExpr
+  B k p = boolExpr text N end k p
+
+  abbrev op : ℕ
+  op = getD text at 0
+
+  -- a leaf that ends at n
+  abbrev IntLeaf : ℕ → Type 0
+  IntLeaf n = (n ≤ end) × (gates 0 0 n ≡ gatesAt intCost (I d at))
+
+  abbrev BoolLeaf : ℕ → Type 0
+  BoolLeaf n = (n ≤ end) × (gates 0 0 n ≡ gatesAt boolCost (B d at))
+
+  module _ (h : isRead (I d at) ≡ true) where
+    pub int-number : op ≡ 0x01 → IntLeaf (at + 3)
+    unfolding intCost
+    int-number e = let k = int-constant text N end d at h e in (omega (arith, k .0), no-gates intCost (I d at) _ _ (at + 3) (k .1) refl (omega arith))
+
+    pub int-name : 0x02 ≤ op → op < 0x04 → IntLeaf (at + 2)
+    unfolding intCost
+    int-name p q =
+        ⊎-elim
+        (λ e. let k = int-variable text N end d at h e in (omega (arith, k .0), no-gates intCost (I d at) _ _ (at + 2) (k .2) refl (omega arith)))
+        (λ e. let k = int-status text N end d at h e in (omega (arith, k .0), no-gates intCost (I d at) _ _ (at + 2) (k .2) refl (omega arith)))
+        (one-of-two op 0x02 p q)
+
+    pub int-then : (lo : 0x04 ≤ op) (hi : op < 0x06) (r : GatesAt) → r ≡ gatesAt intCost (I (d - 1) (at + 1)) → isRead (I (d - 1) (r .next)) ≡ true
+    int-then lo hi r e = int-second text N end d at h lo hi (r .next) (gates-past intCost (I (d - 1) (at + 1)) r e)
+
+    pub int-joined : (lo : 0x04 ≤ op) (hi : op < 0x06) (r s : GatesAt) → r ≡ gatesAt intCost (I (d - 1) (at + 1)) → s ≡ gatesAt intCost (I (d - 1) (r .next)) → both r s 48 32 ≡ gatesAt intCost (I d at)
+    int-joined lo hi r s e k =
+        let q = i-two text N end d at h lo hi in
+        two-gates (arithmeticOf op) intCost intCost intCost 48 32 (arithmetic-cost (eqb op 0x04)) (I (d - 1) (at + 1)) (I (d - 1)) (sym (ap isRead q) ∙ h) r s e k ∙ sym (ap (gatesAt intCost) q)
+
+  module _ (h : isRead (B d at) ≡ true) where
+    pub bool-name : 0x10 ≤ op → op < 0x12 → BoolLeaf (at + 2)
+    unfolding boolCost
+    bool-name p q =
+        ⊎-elim
+        (λ e. let k = bool-constant text N end d at h e in (omega (arith, k .0), no-gates boolCost (B d at) _ _ (at + 2) (k .1) refl (omega arith)))
+        (λ e. let k = bool-variable text N end d at h e in (omega (arith, k .0), no-gates boolCost (B d at) _ _ (at + 2) (k .2) refl (omega arith)))
+        (one-of-two op 0x10 p q)
+
+    pub bool-negated : op ≡ 0x12 → (r : GatesAt) → r ≡ gatesAt boolCost (B (d - 1) (at + 1)) → r ≡ gatesAt boolCost (B d at)
+    unfolding boolCost
+    bool-negated e r k = k ∙ one-gates notB boolCost boolCost (λ a. refl) (B (d - 1) (at + 1)) ∙ sym (ap (gatesAt boolCost) (b-one text N end d at h e))
+
+    pub bool-then : (lo : 0x13 ≤ op) (hi : op < 0x15) (r : GatesAt) → r ≡ gatesAt boolCost (B (d - 1) (at + 1)) → isRead (B (d - 1) (r .next)) ≡ true
+    bool-then lo hi r e = logic-second text N end d at h lo hi (r .next) (gates-past boolCost (B (d - 1) (at + 1)) r e)
+
+    pub bool-joined : (lo : 0x13 ≤ op) (hi : op < 0x15) (r s : GatesAt) → r ≡ gatesAt boolCost (B (d - 1) (at + 1)) → s ≡ gatesAt boolCost (B (d - 1) (r .next)) → both r s 1 0 ≡ gatesAt boolCost (B d at)
+    bool-joined lo hi r s e k =
+        let q = b-logic text N end d at h lo hi in
+        two-gates (logicOf op) boolCost boolCost boolCost 1 0 (logic-cost (eqb op 0x13)) (B (d - 1) (at + 1)) (B (d - 1)) (sym (ap isRead q) ∙ h) r s e k ∙ sym (ap (gatesAt boolCost) q)
+
+    pub compare-then : (lo : 0x15 ≤ op) (hi : op < 0x17) (r : GatesAt) → r ≡ gatesAt intCost (I (d - 1) (at + 1)) → isRead (I (d - 1) (r .next)) ≡ true
+    compare-then lo hi r e = compare-second text N end d at h lo hi (r .next) (gates-past intCost (I (d - 1) (at + 1)) r e)
+
+    module _ (lo : 0x15 ≤ op) (hi : op < 0x17) (r s : GatesAt) (e : r ≡ gatesAt intCost (I (d - 1) (at + 1))) (k : s ≡ gatesAt intCost (I (d - 1) (r .next))) where
+      compared : (u v : ℕ) → cost u v ≡ cond (eqb op 0x15) (cost 16 16) (cost 48 32) → both r s u v ≡ gatesAt boolCost (B d at)
+      compared u v c =
+          let q = b-compare text N end d at h lo hi in
+          two-gates (compareOf op) intCost intCost boolCost u v (compare-cost (eqb op 0x15) u v c) (I (d - 1) (at + 1)) (I (d - 1)) (sym (ap isRead q) ∙ h) r s e k ∙ sym (ap (gatesAt boolCost) q)
+
+      pub equal-joined : op ≡ 0x15 → both r s 16 16 ≡ gatesAt boolCost (B d at)
+      equal-joined q = compared 16 16 (rw (eq-eqb op 0x15 q))
+
+      pub less-joined : (op ≡ 0x15 → ⊥) → both r s 48 32 ≡ gatesAt boolCost (B d at)
+      less-joined q = compared 48 32 (rw (ne-eqb op 0x15 q))

@@ -1,0 +1,113 @@
+-- "the limits keep n below 2^31": the formula of an accepted design for a bound up to 100 fits its machine numbers, and SIZE's answer is the
+-- numbers that are computed from the tree.
+use mathlib.Core.Path.{_≡_, refl, sym}
+use mathlib.Core.Bool.{Bool, true, false, cond}
+use mathlib.Core.List.{List}
+use Prim.Native.Nat.{ℕ, zero, suc, _+_, _*_, _-_, _^_, _<_, _≤_}
+use native.Mathlib.Omega.{arith}
+use native.Mathlib.Nat.{le-refl, mul-le-mul, mul-suc, suc-mul}
+use lib.Dec.{leb, ltb}
+use lib.ListN.{length, getD}
+use Rattle.design.specs.Tree.{Design}
+use Rattle.design.specs.Check.{Checked, check}
+use Rattle.design.specs.WellFormed.{WellFormed}
+use Rattle.design.proofs.WellFormed.{well-formed}
+use Rattle.clauses.specs.Words.{words}
+use Rattle.clauses.specs.Formula.{S, w, F, n, part, formula}
+use Rattle.clauses.specs.Cost.{gatesIn, clausesIn, wordsIn, pairCount, propertyCost, stepCost, firstClauses, firstWords, stepClauseCount, stepWordCount, clauseCount, wordCount, partWordCount}
+use Rattle.clauses.specs.Size.{sizesOf}
+use Rattle.clauses.proofs.Frames.{P-is, G-is}
+use Rattle.clauses.proofs.Sizes.{formula-counts, part-words}
+use Rattle.clauses.proofs.Bounds.{Bounded, bounded}
+
+-- SIZE's answer, computed from the tree
+pub sizes-computed : (d : Design) → WellFormed d → (p k : ℕ) → sizesOf d p k ≡ record {
+  stateBits = S d;
+  propertyGates = gatesIn (propertyCost d p);
+  movers = w d;
+  stepGates = gatesIn (stepCost d);
+  variables = n d p k;
+  clauses = clauseCount d p k;
+  words = wordCount d p k;
+}
+unfolding sizesOf
+sizes-computed d wf p k =
+    let c = formula-counts d wf p k in
+    rw (P-is d p, G-is d wf p, c .clauses, c .words)
+
+-- the number of pairs, without recursion
+square : (m : ℕ) → m * (m - 1) + m ≡ m * m
+square zero = refl
+square (suc m) = let q : suc m - 1 ≡ m = omega arith in rw q (sym (mul-suc (suc m) m))
+
+pub pairs-twice : (m : ℕ) → 2 * pairCount m ≡ m * (m - 1)
+pairs-twice zero = refl
+pairs-twice (suc m) = let q : suc m - 1 ≡ m = omega arith in rw q (omega (arith, pairs-twice m, square m, suc-mul m m))
+
+pair-bound : (m : ℕ) → m ≤ 64 → pairCount m ≤ 64 * m
+pair-bound zero h = omega arith
+pair-bound (suc m) h = let k = pair-bound m (omega arith) in omega arith
+
+-- what is bounded: the variables, the clauses and words of the formula, and the words of a part
+pub record Small (d : Design) (p k : ℕ) : Type 0 where
+  pub variables : n d p k < 2 ^ 31
+  pub formula-clauses : length (formula d p k) < 2 ^ 35
+  pub formula-words : length (words (formula d p k)) < 2 ^ 35
+  pub part-words : (i : ℕ) → length (words (part d p k i)) < 2 ^ 28
+
+module _ (d : Design) (wf : WellFormed d) (b : Bounded d) (p k : ℕ) (few : k ≤ 100) where
+  frame-bound : F d p ≤ 14144608
+  unfolding F
+  frame-bound = omega (arith, P-is d p, G-is d wf p, b .gates p, b .bits, b .movers)
+
+  n-bound : n d p k < 2 ^ 31
+  unfolding n
+  n-bound = let f : k * F d p ≤ 100 * 14144608 = mul-le-mul few frame-bound in omega (arith, P-is d p, b .gates p, b .bits)
+
+  ties-bound : w d * S d ≤ 34816
+  ties-bound = let f : w d * S d ≤ 64 * 544 = mul-le-mul (b .movers) (b .bits) in omega arith
+
+  step-words : stepWordCount d ≤ 16 * gatesIn (stepCost d) + 300000
+  unfolding stepWordCount
+  step-words = omega (arith, ties-bound, pair-bound (w d) (b .movers), b .movers)
+
+  step-clauses : stepClauseCount d ≤ 4 * gatesIn (stepCost d) + 100000
+  unfolding stepClauseCount
+  step-clauses = omega (arith, ties-bound, pair-bound (w d) (b .movers), b .movers)
+
+  words-bound : wordCount d p k < 2 ^ 35
+  unfolding wordCount firstWords
+  words-bound =
+      let x : (1 + k) * wordsIn (propertyCost d p) ≤ 101 * wordsIn (propertyCost d p) = mul-le-mul (let q : 1 + k ≤ 101 = omega arith in q) (le-refl (wordsIn (propertyCost d p))) in
+      let y : k * stepWordCount d ≤ 100 * (16 * gatesIn (stepCost d) + 300000) = mul-le-mul few step-words in
+      omega (arith, b .gates p, b .bits)
+
+  clauses-bound : clauseCount d p k < 2 ^ 35
+  unfolding clauseCount firstClauses
+  clauses-bound =
+      let x : (1 + k) * clausesIn (propertyCost d p) ≤ 101 * clausesIn (propertyCost d p) = mul-le-mul (let q : 1 + k ≤ 101 = omega arith in q) (le-refl (clausesIn (propertyCost d p))) in
+      let y : k * stepClauseCount d ≤ 100 * (4 * gatesIn (stepCost d) + 100000) = mul-le-mul few step-clauses in
+      omega (arith, b .gates p, b .bits)
+
+  part-bound : (i : ℕ) → partWordCount d p k i < 2 ^ 28
+  unfolding partWordCount firstWords
+  part-bound zero = omega (arith, b .bits)
+  part-bound (suc j) = go (leb j k) (ltb j k)
+    where
+      go : (t u : Bool) → cond t (wordsIn (propertyCost d p) + cond u (stepWordCount d) 0) (k + 2) < 2 ^ 28
+      go true true = omega (arith, b .gates p, step-words)
+      go true false = omega (arith, b .gates p)
+      go false u = omega arith
+
+  pub small : Small d p k
+  small =
+      let c = formula-counts d wf p k in
+      record {
+        variables = n-bound;
+        formula-clauses = omega (arith, c .clauses, clauses-bound);
+        formula-words = omega (arith, c .words, words-bound);
+        part-words = λ i. omega (arith, part-words d wf p k i, part-bound i);
+      }
+
+pub small-of-file : (file : List ℕ) → ((i : ℕ) → getD file i 0 < 256) → (d : Design) → check file ≡ Checked.accepted d → (p k : ℕ) → k ≤ 100 → Small d p k
+small-of-file file bytes d e p k few = small d (well-formed file bytes d e) (bounded file bytes d e) p k few

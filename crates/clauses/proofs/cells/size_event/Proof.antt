@@ -1,0 +1,63 @@
+use native.Mathlib.Omega.{arith}
+use Prim.Native.Nat.{ℕ, _+_, _*_}
+use Rattle.clauses.proofs.CellCounts.{sizes, event-slot, event-inside, event-reads, event-gates}
+use borrow.Author.Needs.{needs}
+use Rattle.clauses.proofs.cells.size_event.Statement.{statement}
+use Rattle.clauses.proofs.cells.size_event.Tie as tie
+use Rattle.clauses.proofs.cells.size_event.Reads as reads
+use Rattle.clauses.proofs.cells.size_event.Lts as lts
+use Rattle.clauses.proofs.cost.size_bool.Reads as size-bool-reads
+use Rattle.design.proofs.bytes.wide.Reads as wide-reads
+
+mul-at : tie.Need-mul-at
+mul-at c = omega (arith, event-slot _ _ _ _ _ (c .before .pre .0) _ _ (c .before .pre .1) (c .before .pre .2))
+
+add-at : tie.Need-add-at
+add-at c = omega (arith, event-slot _ _ _ _ _ (c .before .pre .0) _ _ (c .before .pre .1) (c .before .pre .2))
+
+mul-at-2 : tie.Need-mul-at-2
+mul-at-2 c = omega (arith, event-slot _ _ _ _ _ (c .before .pre .0) _ _ (c .before .pre .1) (c .before .pre .2))
+
+element-copy-out-at : tie.Need-element-copy-out-at
+element-copy-out-at c = omega (arith, event-slot _ _ _ _ _ (c .before .pre .0) _ _ (c .before .pre .1) (c .before .pre .2))
+
+cast-at : tie.Need-cast-at
+cast-at c = omega (arith, event-inside _ _ _ _ _ (c .before .before .pre .0) _ _ (c .before .before .pre .1) (c .before .before .pre .2), sizes _ _ _ _ _ (c .before .before .pre .0))
+
+add-past : tie.Need-add-past
+add-past c = omega (arith, event-inside _ _ _ _ _ (c .before .before .pre .0) _ _ (c .before .before .pre .1) (c .before .before .pre .2), sizes _ _ _ _ _ (c .before .before .pre .0))
+
+shared-slice-read-wide : tie.Need-shared-slice-read-wide
+shared-slice-read-wide c = omega (arith, event-inside _ _ _ _ _ (c .before .before .before .pre .0) _ _ (c .before .before .before .pre .1) (c .before .before .before .pre .2), sizes _ _ _ _ _ (c .before .before .before .pre .0))
+
+wide-requires : tie.Need-wide-requires
+wide-requires c κs = search needs
+
+add-past-2 : tie.Need-add-past-2
+add-past-2 c = omega (arith, c .wide .ensures .0, event-inside _ _ _ _ _ (c .before .before .before .before .pre .0) _ _ (c .before .before .before .before .pre .1) (c .before .before .before .before .pre .2), sizes _ _ _ _ _ (c .before .before .before .before .pre .0))
+
+add-size-bool : tie.Need-add-size-bool
+add-size-bool c = omega (arith, event-inside _ _ _ _ _ (c .before .before .before .before .pre .0) _ _ (c .before .before .before .before .pre .1) (c .before .before .before .before .pre .2), sizes _ _ _ _ _ (c .before .before .before .before .pre .0))
+
+size-bool-requires : tie.Need-size-bool-requires
+size-bool-requires c κs = (event-reads _ _ _ _ _ (c .before .before .before .before .pre .0) _ _ (c .before .before .before .before .pre .1) (c .before .before .before .before .pre .2) _ (c .wide .ensures .0), omega (arith, c .wide .ensures .0, event-inside _ _ _ _ _ (c .before .before .before .before .pre .0) _ _ (c .before .before .before .before .pre .1) (c .before .before .before .before .pre .2), sizes _ _ _ _ _ (c .before .before .before .before .pre .0)), omega (arith, c .wide .ensures .0, event-inside _ _ _ _ _ (c .before .before .before .before .pre .0) _ _ (c .before .before .before .before .pre .1) (c .before .before .before .before .pre .2), sizes _ _ _ _ _ (c .before .before .before .before .pre .0)))
+
+returns : tie.Need-returns
+returns c = event-gates _ _ _ _ _ (c .before .before .before .before .before .pre .0) _ _ (c .before .before .before .before .before .pre .1) (c .before .before .before .before .before .pre .2) _ (c .before .wide .ensures .0) _ (c .size-bool .ensures)
+
+pub size-event-spec : {M : Type 1} → statement M
+size-event-spec =
+    tie.close
+    (tie.spec
+    mul-at
+    add-at
+    mul-at-2
+    element-copy-out-at
+    cast-at
+    add-past
+    shared-slice-read-wide
+    wide-requires
+    add-past-2
+    add-size-bool
+    size-bool-requires
+    returns)

@@ -1,0 +1,52 @@
+use native.Mathlib.Omega.{arith}
+use mathlib.Core.Path.{refl}
+use Rattle.clauses.proofs.Inside.{bool-few}
+use Rattle.clauses.proofs.CellCounts.{sizes, few-gates, guard-none, guard-inside, guard-reads, guard-gates}
+use borrow.Author.Needs.{needs}
+use Rattle.clauses.proofs.cells.size_guard.Statement.{statement}
+use Rattle.clauses.proofs.cells.size_guard.Tie as tie
+use Rattle.clauses.proofs.cells.size_guard.Reads as reads
+use Rattle.clauses.proofs.cells.size_guard.Lts as lts
+use Rattle.clauses.proofs.cost.size_bool.Reads as size-bool-reads
+use Rattle.design.proofs.bytes.wide.Reads as wide-reads
+
+add-wide : tie.Need-add-wide
+add-wide c = search needs
+
+shared-slice-read-wide : tie.Need-shared-slice-read-wide
+shared-slice-read-wide c = search needs
+
+wide-requires : tie.Need-wide-requires
+wide-requires c κs = search needs
+
+returns : tie.Need-returns
+returns c = (record { ands = omega arith; wides = omega arith }, λ x. guard-none _ _ _ _ _ (c .before .before .before .before .pre .0) _ x _ (c .before .wide .ensures .0) (c .if1 .taken) _ refl refl)
+
+add-size-bool : tie.Need-add-size-bool
+add-size-bool c = search needs
+
+add-size-bool-2 : tie.Need-add-size-bool-2
+add-size-bool-2 c = search needs
+
+add-size-bool-3 : tie.Need-add-size-bool-3
+add-size-bool-3 c = search needs
+
+size-bool-requires : tie.Need-size-bool-requires
+size-bool-requires c κs = (guard-reads _ _ _ _ _ (c .before .before .before .before .pre .0) _ (c .before .before .before .before .pre .1) _ (c .before .wide .ensures .0) (c .if1 .left), omega (arith, guard-inside _ _ _ _ _ (c .before .before .before .before .pre .0) _ (c .before .before .before .before .pre .1) _ (c .before .wide .ensures .0), sizes _ _ _ _ _ (c .before .before .before .before .pre .0)), omega (arith, guard-inside _ _ _ _ _ (c .before .before .before .before .pre .0) _ (c .before .before .before .before .pre .1) _ (c .before .wide .ensures .0), sizes _ _ _ _ _ (c .before .before .before .before .pre .0)))
+
+returns-2 : tie.Need-returns-2
+returns-2 c = (few-gates _ (bool-few _ _ _ (omega (arith, guard-inside _ _ _ _ _ (c .before .before .before .before .before .pre .0) _ (c .before .before .before .before .before .pre .1) _ (c .before .before .wide .ensures .0), sizes _ _ _ _ _ (c .before .before .before .before .before .pre .0))) _ _ _ (c .size-bool .ensures)), λ x. guard-gates _ _ _ _ _ (c .before .before .before .before .before .pre .0) _ x _ (c .before .before .wide .ensures .0) (c .before .if1 .left) _ (c .size-bool .ensures))
+
+pub size-guard-spec : {M : Type 1} → statement M
+size-guard-spec =
+    tie.close
+    (tie.spec
+    add-wide
+    shared-slice-read-wide
+    wide-requires
+    returns
+    add-size-bool
+    add-size-bool-2
+    add-size-bool-3
+    size-bool-requires
+    returns-2)

@@ -1,0 +1,102 @@
+-- Circuits. A builder is told the next free variable and gives its result, the variable that is free after it, and its gates in order.
+-- A name that ends in ! is a builder. Bits stand low first.
+use mathlib.Core.List.{List, [], _∷_, _++_, map}
+use Prim.Native.Nat.{ℕ, suc}
+use Rattle.clauses.specs.Literal.{Literal, positive, negate, yes! }
+use Rattle.clauses.specs.Gate.{Gate, and, xor, mux}
+
+pub record Built (A : Type 0) : Type 0 where
+  pub out : A
+  pub next : ℕ
+  pub gates : List Gate
+
+abbrev pub Build : Type 0 → Type 0
+Build A = ℕ → Built A
+
+module _ {A : Type 0} where
+  -- a result that takes no gates
+  unfoldable pub give : A → Build A
+  give a n = record { out = a; next = n; gates = [] }
+
+-- one after the other: what a `do` block means
+infixl 10 _>>=_
+module _ {A B : Type 0} where
+  unfoldable pub _>>=_ : Build A → (A → Build B) → Build B
+  _>>=_ m f n =
+      let r = m n in
+      let s = f (r .out) (r .next) in
+      record { out = s .out; next = s .next; gates = r .gates ++ s .gates }
+
+-- "Gates, one new variable g each"
+unfoldable pub and! : Literal → Literal → Build Literal
+and! a b n = record { out = positive n; next = suc n; gates = and n a b ∷ [] }
+
+unfoldable pub xor! : Literal → Literal → Build Literal
+xor! a b n = record { out = positive n; next = suc n; gates = xor n a b ∷ [] }
+
+unfoldable pub mux! : Literal → Literal → Literal → Build Literal
+mux! c a b n = record { out = positive n; next = suc n; gates = mux n c a b ∷ [] }
+
+-- "or(a,b) is -and(-a,-b)."
+unfoldable pub or! : Literal → Literal → Build Literal
+or! a b = do
+  x ← and! (negate a) (negate b)
+  give (negate x)
+
+abbrev pub Bits : Type 0
+Bits = List Literal
+
+-- the bits of a sum, and its last carry
+pub record Summed : Type 0 where
+  pub bits : Bits
+  pub carry : Literal
+
+-- "Sum, 16 bits from low with carry c: p=xor(a,b), s=xor(p,c), u=and(a,b), t=and(p,c), next carry or(u,t)"
+unfoldable pub sum! : Bits → Bits → Literal → Build Summed
+sum! [] ys c = give (record { bits = []; carry = c })
+sum! (a ∷ xs) [] c = give (record { bits = []; carry = c })
+sum! (a ∷ xs) (b ∷ ys) c = do
+  p ← xor! a b
+  s ← xor! p c
+  u ← and! a b
+  t ← and! p c
+  next ← or! u t
+  r ← sum! xs ys next
+  give (record { bits = s ∷ r .bits; carry = r .carry })
+
+-- "Difference negates b and starts with carry true."
+unfoldable pub difference! : Bits → Bits → Build Summed
+difference! a b = sum! a (map negate b) yes!
+
+-- the top bit negated
+abbrev pub negateTop : Bits → Bits
+negateTop [] = []
+negateTop (a ∷ []) = negate a ∷ []
+negateTop (a ∷ b ∷ bs) = a ∷ negateTop (b ∷ bs)
+
+-- "Less(a,b) negates both top bits, takes the difference and negates the last carry."
+unfoldable pub less! : Bits → Bits → Build Literal
+less! a b = do
+  r ← difference! (negateTop a) (negateTop b)
+  give (negate (r .carry))
+
+unfoldable pub xors! : Bits → Bits → Build Bits
+xors! [] ys = give []
+xors! (a ∷ xs) [] = give []
+xors! (a ∷ xs) (b ∷ ys) = do
+  x ← xor! a b
+  rs ← xors! xs ys
+  give (x ∷ rs)
+
+-- an and-chain: "in a chain the part so far is the first operand"
+unfoldable pub chain! : Literal → Bits → Build Literal
+chain! c [] = give c
+chain! c (a ∷ xs) = do
+  x ← and! c a
+  chain! x xs
+
+-- "Equal: 16 xors from low, then an and-chain from true over their negations"
+unfoldable pub equal! : Bits → Bits → Build Literal
+equal! a b = do
+  xs ← xors! a b
+  chain! yes! (map negate xs)

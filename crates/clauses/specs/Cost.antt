@@ -1,0 +1,125 @@
+-- How many gates the circuits have, computed from the trees: ands (3 clauses, 10 words) apart from xors and muxes (4 clauses, 16 words).
+-- SIZE is answered by these numbers, and a buffer is tested by them, before anything is written.
+use mathlib.Core.Bool.{cond}
+use mathlib.Core.List.{List, [], _∷_}
+use Prim.Native.Nat.{ℕ, zero, suc, _+_, _*_}
+use lib.Dec.{leb, ltb}
+use Rattle.design.specs.Tree.{IntExpr, BoolExpr, Stmt, Stmts, constant, variable, status, sum, difference, constantB, variableB, notB, andB, orB, equal, less, assign, assignB, ifElse, done, then, InvalidCell, Design, Mover, cell, raise, movers}
+use Rattle.clauses.specs.Formula.{S, w}
+
+-- `wides` are xors and muxes
+pub record Cost : Type 0 where
+  pub ands : ℕ
+  pub wides : ℕ
+
+abbrev pub cost : ℕ → ℕ → Cost
+cost a b = record { ands = a; wides = b }
+
+abbrev pub plus : Cost → Cost → Cost
+plus x y = cost (x .ands + y .ands) (x .wides + y .wides)
+
+abbrev pub gatesIn : Cost → ℕ
+gatesIn c = c .ands + c .wides
+
+abbrev pub clausesIn : Cost → ℕ
+clausesIn c = 3 * c .ands + 4 * c .wides
+
+abbrev pub wordsIn : Cost → ℕ
+wordsIn c = 10 * c .ands + 16 * c .wides
+
+-- a sum, a difference or less of 16 bits: 80 gates; equal: 32
+abbrev pub sumCost : Cost
+sumCost = cost 48 32
+
+abbrev pub equalCost : Cost
+equalCost = cost 16 16
+
+unfoldable pub intCost : IntExpr → Cost
+intCost (constant c) = cost 0 0
+intCost (variable v) = cost 0 0
+intCost (status m) = cost 0 0
+intCost (sum a b) = plus (plus (intCost a) (intCost b)) sumCost
+intCost (difference a b) = plus (plus (intCost a) (intCost b)) sumCost
+
+unfoldable pub boolCost : BoolExpr → Cost
+boolCost (constantB b) = cost 0 0
+boolCost (variableB v) = cost 0 0
+boolCost (notB a) = boolCost a
+boolCost (andB a b) = plus (plus (boolCost a) (boolCost b)) (cost 1 0)
+boolCost (orB a b) = plus (plus (boolCost a) (boolCost b)) (cost 1 0)
+boolCost (equal a b) = plus (plus (intCost a) (intCost b)) equalCost
+boolCost (less a b) = plus (plus (intCost a) (intCost b)) sumCost
+
+-- `bits` is S
+unfoldable mutual
+  pub statementCost : Stmt → ℕ → Cost
+  statementCost (assign v e) bits = intCost e
+  statementCost (assignB v e) bits = boolCost e
+  statementCost (ifElse c a b) bits = plus (plus (plus (boolCost c) (statementsCost a bits)) (statementsCost b bits)) (cost 0 bits)
+
+  pub statementsCost : Stmts → ℕ → Cost
+  statementsCost done bits = cost 0 0
+  statementsCost (then x xs) bits = plus (statementCost x bits) (statementsCost xs bits)
+
+-- and(equal(status, constant), event)
+abbrev pub statusAndEventCost : BoolExpr → Cost
+statusAndEventCost event = plus (plus equalCost (boolCost event)) (cost 1 0)
+
+unfoldable pub enableCost : Mover → Cost
+enableCost (cell c) = plus (plus (statusAndEventCost (c .event)) (boolCost (c .guard))) (cost 1 0)
+enableCost (raise v) = cost 0 0
+
+unfoldable pub effectCost : ℕ → Mover → Cost
+effectCost bits (cell c) = statementsCost (c .action) bits
+effectCost bits (raise v) = cost 0 0
+
+unfoldable pub moverCost : ℕ → Mover → Cost
+moverCost bits m = plus (plus (enableCost m) (effectCost bits m)) (cost 0 bits)
+
+unfoldable pub moversCost : ℕ → List Mover → Cost
+moversCost bits [] = cost 0 0
+moversCost bits (m ∷ ms) = plus (moverCost bits m) (moversCost bits ms)
+
+unfoldable pub invalidCost : List InvalidCell → Cost
+invalidCost [] = cost 0 0
+invalidCost (p ∷ ps) = plus (plus (statusAndEventCost (p .event)) (cost 1 0)) (invalidCost ps)
+
+-- so many flags have so many pairs
+abbrev pub pairCount : ℕ → ℕ
+pairCount zero = 0
+pairCount (suc n) = n + pairCount n
+
+module _ (d : Design) where
+  -- P gates, and G gates
+  unfoldable pub propertyCost : ℕ → Cost
+  propertyCost zero = boolCost (d .invariant)
+  propertyCost (suc p) = invalidCost (d .invalid)
+
+  unfoldable pub stepCost : Cost
+  stepCost = moversCost (S d) (movers d)
+
+  -- clauses and words of part 0
+  unfoldable pub firstClauses : ℕ
+  firstClauses = 1 + S d
+
+  unfoldable pub firstWords : ℕ
+  firstWords = 2 + 2 * S d
+
+  -- of the step out of a frame: the clause of all flags, their pairs, the gates, the ties
+  unfoldable pub stepClauseCount : ℕ
+  stepClauseCount = 1 + pairCount (w d) + clausesIn stepCost + 2 * (w d * S d)
+
+  unfoldable pub stepWordCount : ℕ
+  stepWordCount = 1 + w d + 3 * pairCount (w d) + wordsIn stepCost + 8 * (w d * S d)
+
+  -- of the whole formula
+  unfoldable pub clauseCount : ℕ → ℕ → ℕ
+  clauseCount p k = firstClauses + (1 + k) * clausesIn (propertyCost p) + k * stepClauseCount + 1
+
+  unfoldable pub wordCount : ℕ → ℕ → ℕ
+  wordCount p k = firstWords + (1 + k) * wordsIn (propertyCost p) + k * stepWordCount + (k + 2)
+
+  -- of part i of the formula for bound k, for i up to k + 2
+  unfoldable pub partWordCount : ℕ → ℕ → ℕ → ℕ
+  partWordCount p k zero = firstWords
+  partWordCount p k (suc j) = cond (leb j k) (wordsIn (propertyCost p) + cond (ltb j k) stepWordCount 0) (k + 2)

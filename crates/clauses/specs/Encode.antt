@@ -1,0 +1,33 @@
+-- ENCODE (document 01, "Turned-back calls").
+use mathlib.Core.List.{List, _++_}
+use Prim.Native.Nat.{ℕ, _+_}
+use lib.Dec.{leb}
+use lib.ListN.{length, drop}
+use lib.IntN.{ℤ}
+use Rattle.clauses.specs.Words.{words}
+use Rattle.clauses.specs.Formula.{part}
+use Rattle.clauses.specs.Answer.{Answer, refused, answer, need, onDesign, maxProperty, maxBound}
+
+-- the words that are to be written to a buffer of this length: "ENCODE: 13; 14; 15 part over k+2; 16 buffer short."
+unfoldable pub wordsToWrite : List ℕ → ℕ → ℕ → ℕ → ℕ → Answer (List ℤ)
+wordsToWrite file p k i room =
+    onDesign file λ d.
+    need (leb p maxProperty) 13 0
+    (need (leb k maxBound) 14 0
+    (need (leb i (k + 2)) 15 0
+    (need (leb (length (words (part d p k i))) room) 16 0
+    (answer (words (part d p k i))))))
+
+-- the answer, and the buffer after the call
+pub record Encoded : Type 0 where
+  pub answer : Answer ℕ
+  pub buffer : List ℤ
+
+-- "ENCODE fills its part's words and answers their number." "All else keeps." A refusal "leaves all lent memory unchanged".
+abbrev pub filled : Answer (List ℤ) → List ℤ → Encoded
+filled (refused number place) buffer = record { answer = refused number place; buffer = buffer }
+filled (answer ws) buffer = record { answer = answer (length ws); buffer = ws ++ drop (length ws) buffer }
+
+-- of a file, a property, a bound, a part and the lent buffer
+unfoldable pub encode : List ℕ → ℕ → ℕ → ℕ → List ℤ → Encoded
+encode file p k i buffer = filled (wordsToWrite file p k i (length buffer)) buffer

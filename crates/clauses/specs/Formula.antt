@@ -1,0 +1,171 @@
+-- Frames, parts, and the formula for a bound.
+use mathlib.Core.Bool.{cond}
+use mathlib.Core.List.{List, [], _∷_, _++_}
+use Prim.Native.Nat.{ℕ, zero, suc, _+_, _*_, _/_, _%_}
+use lib.Dec.{ltb, leb}
+use lib.ListN.{length}
+use Rattle.design.specs.Tree.{Design, movers, truth}
+use Rattle.design.specs.State.{State, layout, widths, start}
+use Rattle.clauses.specs.Literal.{Literal, positive, negate, yes!, Clause}
+use Rattle.clauses.specs.Meaning.{Assignment, literalTrue}
+use Rattle.clauses.specs.Gate.{gatesClauses}
+use Rattle.clauses.specs.Circuit.{Built, Build, give, _>>=_, and!, xor!, mux!, or!, Bits, sum!, difference!, less!, xors!, chain!, equal! }
+use Rattle.clauses.specs.Expression.{Slots, int!, bool! }
+use Rattle.clauses.specs.Action.{muxBits!, muxes!, statement!, statements!, statusAndEvent!, enable!, effect!, mover!, movers!, noInvalid! }
+
+abbrev pub total : List ℕ → ℕ
+total [] = 0
+total (x ∷ xs) = x + total xs
+
+-- so many variables from v on, and slots of given widths: "State bits S, low first: variables, then statuses."
+abbrev pub variablesFrom : ℕ → ℕ → Bits
+variablesFrom v zero = []
+variablesFrom v (suc n) = positive v ∷ variablesFrom (suc v) n
+
+abbrev pub slotsFrom : ℕ → List ℕ → Slots
+slotsFrom v [] = []
+slotsFrom v (w ∷ ws) = variablesFrom v w ∷ slotsFrom (v + w) ws
+
+-- all bits of a state, slot by slot
+abbrev pub flat : Slots → Bits
+flat [] = []
+flat (x ∷ xs) = x ++ flat xs
+
+-- "initial units": the bits of a slot have a value, and the slots a state
+abbrev pub unitsOf : Bits → ℕ → List Clause
+unitsOf [] v = []
+unitsOf (x ∷ xs) v = (cond (truth (v % 2)) x (negate x) ∷ []) ∷ unitsOf xs (v / 2)
+
+abbrev pub initialUnits : Slots → State → List Clause
+initialUnits [] s = []
+initialUnits (g ∷ gs) [] = []
+initialUnits (g ∷ gs) (v ∷ vs) = unitsOf g v ++ initialUnits gs vs
+
+-- "(-f -h) for each flag pair in order"
+abbrev pub against : Literal → Bits → List Clause
+against f [] = []
+against f (h ∷ hs) = (negate f ∷ negate h ∷ []) ∷ against f hs
+
+abbrev pub pairs : Bits → List Clause
+pairs [] = []
+pairs (f ∷ fs) = against f fs ++ pairs fs
+
+-- "for each mover and bit (-f -r b)(-f r -b), r the mover's result, b the next frame's bit"
+abbrev pub ties : Literal → Bits → Bits → List Clause
+ties f [] bs = []
+ties f (r ∷ rs) [] = []
+ties f (r ∷ rs) (b ∷ bs) = (negate f ∷ negate r ∷ b ∷ []) ∷ (negate f ∷ r ∷ negate b ∷ []) ∷ ties f rs bs
+
+abbrev pub allTies : Bits → List Slots → Bits → List Clause
+allTies [] rs bs = []
+allTies (f ∷ fs) [] bs = []
+allTies (f ∷ fs) (r ∷ rs) bs = ties f (flat r) bs ++ allTies fs rs bs
+
+-- the place of the first true one
+abbrev pub firstTrue : Assignment → Bits → ℕ
+firstTrue ρ [] = 0
+firstTrue ρ (f ∷ fs) = cond (literalTrue ρ f) 0 (suc (firstTrue ρ fs))
+
+module _ (d : Design) where
+  -- the number of state bits, and of movers
+  unfoldable pub S : ℕ
+  S = total (widths d)
+
+  unfoldable pub w : ℕ
+  w = length (movers d)
+
+  -- property 0 is the invariant; "Property 1 and-chains from true"
+  unfoldable pub property! : ℕ → Slots → Build Literal
+  property! zero s = bool! (layout d) s (d .invariant)
+  property! (suc p) s = noInvalid! (layout d) s yes! (d .invalid)
+
+  -- the results of all movers
+  unfoldable pub step! : Slots → Build (List Slots)
+  step! s = movers! (layout d) s (movers d)
+
+  -- "Frame j holds S state bits, P property gates, w flags, G gates of the step out of it": the frame whose first variable is v, for property p
+  unfoldable pub stateAt : ℕ → Slots
+  stateAt v = slotsFrom v (widths d)
+
+  module _ (p : ℕ) where
+    unfoldable pub propertyAt : ℕ → Built Literal
+    propertyAt v = property! p (stateAt v) (v + S)
+
+    unfoldable pub flagsAt : ℕ → Bits
+    flagsAt v = variablesFrom ((propertyAt v) .next) w
+
+    unfoldable pub stepAt : ℕ → Built (List Slots)
+    stepAt v = step! (stateAt v) ((propertyAt v) .next + w)
+
+    unfoldable pub P : ℕ
+    P = length ((propertyAt 2) .gates)
+
+    unfoldable pub G : ℕ
+    G = length ((stepAt 2) .gates)
+
+    -- "so F=S+P+w+G"
+    unfoldable pub F : ℕ
+    F = S + P + w + G
+
+    -- "Frame j starts at 2+jF."
+    unfoldable pub frame : ℕ → ℕ
+    frame j = 2 + j * F
+
+    -- "Bound k is 0..100 and n=1+kF+S+P"
+    unfoldable pub n : ℕ → ℕ
+    n k = 1 + k * F + S + P
+
+    -- "Parts: 0 is (1) and S initial units."
+    unfoldable pub firstPart : List Clause
+    firstPart = (yes! ∷ []) ∷ initialUnits (stateAt (frame 0)) (start d)
+
+    -- "property gates"
+    unfoldable pub propertyClauses : ℕ → List Clause
+    propertyClauses j = gatesClauses ((propertyAt (frame j)) .gates)
+
+    -- "the clause of all flags, (-f -h) for each flag pair in order, step gates, and for each mover and bit (-f -r b)(-f r -b)"
+    unfoldable pub stepClauses : ℕ → List Clause
+    stepClauses j =
+        (flagsAt (frame j) ∷ pairs (flagsAt (frame j)))
+        ++ (gatesClauses ((stepAt (frame j)) .gates)
+        ++ allTies (flagsAt (frame j)) ((stepAt (frame j)) .out) (flat (stateAt (frame (suc j)))))
+
+    -- "Part j+1 is frame j: property gates; for j<k also .."
+    unfoldable pub framePart : ℕ → ℕ → List Clause
+    framePart k j = propertyClauses j ++ cond (ltb j k) (stepClauses j) []
+
+    -- "the negated property of frames" j, j + 1, .., so many of them
+    unfoldable pub negatedFrom : ℕ → ℕ → Clause
+    negatedFrom zero j = []
+    negatedFrom (suc m) j = negate ((propertyAt (frame j)) .out) ∷ negatedFrom m (suc j)
+
+    -- "Part k+2 is one clause: the negated property of frames 0..k."
+    unfoldable pub lastClause : ℕ → Clause
+    lastClause k = negatedFrom (suc k) 0
+
+    -- part i of the formula for bound k, for i up to k + 2
+    unfoldable pub part : ℕ → ℕ → List Clause
+    part k zero = firstPart
+    part k (suc j) = cond (leb j k) (framePart k j) (lastClause k ∷ [])
+
+    -- so many parts from part i on
+    unfoldable pub partsFrom : ℕ → ℕ → ℕ → List Clause
+    partsFrom k zero i = []
+    partsFrom k (suc m) i = part k i ++ partsFrom k m (suc i)
+
+    -- "The formula for bound k is these parts joined."
+    unfoldable pub formula : ℕ → List Clause
+    formula k = partsFrom k (k + 3) 0
+
+    -- An assignment "decodes to the k choices whose choice j, from 0, is the mover with the one true flag of frame j": of so many frames from j on
+    unfoldable pub choicesFrom : Assignment → ℕ → ℕ → List ℕ
+    choicesFrom ρ zero j = []
+    choicesFrom ρ (suc m) j = firstTrue ρ (flagsAt (frame j)) ∷ choicesFrom ρ m (suc j)
+
+    unfoldable pub choices : Assignment → ℕ → List ℕ
+    choices ρ k = choicesFrom ρ k 0
+
+-- Not part of the formula: to unfold this is to unfold all of it, for facts about given designs.
+unfoldable pub encoding : ℕ
+unfolding give _>>=_ and! xor! mux! or! sum! difference! less! xors! chain! equal! int! bool! muxBits! muxes! statement! statements! statusAndEvent! enable! effect! mover! movers! noInvalid! movers layout widths start S w property! step! stateAt propertyAt flagsAt stepAt P G F frame n firstPart propertyClauses stepClauses framePart negatedFrom lastClause part partsFrom formula choicesFrom choices
+encoding = 0

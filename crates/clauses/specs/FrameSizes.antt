@@ -1,0 +1,69 @@
+-- What the code that counts gates is given, and what it answers, of what the definitions say.
+use mathlib.Core.Path.{_≡_}
+use mathlib.Core.Bool.{Bool, true, false}
+use mathlib.Core.List.{List, [], _∷_}
+use Prim.Native.Nat.{ℕ, _+_, _≤_}
+use lib.ListN.{length}
+use Rattle.design.specs.Tree.{Stmt, Stmts, Design, cell}
+use Rattle.design.specs.Reading.{Read, got, bad}
+use Rattle.design.specs.DesignFile.{Entry, normal, invalid}
+use Rattle.design.specs.Check.{variableCount, matrixCount}
+use Rattle.design.specs.Places.{Accepted, EventsIndexed}
+use Rattle.design.proofs.Sections.{Parts, eventIn}
+use Rattle.design.proofs.Places.{Standing}
+use Rattle.clauses.specs.Formula.{S, w}
+use Rattle.clauses.specs.Cost.{Cost, cost, plus, statementCost, statementsCost, statusAndEventCost, moverCost, propertyCost, stepCost}
+use Rattle.clauses.specs.declared.cost.GatesAt.{GatesAt}
+
+-- of what was read, its gates and the position past it
+abbrev pub gatesAt : {A : Type 0} → (A → Cost) → Read A → GatesAt
+gatesAt f (got a n) = record { ands = f a .ands; wides = f a .wides; next = n }
+gatesAt f bad = record { ands = 0; wides = 0; next = 0 }
+
+-- one after the other, and so many gates more
+abbrev pub both : GatesAt → GatesAt → ℕ → ℕ → GatesAt
+both a b x y = record { ands = a .ands + b .ands + x; wides = a .wides + b .wides + y; next = b .next }
+
+-- of a statement or a list, with S state bits
+abbrev pub stmtGates : ℕ → Read Stmt → GatesAt
+stmtGates bits x = gatesAt (λ (s : Stmt). statementCost s bits) x
+
+abbrev pub listGates : ℕ → Read Stmts → GatesAt
+listGates bits x = gatesAt (λ (s : Stmts). statementsCost s bits) x
+
+-- of the cells, the gates of the normal ones, or of the invalid ones
+abbrev pub entryCost : ℕ → Bool → Entry → Cost
+entryCost bits false (normal c) = moverCost bits (cell c)
+entryCost bits true (normal c) = cost 0 0
+entryCost bits false (invalid p) = cost 0 0
+entryCost bits true (invalid p) = plus (statusAndEventCost (p .event)) (cost 1 0)
+
+unfoldable pub entriesCost : ℕ → Bool → List Entry → Cost
+entriesCost bits t [] = cost 0 0
+entriesCost bits t (x ∷ xs) = plus (entryCost bits t x) (entriesCost bits t xs)
+
+pub record HasGates (r : GatesAt) (c : Cost) : Type 0 where
+  pub ands : r .ands ≡ c .ands
+  pub wides : r .wides ≡ c .wides
+
+-- few enough that a sum of several fits any machine number here
+pub record FewGates (r : GatesAt) : Type 0 where
+  pub ands : r .ands ≤ 16777216
+  pub wides : r .wides ≤ 16777216
+
+-- an accepted file with its table of events, its counts and its number of state bits
+pub record Prepared (file table : List ℕ) (nv nm bits : ℕ) : Type 0 where
+  pub accepted : Accepted file
+  pub events : EventsIndexed file table
+  pub full : length table ≡ 128
+  pub variables : nv ≡ variableCount file
+  pub matrices : nm ≡ matrixCount file
+  pub state : (d : Design) → Parts file d → bits ≡ S d
+  pub few : bits ≤ 544
+
+-- a cell that stands at p
+pub record CellHere (file : List ℕ) (p : ℕ) : Type 0 where
+  pub tree : Design
+  pub parts : Parts file tree
+  pub entry : Entry
+  pub stands : Standing file (eventIn file (parts .rows)) p entry

@@ -1,0 +1,19 @@
+-- In the order of reading.
+pub mod Literal
+pub mod Meaning
+pub mod Words
+pub mod Gate
+pub mod Circuit
+pub mod Expression
+pub mod Action
+pub mod Formula
+pub mod Writing
+pub mod Piece
+pub mod FlatState
+pub mod Ready
+pub mod Cost
+pub mod FrameSizes
+pub mod Answer
+pub mod Size
+pub mod Encode
+pub mod Decode

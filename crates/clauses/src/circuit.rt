@@ -1,0 +1,163 @@
+// Circuits over words of sixteen literals, low first.
+ghost use mathlib.Core.Path.{_≡_};
+ghost use mathlib.Core.List.{map};
+ghost use Rattle.clauses.specs.Literal.{negate as negated};
+ghost use Rattle.clauses.specs.Circuit.{negateTop, sum!, difference!, less!, xors!, chain!, equal! };
+ghost use Rattle.clauses.specs.Writing.{fromCode, fromCodes, Emits};
+ghost use Rattle.clauses.specs.Piece.{sumBit! };
+use super::gate::Out;
+use super::gate::emit_and;
+use super::gate::emit_or;
+use super::gate::emit_xor;
+use super::literal::TRUE;
+use super::literal::negate;
+
+pub struct Bit {
+    pub bit: u32,
+    pub carry: u32,
+    pub cur: usize,
+    pub var: u32,
+}
+
+pub struct Word {
+    pub lits: [u32; 16],
+    pub carry: u32,
+    pub cur: usize,
+    pub var: u32,
+}
+
+// One bit of a sum.
+pub fn sum_bit(buf: &mut [i32], cur: usize, var: u32, a: u32, b: u32, c: u32) -> Bit
+    ensures { λ r. ⌜ Emits var (sumBit! (fromCode a) (fromCode b) (fromCode c) var) (now (buf .entry)) (now (buf .exit)) cur (record { bit = fromCode (r .bit); carry = fromCode (r .carry) }) (r .cur) (r .var) ⌝ }
+{
+    let p = emit_xor(buf, cur, var, a, b);
+    let s = emit_xor(buf, p.cur, p.var, p.lit, c);
+    let u = emit_and(buf, s.cur, s.var, a, b);
+    let t = emit_and(buf, u.cur, u.var, p.lit, c);
+    let k = emit_or(buf, t.cur, t.var, u.lit, t.lit);
+    Bit {
+        bit: s.lit,
+        carry: k.lit,
+        cur: k.cur,
+        var: k.var,
+    }
+}
+
+// The sum's bits and the last carry.
+pub fn sum(a: [u32; 16], b: [u32; 16], c: u32, buf: &mut [i32], cur: usize, var: u32) -> Word
+    ensures { λ r. ⌜ Emits var (sum! (fromCodes a) (fromCodes b) (fromCode c) var) (now (buf .entry)) (now (buf .exit)) cur (record { bits = fromCodes (r .lits); carry = fromCode (r .carry) }) (r .cur) (r .var) ⌝ }
+{
+    let mut out = [0u32; 16];
+    let mut carry = c;
+    let mut at = cur;
+    let mut g = var;
+    let mut i: usize = 0;
+    while i < 16 {
+        let t = sum_bit(buf, at, g, a[i], b[i], carry);
+        out[i] = t.bit;
+        carry = t.carry;
+        at = t.cur;
+        g = t.var;
+        i = i + 1;
+    }
+    Word {
+        lits: out,
+        carry: carry,
+        cur: at,
+        var: g,
+    }
+}
+
+pub fn negate_all(b: [u32; 16]) -> [u32; 16]
+    ensures { λ r. ⌜ fromCodes r ≡ map negated (fromCodes b) ⌝ }
+{
+    let mut out = [0u32; 16];
+    let mut i: usize = 0;
+    while i < 16 {
+        out[i] = negate(b[i]);
+        i = i + 1;
+    }
+    out
+}
+
+pub fn negate_top(b: [u32; 16]) -> [u32; 16]
+    ensures { λ r. ⌜ fromCodes r ≡ negateTop (fromCodes b) ⌝ }
+{
+    let mut out = b;
+    out[15] = negate(b[15]);
+    out
+}
+
+pub fn difference(a: [u32; 16], b: [u32; 16], buf: &mut [i32], cur: usize, var: u32) -> Word
+    ensures { λ r. ⌜ Emits var (difference! (fromCodes a) (fromCodes b) var) (now (buf .entry)) (now (buf .exit)) cur (record { bits = fromCodes (r .lits); carry = fromCode (r .carry) }) (r .cur) (r .var) ⌝ }
+{
+    sum(a, negate_all(b), TRUE, buf, cur, var)
+}
+
+pub fn less(a: [u32; 16], b: [u32; 16], buf: &mut [i32], cur: usize, var: u32) -> Out
+    ensures { λ r. ⌜ Emits var (less! (fromCodes a) (fromCodes b) var) (now (buf .entry)) (now (buf .exit)) cur (fromCode (r .lit)) (r .cur) (r .var) ⌝ }
+{
+    let x = negate_top(a);
+    let y = negate_top(b);
+    let w = difference(x, y, buf, cur, var);
+    let l = negate(w.carry);
+    Out {
+        lit: l,
+        cur: w.cur,
+        var: w.var,
+    }
+}
+
+// An xor for each pair of bits.
+pub fn xors(a: [u32; 16], b: [u32; 16], buf: &mut [i32], cur: usize, var: u32) -> Word
+    ensures { λ r. ⌜ Emits var (xors! (fromCodes a) (fromCodes b) var) (now (buf .entry)) (now (buf .exit)) cur (fromCodes (r .lits)) (r .cur) (r .var) ⌝ }
+{
+    let mut out = [0u32; 16];
+    let mut at = cur;
+    let mut g = var;
+    let mut i: usize = 0;
+    while i < 16 {
+        let t = emit_xor(buf, at, g, a[i], b[i]);
+        out[i] = t.lit;
+        at = t.cur;
+        g = t.var;
+        i = i + 1;
+    }
+    Word {
+        lits: out,
+        carry: TRUE,
+        cur: at,
+        var: g,
+    }
+}
+
+// An and-chain from c over the negations.
+pub fn chain(x: [u32; 16], c: u32, buf: &mut [i32], cur: usize, var: u32) -> Out
+    ensures { λ r. ⌜ Emits var (chain! (fromCode c) (map negated (fromCodes x)) var) (now (buf .entry)) (now (buf .exit)) cur (fromCode (r .lit)) (r .cur) (r .var) ⌝ }
+{
+    let mut part = c;
+    let mut at = cur;
+    let mut g = var;
+    let mut i: usize = 0;
+    while i < 16 {
+        let n = negate(x[i]);
+        let t = emit_and(buf, at, g, part, n);
+        part = t.lit;
+        at = t.cur;
+        g = t.var;
+        i = i + 1;
+    }
+    Out {
+        lit: part,
+        cur: at,
+        var: g,
+    }
+}
+
+pub fn equal(a: [u32; 16], b: [u32; 16], buf: &mut [i32], cur: usize, var: u32) -> Out
+    ensures { λ r. ⌜ Emits var (equal! (fromCodes a) (fromCodes b) var) (now (buf .entry)) (now (buf .exit)) cur (fromCode (r .lit)) (r .cur) (r .var) ⌝ }
+{
+    let x = xors(a, b, buf, cur, var);
+    let xs = x.lits;
+    chain(xs, TRUE, buf, x.cur, x.var)
+}
