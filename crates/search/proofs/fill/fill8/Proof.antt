@@ -1,0 +1,48 @@
+-- `search::fill::fill8` meets its contract.
+use Prim.Native.Nat.{_-_}
+use native.Mathlib.Omega.{arith}
+use lib.ListN.{length}
+use Rattle.search.proofs.Filling.{Filling, fill-start, fill-step, fill-done}
+use Rattle.search.proofs.fill.fill8.Statement.{statement}
+use Rattle.search.proofs.fill.fill8.Tie as tie
+
+abbrev Inv-loop : tie.InvT-loop
+Inv-loop values₀ x i₀ values i = Filling values₀ x values i
+
+abbrev μ-loop : tie.MeasureT-loop
+μ-loop values₀ x i₀ values i = length values₀ - i
+
+loop-holds : tie.Need-loop-holds Inv-loop μ-loop
+loop-holds c = fill-start _ _
+
+slice-write-values : tie.Need-slice-write-values Inv-loop μ-loop
+slice-write-values c = omega arith
+
+add-i : tie.Need-add-i Inv-loop μ-loop
+add-i c = omega arith
+
+loop-less : tie.Need-loop-less Inv-loop μ-loop
+loop-less c = omega arith
+
+loop-again : tie.Need-loop-again Inv-loop μ-loop
+loop-again c = fill-step _ _ _ _ (c .before .loop .inv) (c .loop-test .taken)
+
+same-length : tie.Need-same-length Inv-loop μ-loop
+same-length c = omega arith
+
+returns : tie.Need-returns Inv-loop μ-loop
+returns c = fill-done _ _ _ _ (c .before .loop .inv) (c .loop-test .left)
+
+pub fill8-spec : {M : Type 1} → statement M
+fill8-spec =
+    tie.close
+    (tie.spec
+    Inv-loop
+    μ-loop
+    loop-holds
+    slice-write-values
+    add-i
+    loop-less
+    loop-again
+    same-length
+    returns)

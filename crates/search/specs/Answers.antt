@@ -1,0 +1,20 @@
+-- The code's answers, of what the definitions say.
+use Rattle.search.specs.Search.{Place, none, at, Answer, SAT, UNSAT, SPENT, Outcome}
+use Rattle.search.specs.declared.words.Spot.{Spot}
+use Rattle.search.specs.declared.words.Spot.the-variants.{Nowhere, At}
+use Rattle.search.specs.declared.Answered.{Answered}
+use Rattle.search.specs.declared.Answered.the-variants.{Sat, Unsat, Spent}
+use Rattle.search.specs.declared.Solved.{Solved}
+
+-- document 01's SAT, UNSAT and SPENT. What values SAT leaves is said by `valuesLeft`
+abbrev pub answerCode : Answer → Answered
+answerCode (SAT ss) = Sat
+answerCode UNSAT = Unsat
+answerCode SPENT = Spent
+
+abbrev pub solvedCode : Outcome → Solved
+solvedCode o = record { answer = answerCode (o .answer); tries = o .tries }
+
+abbrev pub spotCode : Place → Spot
+spotCode none = Nowhere
+spotCode (at i) = At i

@@ -1,0 +1,191 @@
+-- What the inner functions promise: word lists from a place on, and lent memory as the search's settings.
+use mathlib.Core.Path.{_≡_}
+use mathlib.Core.Bool.{Bool, true, false, not, _||_, cond}
+use mathlib.Core.List.{List, [], _∷_, _++_}
+use Prim.Native.Nat.{ℕ, zero, suc, _+_, _*_, _-_, _^_, _/_, _%_, _<_, _≤_}
+use lib.Dec.{ltb, eqb}
+use lib.IntN.{ℤ, pos, negsuc, natAbs}
+use lib.ListN.{length, getD, drop, set, replicate}
+use Rattle.clauses.specs.Literal.{Literal, positive, negative, Clause}
+use Rattle.clauses.specs.Words.{isEnd, literalOfWord, clausesOf}
+use Rattle.search.specs.Search.{Value, unset, is, Setting, Settings, Values, valueOf, conflict, isUnset, sets, takes, satisfied, refuted, undo, upTo, Answer, SAT, UNSAT, SPENT, Outcome, solved}
+use Rattle.search.specs.Answers.{solvedCode}
+use Rattle.search.specs.Solve.{valuesFrom, valuesLeft}
+use Rattle.search.specs.AnyOrder.{IsUnit, Quiet, Move}
+use Rattle.search.specs.declared.scan.Found.{Found}
+use Rattle.search.specs.declared.scan.Found.the-variants.{Nothing, Conflict, Unit as UnitAt}
+use Rattle.search.specs.declared.run.Step.{Step}
+use Rattle.search.specs.declared.run.Step.the-variants.{Goes, Tries, Sat as AllSat, Unsat as NoneLeft}
+use Rattle.search.specs.declared.Solved.{Solved}
+
+-- every word is in -n..n
+abbrev pub AllIn : ℕ → List ℤ → Type 0
+AllIn n ws = (i : ℕ) → i < length ws → natAbs (getD ws i (pos 0)) ≤ n
+
+-- every clause ends
+abbrev pub closedFrom : Bool → List ℤ → Bool
+closedFrom begun [] = not begun
+closedFrom begun (w ∷ ws) = closedFrom (not (isEnd w)) ws
+
+abbrev pub closed : List ℤ → Bool
+closed ws = closedFrom false ws
+
+-- the first clause of a word list, whether it ends, and what follows it
+abbrev pub firstClause : List ℤ → Clause
+firstClause [] = []
+firstClause (w ∷ ws) = cond (isEnd w) [] (literalOfWord w ∷ firstClause ws)
+
+abbrev pub hasEnd : List ℤ → Bool
+hasEnd [] = false
+hasEnd (w ∷ ws) = isEnd w || hasEnd ws
+
+abbrev pub restWords : List ℤ → List ℤ
+restWords [] = []
+restWords (w ∷ ws) = cond (isEnd w) ws (restWords ws)
+
+-- the place past the clause that holds `from`
+pub record Past (ws : List ℤ) (from r : ℕ) : Type 0 where
+  pub since : from < r
+  pub low : r ≤ length ws
+  pub rest : drop r ws ≡ restWords (drop from ws)
+
+-- a clause starts at a place, or the list ends there
+pub record Starts (ws : List ℤ) (from : ℕ) : Type 0 where
+  pub before : List Clause
+  pub split : clausesOf ws ≡ before ++ clausesOf (drop from ws)
+  pub closes : closed (drop from ws) ≡ true
+
+-- the value that makes a word's literal true
+abbrev pub signOf : ℤ → ℕ
+signOf (pos v) = 1
+signOf (negsuc v) = 0
+
+-- the word at a place is a literal of a variable in 1..n
+pub record Named (ws : List ℤ) (n from : ℕ) : Type 0 where
+  pub here : from < length ws
+  pub goes : isEnd (getD ws from (pos 0)) ≡ false
+  pub high : natAbs (getD ws from (pos 0)) ≤ n
+
+-- Values are bytes: 0 false, 1 true, any other unset. Variable v's is byte v - 1.
+abbrev pub valueOfByte : ℕ → Value
+valueOfByte x = cond (ltb 1 x) unset (is (eqb x 1))
+
+abbrev pub valueAt : List ℕ → Values
+valueAt vs v = valueOfByte (getD vs (v - 1) 0)
+
+-- a value as a number: 2 for unset
+abbrev pub valueCode : Value → ℕ
+valueCode unset = 2
+valueCode (is true) = 1
+valueCode (is false) = 0
+
+-- the literal of a variable that the value b makes true
+abbrev pub literalFrom : ℕ → ℕ → Literal
+literalFrom v b = cond (eqb b 1) (positive v) (negative v)
+
+-- what a scan finds among clauses: a unit comes with the place at which to read on
+pub record UnitFound (ws : List ℤ) (σ : Values) (cs : List Clause) (v b next : ℕ) : Type 0 where
+  pub unit : IsUnit σ cs (literalFrom v b)
+  pub bit : b ≤ 1
+  pub starts : Starts ws next
+
+abbrev pub Finds : List ℤ → Values → List Clause → Found → Type 0
+Finds ws σ cs Nothing = Quiet σ cs
+Finds ws σ cs Conflict = conflict σ cs ≡ true
+Finds ws σ cs (UnitAt v b next) = UnitFound ws σ cs v b next
+
+-- A trail word is twice its variable, and 1 more for a branch still at its first value. The settings of the first t words:
+abbrev pub settingAt : List ℕ → ℕ → Setting
+settingAt vs e = record { variable = e / 2; value = eqb (getD vs (e / 2 - 1) 0) 1; first = eqb (e % 2) 1 }
+
+abbrev pub settingsOf : List ℕ → List ℕ → ℕ → Settings
+settingsOf vs tr zero = []
+settingsOf vs tr (suc t) = settingAt vs (getD tr t 0) ∷ settingsOf vs tr t
+
+-- each setting is of a variable in 1..n that was unset
+pub record Proper₁ (n : ℕ) (s : Setting) (ss : Settings) : Type 0 where
+  pub low : 0 < s .variable
+  pub high : s .variable ≤ n
+  pub unset! : valueOf ss (s .variable) ≡ unset
+
+abbrev pub Proper : ℕ → Settings → Type 0
+Proper n [] = Unit {0}
+Proper n (s ∷ ss) = Proper₁ n s ss × Proper n ss
+
+-- how many of v, v + 1, .., v + k - 1 are unset
+abbrev pub bit : Bool → ℕ
+bit true = 1
+bit false = 0
+
+abbrev pub unsetCount : Settings → ℕ → ℕ → ℕ
+unsetCount ss v zero = 0
+unsetCount ss v (suc k) = bit (isUnset (valueOf ss v)) + unsetCount ss (suc v) k
+
+-- values and trail of n entries, t of the trail's in use, say the same
+pub record Shaped (n : ℕ) (vs tr : List ℕ) (t : ℕ) : Type 0 where
+  pub values : length vs ≡ n
+  pub trail : length tr ≡ n
+  pub proper : Proper n (settingsOf vs tr t)
+  pub looks : (v : ℕ) → 0 < v → v ≤ n → valueOf (settingsOf vs tr t) v ≡ valueAt vs v
+  pub count : t + unsetCount (settingsOf vs tr t) 1 n ≡ n
+
+-- a variable in 1..n, and room on a trail that has t words
+pub record Settable (n m t v : ℕ) : Type 0 where
+  pub low : 0 < v
+  pub high : v ≤ n
+  pub small : v < 2 ^ 31
+  pub room : t < m
+
+pub record Assigned (vs tr : List ℕ) (t v value first : ℕ) (vs′ tr′ : List ℕ) : Type 0 where
+  pub values : vs′ ≡ set vs (v - 1) value
+  pub trail : tr′ ≡ set tr t (2 * v + first)
+
+-- what an undo leaves: r settings, or 0 where there is no branch at its first value
+abbrev pub Undone : ℕ → Settings → ℕ → List ℕ → List ℕ → Type 0
+Undone n ss zero vs tr = undo ss ≡ refuted
+Undone n ss (suc r) vs tr = (undo ss ≡ takes (settingsOf vs tr (suc r))) × Shaped n vs tr (suc r)
+
+-- what a turn needs
+pub record Ready (n : ℕ) (ws : List ℤ) (vs tr : List ℕ) (t from : ℕ) : Type 0 where
+  pub small : n < 2 ^ 31
+  pub inside : AllIn n ws
+  pub closes : closed ws ≡ true
+  pub starts : Starts ws from
+  pub shaped : Shaped n vs tr t
+
+-- what a turn leaves, from settings ss and values vs
+abbrev pub Stepped : ℕ → List ℤ → Settings → Step → List ℕ → List ℕ → List ℕ → Type 0
+Stepped n ws ss (Goes k next) vs vs′ tr′ = Move n (clausesOf ws) ss (sets (settingsOf vs′ tr′ k)) × Shaped n vs′ tr′ k × Starts ws next
+Stepped n ws ss (Tries k) vs vs′ tr′ = Move n (clausesOf ws) ss (takes (settingsOf vs′ tr′ k)) × Shaped n vs′ tr′ k
+Stepped n ws ss AllSat vs vs′ tr′ = Move n (clausesOf ws) ss (satisfied ss) × (vs′ ≡ vs)
+Stepped n ws ss NoneLeft vs vs′ tr′ = Move n (clausesOf ws) ss refuted
+
+-- what a run needs
+pub record Fresh (ws : List ℤ) (vs tr : List ℕ) : Type 0 where
+  pub small : length vs < 2 ^ 31
+  pub inside : AllIn (length vs) ws
+  pub closes : closed ws ≡ true
+  pub trail : length tr ≡ length vs
+
+abbrev pub AllUnset : List ℕ → Type 0
+AllUnset vs = vs ≡ replicate (length vs) 2
+
+-- the search of document 01, on as many variables as there are values
+abbrev pub outcome : List ℕ → List ℤ → ℕ → Outcome
+outcome vs ws b = solved (length vs) (clausesOf ws) (upTo b)
+
+-- what a run leaves: on SAT the values are those of its settings
+abbrev pub Kept : ℕ → Answer → List ℕ → Type 0
+Kept n (SAT ss) vs = vs ≡ valuesFrom ss 1 n
+Kept n UNSAT vs = Unit {0}
+Kept n SPENT vs = Unit {0}
+
+pub record Ran (o : Outcome) (n : ℕ) (r : Solved) (vs : List ℕ) : Type 0 where
+  pub result : r ≡ solvedCode o
+  pub kept : Kept n (o .answer) vs
+
+-- the search's result and leavings, on just n entries
+pub record Leaves (o : Outcome) (n : ℕ) (r : Solved) (vs tr : List ℕ) : Type 0 where
+  pub result : r ≡ solvedCode o
+  pub values : vs ≡ valuesLeft n (o .answer)
+  pub trail : tr ≡ replicate n 0

@@ -1,0 +1,52 @@
+// The trail: setting a variable, the lowest unset variable, undoing.
+ghost use mathlib.Core.Path.{_≡_};
+ghost use Prim.Native.Nat.{_≤_};
+ghost use lib.ListN.{length};
+ghost use Rattle.search.specs.Search.{lowestUnset};
+ghost use Rattle.search.specs.Answers.{spotCode};
+ghost use Rattle.search.specs.Memory.{valueAt, settingsOf, Shaped, Settable, Assigned, Undone};
+use super::words::Spot;
+
+// Gives a variable its value, and the trail its word: `first` is 1 for a branch at its first value, else 0.
+pub fn assign(values: &mut [u8], trail: &mut [u32], t: usize, v: usize, value: u8, first: u32)
+    requires { ⌜ Settable (length (now values)) (length (now trail)) t v × (first ≤ 1) ⌝ }
+    ensures { λ r. ⌜ Assigned (now (values .entry)) (now (trail .entry)) t v value first (now (values .exit)) (now (trail .exit)) ⌝ }
+{
+    values[v - 1] = value;
+    trail[t] = (2 * v) as u32 + first;
+}
+
+// The lowest unset variable.
+pub fn lowest(values: &[u8]) -> Spot
+    ensures { λ r. ⌜ r ≡ spotCode (lowestUnset (valueAt (now (values .entry))) 1 (length (now (values .entry)))) ⌝ }
+{
+    let mut i = 0;
+    while i < values.len() {
+        if values[i] > 1 {
+            return Spot::At(i + 1);
+        }
+        i += 1;
+    }
+    Spot::Nowhere
+}
+
+// Back to the latest branch still at its first value, which takes true. It answers how many settings are left, or 0 where
+// there is no such branch.
+pub fn undo(values: &mut [u8], trail: &mut [u32], t: usize) -> usize
+    requires { ⌜ Shaped (length (now values)) (now values) (now trail) t ⌝ }
+    ensures { λ r. ⌜ Undone (length (now (values .entry))) (settingsOf (now (values .entry)) (now (trail .entry)) t) r (now (values .exit)) (now (trail .exit)) ⌝ }
+{
+    let mut k = t;
+    while k > 0 {
+        let e = trail[k - 1];
+        let v = (e / 2) as usize;
+        if e % 2 == 1 {
+            values[v - 1] = 1;
+            trail[k - 1] = e - 1;
+            return k;
+        }
+        values[v - 1] = 2;
+        k -= 1;
+    }
+    0
+}
