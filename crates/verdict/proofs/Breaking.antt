@@ -1,0 +1,66 @@
+-- Where a list of choices breaks the property.
+use mathlib.Core.Path.{_≡_, refl, sym, ap, _∙_}
+use mathlib.Core.Logic.{_⊎_, inl, inr}
+use mathlib.Core.Bool.{Bool, true, false, not, _||_, _&&_}
+use mathlib.Core.List.{List, [], _∷_}
+use Prim.Native.Nat.{ℕ, zero, suc, _<_, _≤_}
+use native.Mathlib.Omega.{arith}
+use lib.Dec.{leb}
+use lib.ListN.{length, take}
+use lib.Seq.{length-take-le}
+use borrow.Author.Tests.{le-leb}
+use Rattle.design.specs.Tree.{Design}
+use Rattle.design.specs.State.{State, start}
+use Rattle.step.specs.OneStep.{step, run, property, breaksAt, breaksFrom, breaks}
+use Rattle.clauses.specs.Formula.{w}
+use Rattle.clauses.proofs.Runs.{AllBelow}
+use Rattle.clauses.proofs.Theorem.{Breaking, Breakable}
+use Rattle.verdict.specs.Claim.{NoneShorter}
+
+below-take : (m i : ℕ) (cs : List ℕ) → AllBelow m cs → AllBelow m (take i cs)
+below-take m zero cs h = tt
+below-take m (suc i) [] h = tt
+below-take m (suc i) (c ∷ cs) h = (h .0, below-take m i cs (h .1))
+
+take-whole : (i : ℕ) (cs : List ℕ) → length cs ≡ i → take i cs ≡ cs
+take-whole zero [] e = refl
+take-whole zero (c ∷ cs) e = absurd (omega arith)
+take-whole (suc i) [] e = absurd (omega arith)
+take-whole (suc i) (c ∷ cs) e = ap (λ (l : List ℕ). c ∷ l) (take-whole i cs (omega arith))
+
+-- the property is false at a list's end, or a shorter beginning of the list breaks it
+abbrev Broken : (d : Design) (p : ℕ) (s : State) (cs : List ℕ) → Type 0
+Broken d p s cs = (not (property d p (run d s cs)) ≡ true) ⊎ ((i : ℕ) × (i < length cs) × (breaksFrom d p s (take i cs) ≡ true))
+
+module _ (d : Design) (p : ℕ) where
+  broken : (s : State) (cs : List ℕ) → breaksFrom d p s cs ≡ true → Broken d p s cs
+  unfolding breaksFrom run
+  broken s [] e = inl e
+  broken s (c ∷ cs) e = go (not (property d p s)) refl e (broken (step d s c) cs)
+    where
+      go : (b : Bool) → not (property d p s) ≡ b → b || breaksFrom d p (step d s c) cs ≡ true → (breaksFrom d p (step d s c) cs ≡ true → Broken d p (step d s c) cs)
+          → Broken d p s (c ∷ cs)
+      go true q h f = inr (0, omega arith, q)
+      go false q h f = on (f h)
+        where
+          on : Broken d p (step d s c) cs → Broken d p s (c ∷ cs)
+          on (inl x) = inl x
+          on (inr (i, l, x)) = inr (suc i, omega arith, rw (q, x))
+
+  -- a list of i choices that breaks the property, where no shorter one does, breaks it at step i
+  pub breaks-at : (i : ℕ) (cs : List ℕ) → Breaking d p i cs → NoneShorter d p i → breaksAt d p cs i ≡ true
+  unfolding breaks breaksAt
+  breaks-at i cs b none = go (broken (start d) cs (b .breaks))
+    where
+      long : length cs ≡ i
+      long = b .long
+
+      go : Broken d p (start d) cs → leb i (length cs) && not (property d p (run d (start d) (take i cs))) ≡ true
+      go (inl e) = rw (le-leb i (length cs) (omega arith), take-whole i cs long, e)
+      go (inr (j, l, e)) =
+          absurd (none j (omega arith) (record {
+            list = take j cs;
+            short = omega (arith, length-take-le j cs (omega arith));
+            movers = below-take (w d) j cs (b .movers);
+            breaks = e;
+          }))

@@ -1,0 +1,199 @@
+-- VERDICT's tests: a call that SIZE refuses, one with too little room, and one that answers.
+use mathlib.Core.Path.{_≡_, refl, sym, ap, _∙_}
+use mathlib.Core.Bool.{Bool, true, false, _&&_}
+use mathlib.Core.List.{List}
+use Prim.Native.Nat.{ℕ, _<_, _≤_}
+use native.Mathlib.Omega.{arith}
+use lib.Dec.{leb}
+use lib.ListN.{length, getD}
+use borrow.Author.Tests.{leb-true, le-leb, lt-leb}
+use Rattle.design.specs.Tree.{Design}
+use Rattle.design.specs.Check.{Checked, check}
+use Rattle.clauses.specs.Words.{words}
+use Rattle.clauses.specs.Formula.{n, formula}
+use Rattle.clauses.specs.Answer.{Answer, refused, answer, need, ofChecked, onDesign, maxProperty, maxBound}
+use Rattle.clauses.specs.Size.{Sizes, sizesOf, size}
+use Rattle.verdict.specs.Verdict.{Told, Judged, judge, Memory, After, memoryLeft, roomFor, afterCall, verdict}
+use Rattle.verdict.specs.Answers.{exit}
+use Rattle.verdict.specs.Loop.{Ready}
+use Rattle.verdict.specs.declared.answer.Reply.the-variants.{Refused}
+
+-- A call that answers passed each test.
+and-true : (a b : Bool) → a && b ≡ true → (a ≡ true) × (b ≡ true)
+and-true true b e = (refl, e)
+and-true false b e = absurd (let z : _≡_ {A = ℕ} 0 1 = cc in omega arith)
+
+need-true : {A : Type 0} (t : Bool) (number place : ℕ) (r : Answer A) (a : A) → need t number place r ≡ answer a → (t ≡ true) × (r ≡ answer a)
+need-true true number place r a e = (refl, e)
+need-true false number place r a e = absurd (let z : _≡_ {A = ℕ} 0 1 = cc in omega arith)
+
+same-answer : {A : Type 0} (x y : A) → answer x ≡ answer y → x ≡ y
+same-answer x y e = cc
+
+after-answer : (lent : Memory) (r : Answer (Told × Memory)) (told : Told) → (afterCall lent r) .answer ≡ answer told
+    → (m : Memory) × (r ≡ answer (told, m)) × ((afterCall lent r) .memory ≡ m)
+after-answer lent (refused number place) told e = absurd (let z : _≡_ {A = ℕ} 0 1 = cc in omega arith)
+after-answer lent (answer (t, m)) told e = let q : t ≡ told = cc in (m, ap (λ (x : Told). answer (x, m)) q, refl)
+
+-- there is room for the full bound
+pub record Room (d : Design) (p k : ℕ) (lent : Memory) : Type 0 where
+  pub clauses : length (words (formula d p k)) ≤ length (lent .clauses)
+  pub values : n d p k ≤ length (lent .values)
+  pub trail : n d p k ≤ length (lent .trail)
+  pub choices : k ≤ length (lent .choices)
+
+module _ (d : Design) (p k : ℕ) (lent : Memory) where
+  pub room-for : roomFor d p k lent ≡ true → Room d p k lent
+  unfolding roomFor
+  room-for e =
+      let a = leb (length (words (formula d p k))) (length (lent .clauses)) in
+      let b = leb (n d p k) (length (lent .values)) in
+      let c = leb (n d p k) (length (lent .trail)) in
+      let f = leb k (length (lent .choices)) in
+      let x = and-true (a && b && c) f e in
+      let y = and-true (a && b) c (x .0) in
+      let z = and-true a b (y .0) in
+      record {
+        clauses = leb-true (length (words (formula d p k))) (length (lent .clauses)) (z .0);
+        values = leb-true (n d p k) (length (lent .values)) (z .1);
+        trail = leb-true (n d p k) (length (lent .trail)) (y .1);
+        choices = leb-true k (length (lent .choices)) (x .1);
+      }
+
+  pub for-room : Room d p k lent → roomFor d p k lent ≡ true
+  unfolding roomFor
+  for-room r =
+      rw (
+        le-leb (length (words (formula d p k))) (length (lent .clauses)) (r .clauses),
+        le-leb (n d p k) (length (lent .values)) (r .values),
+        le-leb (n d p k) (length (lent .trail)) (r .trail),
+        le-leb k (length (lent .choices)) (r .choices),
+      )
+
+  -- what is lent is short
+  pub no-room : (Room d p k lent → ⊥) → roomFor d p k lent ≡ false
+  no-room h = go (roomFor d p k lent) refl
+    where
+      go : (b : Bool) → roomFor d p k lent ≡ b → b ≡ false
+      go true e = absurd (h (room-for e))
+      go false e = refl
+
+-- what a call that answers was given, and what it left
+pub record Answered (file : List ℕ) (d : Design) (p k budget : ℕ) (lent : Memory) (told : Told) : Type 0 where
+  pub property : p ≤ maxProperty
+  pub bound : k ≤ maxBound
+  pub room : Room d p k lent
+  pub same : (judge d p k budget) .told ≡ told
+  pub memory : (verdict file p k budget lent) .memory ≡ memoryLeft file d p (judge d p k budget) lent
+
+module _ (file : List ℕ) (d : Design) (e : check file ≡ Checked.accepted d) (p k budget : ℕ) (lent : Memory) where
+  abbrev last : Answer (Told × Memory)
+  last = answer ((judge d p k budget) .told, memoryLeft file d p (judge d p k budget) lent)
+
+  abbrev called : Answer (Told × Memory)
+  called = need (leb p maxProperty) 13 0 (need (leb k maxBound) 14 0 (need (roomFor d p k lent) 16 0 last))
+
+  verdict-is : verdict file p k budget lent ≡ afterCall lent called
+  unfolding verdict onDesign
+  verdict-is = rw e
+
+  pub answered : (told : Told) → (verdict file p k budget lent) .answer ≡ answer told → Answered file d p k budget lent told
+  answered told h =
+      let a = after-answer lent called told (ap (λ (x : After). x .answer) (sym verdict-is) ∙ h) in
+      let t₁ = need-true (leb p maxProperty) 13 0 (need (leb k maxBound) 14 0 (need (roomFor d p k lent) 16 0 last)) (told, a .0) (a .1) in
+      let t₂ = need-true (leb k maxBound) 14 0 (need (roomFor d p k lent) 16 0 last) (told, a .0) (t₁ .1) in
+      let t₃ = need-true (roomFor d p k lent) 16 0 last (told, a .0) (t₂ .1) in
+      let q = same-answer _ (told, a .0) (t₃ .1) in
+      record {
+        property = leb-true p maxProperty (t₁ .0);
+        bound = leb-true k maxBound (t₂ .0);
+        room = room-for d p k lent (t₃ .0);
+        same = ap (λ (x : Told × Memory). x .0) q;
+        memory = ap (λ (x : After). x .memory) verdict-is ∙ a .2 ∙ ap (λ (x : Told × Memory). x .1) (sym q);
+      }
+
+  module _ (low : p ≤ maxProperty) (few : k ≤ maxBound) where
+    -- "16 clauses, values, trail or choices short for the full bound"
+    pub short : (Room d p k lent → ⊥) → verdict file p k budget lent ≡ record { answer = refused 16 0; memory = lent }
+    short h = verdict-is ∙ rw (le-leb p maxProperty low, le-leb k maxBound few, no-room d p k lent h)
+
+    -- else it answers
+    pub answers : Room d p k lent → verdict file p k budget lent ≡ record { answer = answer ((judge d p k budget) .told); memory = memoryLeft file d p (judge d p k budget) lent }
+    answers r = verdict-is ∙ rw (le-leb p maxProperty low, le-leb k maxBound few, for-room d p k lent r)
+
+-- What SIZE refuses, VERDICT refuses, by the same number and place.
+refused-all : (t u v : Bool) (s : Sizes) (r : Told × Memory) (number place : ℕ) → need t 13 0 (need u 14 0 (answer s)) ≡ refused number place
+    → need t 13 0 (need u 14 0 (need v 16 0 (answer r))) ≡ refused number place
+refused-all true true v s r number place e = absurd (let z : _≡_ {A = ℕ} 0 1 = cc in omega arith)
+refused-all true false v s r number place e = let a : 14 ≡ number = cc in let b : 0 ≡ place = cc in cc
+refused-all false u v s r number place e = let a : 13 ≡ number = cc in let b : 0 ≡ place = cc in cc
+
+pub size-refused : (file : List ℕ) (p k budget : ℕ) (lent : Memory) (number place : ℕ) → size file p k ≡ refused number place
+    → verdict file p k budget lent ≡ record { answer = refused number place; memory = lent }
+unfolding size verdict onDesign
+size-refused file p k budget lent number place h = ap (afterCall lent) (go (check file) h)
+  where
+    go : (c : Checked) → ofChecked c (λ d. need (leb p maxProperty) 13 0 (need (leb k maxBound) 14 0 (answer (sizesOf d p k)))) ≡ refused number place
+        → _≡_ {A = Answer (Told × Memory)} (ofChecked c (λ d.
+        need (leb p maxProperty) 13 0
+        (need (leb k maxBound) 14 0
+        (need (roomFor d p k lent) 16 0
+        (answer ((judge d p k budget) .told, memoryLeft file d p (judge d p k budget) lent)))))) (refused number place)
+    go (Checked.refused m q) e = let a : m ≡ number = cc in let b : q ≡ place = cc in cc
+    go (Checked.accepted d) e =
+        refused-all (leb p maxProperty) (leb k maxBound) (roomFor d p k lent) (sizesOf d p k) ((judge d p k budget) .told, memoryLeft file d p (judge d p k budget) lent) number place e
+
+-- where SIZE answers
+pub record Sized (file : List ℕ) (p k : ℕ) (s : Sizes) : Type 0 where
+  pub design : Design
+  pub accepted : check file ≡ Checked.accepted design
+  pub property : p ≤ maxProperty
+  pub bound : k ≤ maxBound
+  pub sizes : sizesOf design p k ≡ s
+
+pub size-answers : (file : List ℕ) (p k : ℕ) (s : Sizes) → size file p k ≡ answer s → Sized file p k s
+unfolding size onDesign
+size-answers file p k s h = go (check file) refl h
+  where
+    go : (c : Checked) → check file ≡ c → ofChecked c (λ d. need (leb p maxProperty) 13 0 (need (leb k maxBound) 14 0 (answer (sizesOf d p k)))) ≡ answer s → Sized file p k s
+    go (Checked.refused m q) x e = absurd (let z : _≡_ {A = ℕ} 0 1 = cc in omega arith)
+    go (Checked.accepted d) x e =
+        let t₁ = need-true (leb p maxProperty) 13 0 (need (leb k maxBound) 14 0 (answer (sizesOf d p k))) s e in
+        let t₂ = need-true (leb k maxBound) 14 0 (answer (sizesOf d p k)) s (t₁ .1) in
+        record { design = d; accepted = x; property = leb-true p maxProperty (t₁ .0); bound = leb-true k maxBound (t₂ .0); sizes = same-answer _ _ (t₂ .1) }
+
+-- What SIZE answers, held against the lengths lent.
+module _ {file : List ℕ} {p k : ℕ} {s : Sizes} (z : Sized file p k s) (budget : ℕ) (lent : Memory) where
+  words-are : length (words (formula (z .design) p k)) ≡ s .words
+  unfolding sizesOf
+  words-are = ap (λ (x : Sizes). x .words) (z .sizes)
+
+  variables-are : n (z .design) p k ≡ s .variables
+  unfolding sizesOf
+  variables-are = ap (λ (x : Sizes). x .variables) (z .sizes)
+
+  refuses : (Room (z .design) p k lent → ⊥) → record { reply = Refused 16 0; memory = lent } ≡ exit (verdict file p k budget lent)
+  refuses h = ap exit (sym (short file (z .design) (z .accepted) p k budget lent (z .property) (z .bound) h))
+
+  pub short-clauses : length (lent .clauses) < s .words → record { reply = Refused 16 0; memory = lent } ≡ exit (verdict file p k budget lent)
+  short-clauses h = refuses λ r. omega (arith, r .clauses, words-are)
+
+  pub short-values : length (lent .values) < s .variables → record { reply = Refused 16 0; memory = lent } ≡ exit (verdict file p k budget lent)
+  short-values h = refuses λ r. omega (arith, r .values, variables-are)
+
+  pub short-trail : length (lent .trail) < s .variables → record { reply = Refused 16 0; memory = lent } ≡ exit (verdict file p k budget lent)
+  short-trail h = refuses λ r. omega (arith, r .trail, variables-are)
+
+  pub short-choices : length (lent .choices) < k → record { reply = Refused 16 0; memory = lent } ≡ exit (verdict file p k budget lent)
+  short-choices h = refuses λ r. omega (arith, r .choices)
+
+  pub ready : ((i : ℕ) → getD file i 0 < 256) → s .words ≤ length (lent .clauses) → s .variables ≤ length (lent .values) → s .variables ≤ length (lent .trail) → k ≤ length (lent .choices)
+      → Ready file p k lent
+  ready bytes a b c e = record {
+    design = z .design;
+    accepted = z .accepted;
+    bytes = bytes;
+    property = z .property;
+    bound = z .bound;
+    room = for-room (z .design) p k lent (record { clauses = omega (arith, words-are); values = omega (arith, variables-are); trail = omega (arith, variables-are); choices = e });
+  }

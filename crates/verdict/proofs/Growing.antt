@@ -1,0 +1,27 @@
+-- The variables and words of the formula grow with the bound, so room for the full bound is room for every smaller one.
+use mathlib.Core.Path.{_≡_}
+use Prim.Native.Nat.{ℕ, _+_, _*_, _≤_}
+use native.Mathlib.Omega.{arith}
+use native.Mathlib.Nat.{le-refl, mul-le-mul}
+use lib.ListN.{length}
+use Rattle.design.specs.Tree.{Design}
+use Rattle.design.specs.WellFormed.{WellFormed}
+use Rattle.clauses.specs.Words.{words}
+use Rattle.clauses.specs.Formula.{F, n, formula}
+use Rattle.clauses.specs.Cost.{wordsIn, propertyCost, stepWordCount, wordCount}
+use Rattle.clauses.proofs.Sizes.{formula-counts}
+
+module _ (d : Design) (p : ℕ) {i k : ℕ} (h : i ≤ k) where
+  pub variables-grow : n d p i ≤ n d p k
+  unfolding n
+  variables-grow = let f : i * F d p ≤ k * F d p = mul-le-mul h (le-refl (F d p)) in omega arith
+
+  count-grows : wordCount d p i ≤ wordCount d p k
+  unfolding wordCount
+  count-grows =
+      let x : (1 + i) * wordsIn (propertyCost d p) ≤ (1 + k) * wordsIn (propertyCost d p) = mul-le-mul (let q : 1 + i ≤ 1 + k = omega arith in q) (le-refl (wordsIn (propertyCost d p))) in
+      let y : i * stepWordCount d ≤ k * stepWordCount d = mul-le-mul h (le-refl (stepWordCount d)) in
+      omega arith
+
+  pub words-grow : WellFormed d → length (words (formula d p i)) ≤ length (words (formula d p k))
+  words-grow wf = omega (arith, formula-counts d wf p i .words, formula-counts d wf p k .words, count-grows)

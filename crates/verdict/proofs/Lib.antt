@@ -1,0 +1,10 @@
+pub mod Breaking
+pub mod Growing
+pub mod Judging
+pub mod Calls
+pub mod Witness
+pub mod Theorem
+pub mod Table
+pub mod Loop
+pub mod Searching
+pub mod Standing

@@ -1,0 +1,62 @@
+-- VIOLATED i: DECODE is not refused on the values left, and the choices that it writes break the property at step i.
+use mathlib.Core.Path.{_≡_, refl, sym, ap, _∙_, subst}
+use mathlib.Core.Bool.{Bool, true, false, _&&_}
+use mathlib.Core.List.{List, _++_}
+use Prim.Native.Nat.{ℕ, suc, _+_, _<_, _≤_}
+use native.Mathlib.Omega.{arith}
+use lib.Dec.{leb}
+use lib.ListN.{length, drop, getD, length-append, List·getD-append}
+use borrow.Author.Tests.{le-leb}
+use Rattle.design.specs.Tree.{Design, bit}
+use Rattle.design.specs.Check.{Checked, check}
+use Rattle.clauses.specs.Meaning.{satisfies}
+use Rattle.clauses.specs.Formula.{n, formula, choices}
+use Rattle.clauses.specs.Answer.{Answer, answer, need, ofChecked, onDesign, maxProperty, maxBound}
+use Rattle.clauses.specs.Decode.{Decoded, written, chosenFrom, choicesToWrite, decode}
+use Rattle.clauses.proofs.Theorem.{Breaking, Theorem, Stored}
+use Rattle.search.specs.Search.{Value, unset, is, Settings, valueOf}
+use Rattle.search.specs.Solve.{bitOf, valuesFrom}
+use Rattle.search.proofs.Scans.{isTrue, made}
+use Rattle.search.proofs.Values.{length-from, getD-from}
+use Rattle.verdict.specs.Claim.{NoneShorter, Witness}
+use Rattle.verdict.proofs.Breaking.{breaks-at}
+
+bit-true : (x : Value) → bitOf x ≡ bit (isTrue x)
+bit-true unset = refl
+bit-true (is true) = refl
+bit-true (is false) = refl
+
+-- the values that SAT leaves hold the assignment of its settings
+values-hold : (m : ℕ) (ss : Settings) (rest : List ℕ) → Stored m (made ss) (valuesFrom ss 1 m ++ rest)
+values-hold m ss rest = record {
+  long = omega (arith, length-append (valuesFrom ss 1 m) rest, length-from ss 1 m);
+  value = λ i h.
+      List·getD-append (valuesFrom ss 1 m) rest 0 i (omega (arith, length-from ss 1 m))
+      ∙ getD-from ss 1 m i h
+      ∙ ap (λ (v : ℕ). bitOf (valueOf ss v)) (let e : 1 + i ≡ suc i = omega arith in e)
+      ∙ bit-true (valueOf ss (suc i));
+}
+
+module _ (file : List ℕ) (d : Design) (e : check file ≡ Checked.accepted d) (p : ℕ) (low : p ≤ maxProperty) where
+  -- past the other refusals DECODE looks at the flags
+  decode-past : (i : ℕ) (values cs : List ℕ) → i ≤ maxBound → n d p i ≤ length values → i ≤ length cs
+      → decode file p i values cs ≡ written (chosenFrom d p values i 0) cs
+  unfolding decode choicesToWrite onDesign
+  decode-past i values cs few long room =
+      rw (e, le-leb p maxProperty low, le-leb i maxBound few, le-leb (n d p i) (length values) long, le-leb i (length cs) room)
+
+  pub witness : (i : ℕ) (ss : Settings) (rest cs : List ℕ) → Theorem d p i → i ≤ maxBound → i ≤ length cs → NoneShorter d p i
+      → satisfies (made ss) (formula d p i) ≡ true → Witness d p i cs ((decode file p i (valuesFrom ss 1 (n d p i) ++ rest) cs) .choices)
+  witness i ss rest cs th few room none s =
+      let h = values-hold (n d p i) ss rest in
+      let b : Breaking d p i (choices d p (made ss) i) = th .decodes (made ss) s in
+      let x : decode file p i (valuesFrom ss 1 (n d p i) ++ rest) cs ≡ written (answer (choices d p (made ss) i)) cs =
+      decode-past i (valuesFrom ss 1 (n d p i) ++ rest) cs few (h .long) room
+      ∙ ap (λ (r : Answer (List ℕ)). written r cs) (th .decode (made ss) (valuesFrom ss 1 (n d p i) ++ rest) s h) in
+      record {
+        list = choices d p (made ss) i;
+        written = ap (λ (r : Decoded). r .choices) x ∙ ap (λ (m : ℕ). choices d p (made ss) i ++ drop m cs) (b .long);
+        long = b .long;
+        movers = b .movers;
+        breaks = breaks-at d p i (choices d p (made ss) i) b none;
+      }

@@ -1,0 +1,31 @@
+-- The code's answers, of what the definitions say.
+use Prim.Native.Nat.{ℕ}
+use Rattle.clauses.specs.Answer.{Answer, refused, answer}
+use Rattle.verdict.specs.Verdict.{Verdict, VIOLATED, CLEAN, SPENT-AT, Told, Memory, After}
+use Rattle.verdict.specs.declared.answer.Verdict as declared
+use Rattle.verdict.specs.declared.answer.Verdict.the-variants.{Violated, Clean, Spent}
+use Rattle.verdict.specs.declared.answer.Judged as declared-judged
+use Rattle.verdict.specs.declared.answer.Reply.{Reply}
+use Rattle.verdict.specs.declared.answer.Reply.the-variants.{Refused, Done}
+
+-- document 01's VIOLATED with its step, CLEAN, and SPENT with its bound
+abbrev pub verdictCode : Verdict → declared.Verdict
+verdictCode (VIOLATED i) = Violated i
+verdictCode CLEAN = Clean
+verdictCode (SPENT-AT i) = Spent i
+
+abbrev pub judgedCode : Told → declared-judged.Judged
+judgedCode t = record { verdict = verdictCode (t .verdict); tries = t .tries }
+
+-- a refusal's number and place, or the verdict and the tries
+abbrev pub replyCode : Answer Told → Reply
+replyCode (refused number place) = Refused number place
+replyCode (answer t) = Done (judgedCode t)
+
+-- the reply, and lent memory after the call
+pub record Exit : Type 0 where
+  pub reply : Reply
+  pub memory : Memory
+
+abbrev pub exit : After → Exit
+exit a = record { reply = replyCode (a .answer); memory = a .memory }

@@ -1,0 +1,103 @@
+-- Demand 3 of document 01, whole: "one claim about such lists as wholes, not one for each choice". A list's choices are movers' numbers,
+-- idle ones included. `Breaking d p k cs`: cs is a list of just k choices that breaks property p; `Breakable d p k`: some list of at most k does.
+use mathlib.Core.Path.{_≡_}
+use mathlib.Core.Logic.{_↔_}
+use mathlib.Core.Bool.{true}
+use mathlib.Core.List.{List, _++_}
+use Prim.Native.Nat.{ℕ, zero, suc, _+_, _<_, _≤_}
+use lib.ListN.{length, drop}
+use Rattle.design.specs.Tree.{Design}
+use Rattle.design.specs.Check.{Checked, check}
+use Rattle.step.specs.OneStep.{breaksAt}
+use Rattle.clauses.specs.Meaning.{Assignment, satisfies, Satisfiable}
+use Rattle.clauses.specs.Formula.{w, n, formula, choices}
+use Rattle.clauses.specs.Answer.{answer}
+use Rattle.clauses.proofs.Runs.{AllBelow}
+use Rattle.clauses.proofs.Theorem.{Breaking, Breakable}
+use Rattle.search.specs.Search.{noBudget}
+use Rattle.verdict.specs.Verdict.{Verdict, VIOLATED, CLEAN, SPENT-AT, Told, Memory, searched, verdict}
+
+-- just one satisfying assignment of the formula for bound k decodes to a list: any other gives each of the variables 1..n the same value
+pub record JustOne (d : Design) (p k : ℕ) (cs : List ℕ) : Type 0 where
+  pub assignment : Assignment
+  pub satisfying : satisfies assignment (formula d p k) ≡ true
+  pub decodes : choices d p assignment k ≡ cs
+  pub only : (ρ : Assignment) → satisfies ρ (formula d p k) ≡ true → choices d p ρ k ≡ cs → (v : ℕ) → 0 < v → v ≤ n d p k → ρ v ≡ assignment v
+
+pub record OfFormula (d : Design) (p k : ℕ) : Type 0 where
+  -- the formula has a satisfying assignment exactly when some list of at most k choices breaks the property
+  pub satisfiable : Satisfiable (formula d p k) ↔ Breakable d p k
+  -- for every list of just k choices that breaks it, just one satisfying assignment decodes to it
+  pub decoded : (cs : List ℕ) → Breaking d p k cs → JustOne d p k cs
+  -- and every satisfying assignment decodes to such a list
+  pub decodes : (ρ : Assignment) → satisfies ρ (formula d p k) ≡ true → Breaking d p k (choices d p ρ k)
+
+module _ (d : Design) (p : ℕ) where
+  -- "A bound's tries are those the search makes on its formula with no budget set."
+  abbrev pub triesOf : ℕ → ℕ
+  triesOf i = (searched d p noBudget i) .tries
+
+  -- the tries of bounds 0, 1, .., i - 1
+  abbrev pub triesBelow : ℕ → ℕ
+  triesBelow zero = 0
+  triesBelow (suc i) = triesBelow i + triesOf i
+
+  -- no list of fewer than i choices breaks the property
+  abbrev pub NoneShorter : ℕ → Type 0
+  NoneShorter i = (j : ℕ) → j < i → Breakable d p j → ⊥
+
+  -- some list of i choices breaks it, and no shorter one
+  pub record FirstBreak (k i : ℕ) : Type 0 where
+    pub within : i ≤ k
+    pub some : Breakable d p i
+    pub none : NoneShorter i
+
+  -- "for some bound up to its own with no smaller one SAT, the tries of bounds 0 up to that one total more than the budget": of bound i
+  pub record Exceeds (k budget i : ℕ) : Type 0 where
+    pub within : i ≤ k
+    pub none : NoneShorter i
+    pub more : budget < triesBelow (suc i)
+
+  -- "The first such bound is the one named"
+  pub record FirstExceeds (k budget i : ℕ) : Type 0 where
+    pub here : Exceeds k budget i
+    pub first : (j : ℕ) → j < i → Exceeds k budget j → ⊥
+
+  -- the search needs no try beyond the budget
+  abbrev pub Enough : ℕ → ℕ → Type 0
+  Enough k budget = (i : ℕ) → Exceeds k budget i → ⊥
+
+  -- what each verdict says
+  abbrev pub Says : ℕ → ℕ → Verdict → Type 0
+  Says k budget (VIOLATED i) = Enough k budget × FirstBreak k i
+  Says k budget CLEAN = Enough k budget × (Breakable d p k → ⊥)
+  Says k budget (SPENT-AT i) = FirstExceeds k budget i
+
+  -- "the tries answered are then the budget; otherwise they are the total over the bounds solved"
+  abbrev pub triesTold : ℕ → ℕ → Verdict → ℕ
+  triesTold k budget (VIOLATED i) = triesBelow (suc i)
+  triesTold k budget CLEAN = triesBelow (suc k)
+  triesTold k budget (SPENT-AT i) = budget
+
+  -- the choices written are i movers' numbers that break the property at step i
+  pub record Witness (i : ℕ) (lent left : List ℕ) : Type 0 where
+    pub list : List ℕ
+    pub written : left ≡ list ++ drop i lent
+    pub long : length list ≡ i
+    pub movers : AllBelow (w d) list
+    pub breaks : breaksAt d p list i ≡ true
+
+  -- of an answer, and the choices before and after the call
+  pub record OfVerdict (k budget : ℕ) (told : Told) (lent left : List ℕ) : Type 0 where
+    -- the verdict is SPENT exactly when the search needs a try beyond the budget, else VIOLATED or CLEAN exactly as the runs say
+    pub verdict : (v : Verdict) → (told .verdict ≡ v) ↔ Says k budget v
+    -- the tries are those the search made
+    pub tries : told .tries ≡ triesTold k budget (told .verdict)
+    -- VIOLATED i gives i choices that break at i
+    pub witness : (i : ℕ) → told .verdict ≡ VIOLATED i → Witness i lent left
+
+-- of a file and its design
+pub record Demand3 (file : List ℕ) (d : Design) : Type 0 where
+  pub formula : (p k : ℕ) → OfFormula d p k
+  pub verdict : (p k budget : ℕ) (lent : Memory) (told : Told) → (verdict file p k budget lent) .answer ≡ answer told
+      → OfVerdict d p k budget told (lent .choices) ((verdict file p k budget lent) .memory .choices)

@@ -1,0 +1,58 @@
+-- What the inner functions promise: the loop over the bounds.
+use mathlib.Core.Path.{_≡_}
+use mathlib.Core.Bool.{true}
+use mathlib.Core.List.{List, _++_}
+use Prim.Native.Nat.{ℕ, _-_, _<_, _≤_}
+use lib.IntN.{ℤ}
+use lib.ListN.{length, getD, drop, replicate}
+use Rattle.design.specs.Tree.{Design}
+use Rattle.design.specs.Check.{Checked, check}
+use Rattle.clauses.specs.Words.{words}
+use Rattle.clauses.specs.Formula.{n, formula}
+use Rattle.clauses.specs.Answer.{maxProperty, maxBound}
+use Rattle.search.specs.Search.{upTo}
+use Rattle.search.specs.Solve.{valuesLeft}
+use Rattle.search.specs.Answers.{solvedCode}
+use Rattle.search.specs.declared.Solved.{Solved}
+use Rattle.verdict.specs.Verdict.{Memory, searched, judgedFrom, judge, roomFor}
+
+-- nothing is refused: the file's design is accepted, the property and the bound are not too high, and there is room
+pub record Ready (file : List ℕ) (p k : ℕ) (lent : Memory) : Type 0 where
+  pub design : Design
+  pub accepted : check file ≡ Checked.accepted design
+  pub bytes : (i : ℕ) → getD file i 0 < 256
+  pub property : p ≤ maxProperty
+  pub bound : k ≤ maxBound
+  pub room : roomFor design p k lent ≡ true
+
+module _ (d : Design) (p k budget : ℕ) (lent : Memory) where
+  -- Before bound i, after t tries: what is still to do, and lent memory, which is as it was lent past what bound i's formula and variables take.
+  pub record Judging (i t : ℕ) (clauses : List ℤ) (values trail : List ℕ) : Type 0 where
+    pub low : i ≤ k
+    pub paid : t ≤ budget
+    pub same : judgedFrom d p budget (k - i) i t ≡ judge d p k budget
+    pub clauses-kept : drop (length (words (formula d p i))) clauses ≡ drop (length (words (formula d p i))) (lent .clauses)
+    pub values-kept : drop (n d p i) values ≡ drop (n d p i) (lent .values)
+    pub trail-kept : drop (n d p i) trail ≡ drop (n d p i) (lent .trail)
+    pub clauses-long : length clauses ≡ length (lent .clauses)
+    pub values-long : length values ≡ length (lent .values)
+    pub trail-long : length trail ≡ length (lent .trail)
+
+  -- Bound i was tried: its formula was written, the search came to a result, and this is what they left.
+  pub record Tried (i t : ℕ) (clauses : List ℤ) (values trail : List ℕ) (r : Solved) (clauses′ : List ℤ) (values′ trail′ : List ℕ) : Type 0 where
+    pub result : r ≡ solvedCode (searched d p (upTo (budget - t)) i)
+    pub written : clauses′ ≡ words (formula d p i) ++ drop (length (words (formula d p i))) clauses
+    pub values-left : values′ ≡ valuesLeft (n d p i) ((searched d p (upTo (budget - t)) i) .answer) ++ drop (n d p i) values
+    pub trail-left : trail′ ≡ replicate (n d p i) 0 ++ drop (n d p i) trail
+
+-- what writing the formula for bound i leaves, and the numbers of its words and variables
+pub record Written (d : Design) (p i : ℕ) (clauses clauses′ : List ℤ) (count variables : ℕ) : Type 0 where
+  pub counted : count ≡ length (words (formula d p i))
+  pub numbered : variables ≡ n d p i
+  pub written : clauses′ ≡ words (formula d p i) ++ drop (length (words (formula d p i))) clauses
+
+-- the loop's invariant
+pub record Standing (file : List ℕ) (p k budget : ℕ) (lent : Memory) (i t : ℕ) (clauses : List ℤ) (values trail choices : List ℕ) : Type 0 where
+  pub ready : Ready file p k lent
+  pub judging : Judging (ready .design) p k budget lent i t clauses values trail
+  pub choices-kept : choices ≡ lent .choices

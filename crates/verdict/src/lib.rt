@@ -1,0 +1,2 @@
+// VERDICT.
+pub mod answer;
