@@ -1,0 +1,139 @@
+-- Laws of text that is put into a buffer. Assumes nothing.
+use mathlib.Core.Path.{_≡_, refl, sym, ap, subst, _∙_}
+use mathlib.Core.Bool.{Bool, true, false, cond}
+use mathlib.Core.List.{List, [], _∷_, _++_}
+use Prim.Native.Nat.{ℕ, zero, suc, _+_, _*_, _-_, _/_, _%_, _<_, _≤_}
+use native.Mathlib.Omega.{arith}
+use lib.Dec.{ltb}
+use native.Mathlib.Numerals.{add-one}
+use lib.ListN.{length, getD, set, drop, drop-of-length-le, length-append, length-set}
+use lib.Seq.{drop-cons}
+use borrow.Author.Tests.{lt-ltb, le-ltb}
+use lib.IntN.{ℤ, pos, negsuc, natAbs}
+use Rattle.search.specs.Memory.{signOf}
+use Rattle.text.specs.Text.{digits, decimal, signedText, put, Written}
+use Rattle.text.specs.Line.{spaced, moverText, flagText}
+use Rattle.design.specs.Tree.{bit}
+
+pub put-length : (at : ℕ) (ws xs : List ℕ) → length (put at ws xs) ≡ length xs
+unfolding put
+put-length at [] xs = refl
+put-length at (w ∷ ws) xs = put-length (suc at) ws (set xs at w) ∙ length-set xs at w
+
+pub put-append : (at : ℕ) (us vs xs : List ℕ) → put (at + length us) vs (put at us xs) ≡ put at (us ++ vs) xs
+unfolding put
+put-append at [] vs xs = ap (λ (k : ℕ). put k vs xs) (let q : at + 0 ≡ at = omega arith in q)
+put-append at (u ∷ us) vs xs =
+    ap (λ (k : ℕ). put k vs (put (suc at) us (set xs at u))) (let q : at + suc (length us) ≡ suc at + length us = omega arith in q)
+    ∙ put-append (suc at) us vs (set xs at u)
+
+pub written-length : {ws xs ys : List ℕ} {at r : ℕ} → Written ws xs ys at r → length ys ≡ length xs
+written-length {ws} {xs} {ys} {at} h = ap length (h .bytes) ∙ put-length at ws xs
+
+-- nothing, one byte, one text after another
+pub written-none : (xs : List ℕ) (at : ℕ) → Written [] xs xs at at
+unfolding put
+written-none xs at = record { bytes = refl; past = omega arith }
+
+pub written-byte : (b : ℕ) (xs : List ℕ) (at r : ℕ) → r ≡ at + 1 → Written (b ∷ []) xs (set xs at b) at r
+unfolding put
+written-byte b xs at r e = record { bytes = refl; past = e }
+
+pub written-then : {us vs xs ys zs : List ℕ} {at m r : ℕ} → Written us xs ys at m → Written vs ys zs m r → Written (us ++ vs) xs zs at r
+written-then {us} {vs} {xs} {ys} {zs} {at} {m} {r} g h = record {
+  bytes = h .bytes ∙ ap (put m vs) (g .bytes) ∙ ap (λ (k : ℕ). put k vs (put at us xs)) (g .past) ∙ put-append at us vs xs;
+  past = let a = g .past in let b = h .past in omega (arith, length-append us vs);
+}
+
+pub digits-length : (k n : ℕ) → length (digits k n) ≤ k
+unfolding digits
+digits-length zero n = omega arith
+digits-length (suc k) n = go (ltb n 10) (digits-length k (n / 10))
+  where
+    go : (t : Bool) → length (digits k (n / 10)) ≤ k → length (cond t ((48 + n) ∷ []) (digits k (n / 10) ++ ((48 + n % 10) ∷ []))) ≤ suc k
+    go true h = omega arith
+    go false h = omega (arith, length-append (digits k (n / 10)) ((48 + n % 10) ∷ []))
+
+-- the cases of digits
+pub digits-none : (k n : ℕ) (xs : List ℕ) (at : ℕ) → k ≡ 0 → Written (digits k n) xs xs at at
+unfolding digits
+digits-none zero n xs at e = written-none xs at
+digits-none (suc k) n xs at e = absurd (omega arith)
+
+pub digits-last : (k n : ℕ) {xs ys : List ℕ} {at r : ℕ} → (k ≡ 0 → ⊥) → n < 10 → Written ((48 + n) ∷ []) xs ys at r → Written (digits k n) xs ys at r
+unfolding digits
+digits-last zero n z h w = absurd (z refl)
+digits-last (suc k) n z h w = rw (lt-ltb n 10 h) w
+
+pub digits-more : (k n : ℕ) {xs ys zs : List ℕ} {at m r : ℕ} → (k ≡ 0 → ⊥) → 10 ≤ n → Written (digits (k - 1) (n / 10)) xs ys at m → Written ((48 + n % 10) ∷ []) ys zs m r → Written (digits k n) xs zs at r
+unfolding digits
+digits-more zero n z h g w = absurd (z refl)
+digits-more (suc k) n {xs} {ys} {zs} {at} {m} {r} z h g w =
+    rw (le-ltb n 10 h) (written-then (subst (λ (j : ℕ). Written (digits j (n / 10)) xs ys at m) (let q : suc k - 1 ≡ k = omega arith in q) g) w)
+
+pub decimal-past : (n : ℕ) {xs ys : List ℕ} {at r : ℕ} → Written (decimal n) xs ys at r → r ≤ at + 10
+decimal-past n h = omega (arith, h .past, digits-length 10 n)
+
+-- the two cases of an integer's text; `signOf` is 1 of a number that is not negative, else 0
+pub signed-plain : (z : ℤ) (n : ℕ) {xs ys : List ℕ} {at r : ℕ} → n ≡ natAbs z → signOf z ≡ 1 → Written (decimal n) xs ys at r → Written (signedText z) xs ys at r
+signed-plain (pos m) n {xs} {ys} {at} {r} q e h = subst (λ (k : ℕ). Written (decimal k) xs ys at r) q h
+signed-plain (negsuc m) n q e h = absurd (omega arith)
+
+pub signed-minus : (z : ℤ) (n : ℕ) {xs ys zs : List ℕ} {at m r : ℕ} → n ≡ natAbs z → (signOf z ≡ 1 → ⊥) → Written (45 ∷ []) xs ys at m → Written (decimal n) ys zs m r → Written (signedText z) xs zs at r
+signed-minus (pos k) n q e g h = absurd (e refl)
+signed-minus (negsuc k) n {xs} {ys} {zs} {at} {m} {r} q e g h = written-then g (subst (λ (j : ℕ). Written (decimal j) ys zs m r) q h)
+
+signed-length : (z : ℤ) → length (signedText z) ≤ 11
+signed-length (pos n) = omega (arith, digits-length 10 n)
+signed-length (negsuc n) = omega (arith, digits-length 10 (suc n))
+
+pub signed-past : (z : ℤ) {xs ys : List ℕ} {at r : ℕ} → Written (signedText z) xs ys at r → r ≤ at + 11
+signed-past z h = omega (arith, h .past, signed-length z)
+
+-- what is left of a list of numbers, put now, is the whole put at the start
+pub record Left (zs : List ℤ) (i : ℕ) (xs ys : List ℕ) (at p : ℕ) : Type 0 where
+  pub bytes : put p (spaced (drop i zs)) ys ≡ put at (spaced zs) xs
+  pub past : p + length (spaced (drop i zs)) ≡ at + length (spaced zs)
+  pub size : length ys ≡ length xs
+  pub near : p ≤ at + 12 * i
+
+pub left-start : (zs : List ℤ) (xs : List ℕ) (at : ℕ) → Left zs 0 xs xs at at
+left-start zs xs at = record { bytes = refl; past = refl; size = refl; near = omega arith }
+
+spaced-next : (zs : List ℤ) (i : ℕ) → i < length zs → spaced (drop i zs) ≡ (32 ∷ signedText (getD zs i (pos 0))) ++ spaced (drop (suc i) zs)
+unfolding spaced
+spaced-next zs i h = rw (drop-cons zs i (pos 0) h)
+
+pub left-next : (zs : List ℤ) (i : ℕ) {xs ys us vs : List ℕ} {at p m r : ℕ} → i < length zs → Left zs i xs ys at p → Written (32 ∷ []) ys us p m → Written (signedText (getD zs i (pos 0))) us vs m r → Left zs (i + 1) xs vs at r
+left-next zs i {xs} {ys} {us} {vs} {at} {p} {m} {r} h l g w =
+    let t = signedText (getD zs i (pos 0)) in
+    let rest = spaced (drop (suc i) zs) in
+    let b : Written (32 ∷ t) ys vs p r = written-then g w in
+    let e = spaced-next zs i h in
+    rw (add-one i) (record {
+      bytes = ap (put r rest) (b .bytes) ∙ ap (λ (k : ℕ). put k rest (put p (32 ∷ t) ys)) (b .past) ∙ put-append p (32 ∷ t) rest ys ∙ ap (λ (ws : List ℕ). put p ws ys) (sym e) ∙ l .bytes;
+      past = omega (arith, b .past, l .past, ap length e, length-append (32 ∷ t) rest);
+      size = written-length b ∙ l .size;
+      near = omega (arith, b .past, l .near, signed-length (getD zs i (pos 0)));
+    })
+
+pub left-end : (zs : List ℤ) (i : ℕ) {xs ys : List ℕ} {at p : ℕ} → length zs ≤ i → Left zs i xs ys at p → Written (spaced zs) xs ys at p
+unfolding spaced put
+left-end zs i {xs} {ys} {at} {p} h l =
+    let e = drop-of-length-le zs h in
+    record { bytes = rw e at (l .bytes); past = omega (arith, rw e at (l .past)) }
+
+-- the mover's two cases, and a flag's
+pub mover-none : (step mover : ℕ) {xs ys : List ℕ} {at r : ℕ} → step ≡ 0 → Written (45 ∷ []) xs ys at r → Written (moverText step mover) xs ys at r
+mover-none zero mover e h = h
+mover-none (suc step) mover e h = absurd (omega arith)
+
+pub mover-some : (step mover : ℕ) {xs ys : List ℕ} {at r : ℕ} → (step ≡ 0 → ⊥) → Written (decimal mover) xs ys at r → Written (moverText step mover) xs ys at r
+mover-some zero mover e h = absurd (e refl)
+mover-some (suc step) mover e h = h
+
+pub flag-written : (b : Bool) (n : ℕ) {xs ys zs : List ℕ} {at m r : ℕ} → n ≡ 48 + bit b → Written (32 ∷ []) xs ys at m → Written (n ∷ []) ys zs m r → Written (flagText b) xs zs at r
+flag-written b n {xs} {ys} {zs} {at} {m} {r} e g h = written-then g (subst (λ (k : ℕ). Written (k ∷ []) ys zs m r) e h)
+
+pub written-past : {ws xs ys : List ℕ} {at r : ℕ} → Written ws xs ys at r → (k : ℕ) → length ws ≤ k → r ≤ at + k
+written-past h k l = omega (arith, h .past)

@@ -1,0 +1,32 @@
+-- Numbers as text: lists of bytes.
+use mathlib.Core.Path.{_≡_}
+use mathlib.Core.Bool.{cond}
+use mathlib.Core.List.{List, [], _∷_, _++_}
+use Prim.Native.Nat.{ℕ, zero, suc, _+_, _/_, _%_}
+use lib.Dec.{ltb}
+use lib.IntN.{ℤ, pos, negsuc}
+use lib.ListN.{length, set}
+
+-- decimal digits, the highest first, at most so many
+unfoldable pub digits : ℕ → ℕ → List ℕ
+digits zero n = []
+digits (suc k) n = cond (ltb n 10) ((48 + n) ∷ []) (digits k (n / 10) ++ ((48 + n % 10) ∷ []))
+
+-- a number below 10,000,000,000
+abbrev pub decimal : ℕ → List ℕ
+decimal n = digits 10 n
+
+-- an integer, with a minus sign where it is negative
+abbrev pub signedText : ℤ → List ℕ
+signedText (pos n) = decimal n
+signedText (negsuc n) = 45 ∷ decimal (suc n)
+
+-- the list with bytes put from a position on
+unfoldable pub put : ℕ → List ℕ → List ℕ → List ℕ
+put at [] xs = xs
+put at (w ∷ ws) xs = put (suc at) ws (set xs at w)
+
+-- what a function that writes text leaves: the bytes put at a position, and the position past them
+pub record Written (ws xs ys : List ℕ) (at r : ℕ) : Type 0 where
+  pub bytes : ys ≡ put at ws xs
+  pub past : r ≡ at + length ws

@@ -1,0 +1,55 @@
+// Numbers as text. Each function answers the position past what it wrote.
+ghost use mathlib.Core.Path.{_≡_};
+ghost use mathlib.Core.List.{[], _∷_};
+ghost use Prim.Native.Nat.{_+_, _≤_, _<_};
+ghost use lib.IntN.{pos};
+ghost use lib.ListN.{length, getD};
+ghost use Rattle.text.specs.Text.{digits, decimal, signedText, Written};
+use search::words::sign;
+use search::words::variable;
+
+// A byte.
+pub fn put_byte(out: &mut [u8], at: usize, b: u8) -> usize
+    requires { ⌜ at < length (now out) ⌝ }
+    ensures { λ r. ⌜ Written (b ∷ []) (now (out .entry)) (now (out .exit)) at r ⌝ }
+{
+    out[at] = b;
+    at + 1
+}
+
+// At most `left` decimal digits of n.
+pub fn put_digits(out: &mut [u8], at: usize, n: usize, left: usize) -> usize
+    requires { ⌜ at + left ≤ length (now out) ⌝ }
+    ensures { λ r. ⌜ Written (digits left n) (now (out .entry)) (now (out .exit)) at r ⌝ }
+{
+    if left == 0 {
+        return at;
+    }
+    if n < 10 {
+        return put_byte(out, at, (48 + n) as u8);
+    }
+    let m = put_digits(out, at, n / 10, left - 1);
+    put_byte(out, m, (48 + n % 10) as u8)
+}
+
+// A number below 10,000,000,000.
+pub fn put_decimal(out: &mut [u8], at: usize, n: usize) -> usize
+    requires { ⌜ at + 10 ≤ length (now out) ⌝ }
+    ensures { λ r. ⌜ Written (decimal n) (now (out .entry)) (now (out .exit)) at r × (r ≤ at + 10) ⌝ }
+{
+    put_digits(out, at, n, 10)
+}
+
+// The integer that stands at `i`.
+pub fn put_signed(out: &mut [u8], at: usize, words: &[i32], i: usize) -> usize
+    requires { ⌜ (at + 11 ≤ length (now out)) × (i < length (now words)) ⌝ }
+    ensures { λ r. ⌜ Written (signedText (getD (now (words .entry)) i (pos 0))) (now (out .entry)) (now (out .exit)) at r × (r ≤ at + 11) ⌝ }
+{
+    let n = variable(words, i);
+    let s = sign(words, i);
+    if s == 1 {
+        return put_decimal(out, at, n);
+    }
+    let m = put_byte(out, at, 45);
+    put_decimal(out, m, n)
+}
