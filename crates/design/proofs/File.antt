@@ -1,24 +1,32 @@
 -- Laws of all sections together, and of the whole file, that the code's proofs cite. Assumes nothing.
 use Prim.Native.Nat.{ℕ, zero, suc, _+_, _-_, _*_, _<_, _≤_}
 use mathlib.Core.Path.{_≡_, refl, sym, ap, ap₂, _∙_}
-use mathlib.Core.Bool.{Bool, true, false, cond, _&&_}
+use mathlib.Core.Bool.{Bool, true, false, cond}
 use mathlib.Core.List.{List, [], _∷_, map}
 use native.Mathlib.Omega.{arith}
 use native.Mathlib.Nat.{mul-suc}
-use lib.ListN.{getD, length, length-append, length-map}
+use lib.ListN.{length, length-append, length-map}
 use lib.Dec.{leb, eqb}
-use borrow.Author.Tests.{le-leb, lt-leb, eq-eqb, ne-eqb}
-use Rattle.design.specs.Tree.{BoolExpr, constantB, Variable, Kind, boolean, integer, external, ifExternal, externals, Design, cell, raise, movers}
-use Rattle.design.specs.Limits.{maxBytes, trailerBytes, maxVariables, maxMatrices, maxCells, maxMovers}
+use borrow.Author.Tests.{leb-true, le-leb, lt-leb, eq-eqb, ne-eqb}
+use Rattle.design.specs.Tree.{BoolExpr, Variable, Kind, boolean, integer, external, ifExternal, externals, Design, cell, raise, movers}
+use Rattle.design.specs.Limits.{maxBytes, trailerBytes, maxVariables, maxMatrices, maxCells, maxMovers, lengthRight, countsRight, moversRight}
 use Rattle.design.specs.Expression.{Names}
 use Rattle.design.specs.DesignFile.{Item, item, refused, Walk, need, after, items, offset, Matrix, Entry, normal, invalid, variableAt, matrixAt, eventAt, events, eventsFrom, cellAt, cellsFrom, invariantAt}
-use Rattle.design.specs.Check.{namesOf, normals, invalids, sections, trailer, version, variableCount, matricesOffset, matrixCount, eventsOffset, cellsOffset, cellCount, invariantOffset, body, last, check}
-use Rattle.design.specs.Answers.{walked, total, counted, raises, moves, bodied, refusal}
+use Rattle.design.specs.Check.{namesOf, eventIn, normals, invalids, sections, trailer, version, variableCount, matricesOffset, matrixCount, eventsOffset, cellsOffset, cellCount, invariantOffset, body, last, check}
+use Rattle.design.specs.Answers.{walked, total, counted, raises, moves, bodied, VariablesRight, MatricesRight, EventsRight, refusal}
+use Rattle.design.specs.declared.item.Walked.{Walked}
 use Rattle.design.specs.declared.item.Walked.the-variants.{Past, Refused}
 use Rattle.design.specs.declared.item.Counted.{Counted}
 use Rattle.design.specs.declared.item.Counted.the-variants.{Passed, Stopped}
-use Rattle.design.proofs.Sections.{after-inv, item-past, item-same, items-run}
+use Rattle.design.proofs.Sections.{after-inv, and-inv, item-past, item-same, items-run}
 use Rattle.design.proofs.Items.{passed, stopped, met, unmet, items-end, event-ends, variable-ends, matrix-ends, counted-passed, counted-stopped}
+
+-- a section that ends where the next one stands
+pub passed-at : (o p k : ℕ) (x : Counted) → o ≡ p → Passed p k ≡ x → Passed o k ≡ x
+passed-at o p k x h e = ap (λ (n : ℕ). Passed n k) h ∙ e
+
+pub past-at : (o p : ℕ) (x : Walked) → o ≡ p → Past p ≡ x → Past o ≡ x
+past-at o p x h e = ap Past h ∙ e
 
 -- items of one size
 items-fixed : {A : Type 0} (one : Walk A) (end k : ℕ) → ((at n : ℕ) → Past n ≡ walked (one at) → (n ≡ at + k) × (n ≤ end)) → (n at m : ℕ) (xs : List A) → at ≤ end → items one n at ≡ item xs m → (m ≡ at + k * n) × (m ≤ end)
@@ -99,9 +107,6 @@ module _ (file : List ℕ) (end nv mo nm eo co nc io : ℕ) where
   pub events-end : (s : ℕ) → eo ≤ end → Past s ≡ walked (eventsFrom file end N mo 0 nm eo) → s ≤ end
   events-end s l e = rows-end 0 nm eo s l e
 
-  abbrev eventIn : List (List BoolExpr) → ℕ → ℕ → BoolExpr
-  eventIn rows m e = getD (getD rows m []) e (constantB false)
-
   cells-bound′ : (f : ℕ → ℕ → BoolExpr) (n before at t w : ℕ) (es : List Entry) → cellsFrom file end N mo f n before at ≡ item es t → length es ≡ n
   unfolding cellsFrom
   cells-bound′ f zero before at t w es e = ap length (sym (item-same _ _ _ _ e))
@@ -143,123 +148,155 @@ module _ (file : List ℕ) (end nv mo nm eo co nc io : ℕ) where
   wrong : {A : Type 0} (o at : ℕ) (k : Unit {0} → ℕ → Item A) → (o ≡ at → ⊥) → after (offset o at) k ≡ refused 4 at
   wrong o at k h = ap (λ (x : Item (Unit {0})). after x k) (unmet (eqb o at) 4 at (item tt at) (ne-eqb o at h))
 
-  go-on : {A : Type 0} (o at : ℕ) (k : ℕ → Item A) → o ≡ at → after (offset o at) (λ a n. k n) ≡ k o
-  go-on o at k h = ap (λ (x : Item (Unit {0})). after x (λ a n. k n)) (met (eqb o at) 4 at (item tt at) (eq-eqb o at h)) ∙ ap k (sym h)
+  go-on : {A : Type 0} (at : ℕ) (k : ℕ → Item A) → after (offset at at) (λ a n. k n) ≡ k at
+  go-on at k = ap (λ (x : Item (Unit {0})). after x (λ a n. k n)) (met (eqb at at) 4 at (item tt at) (eq-eqb at at refl))
 
   pub x-variables : (i q : ℕ) → Stopped i q ≡ counted raises 0 (items VA nv 0) → Stopped i q ≡ bodied D
   x-variables i q e = sym (ap bodied (begin ∙ ap (λ (x : Item (List Variable)). after x W2) (counted-stopped raises 0 (items VA nv 0) i q e)))
 
-  module _ (p ext : ℕ) (e : Passed p ext ≡ counted raises 0 (items VA nv 0)) where
-    pub x-matrices : (mo ≡ p → ⊥) → Stopped 4 p ≡ bodied D
-    x-matrices h =
-        let (vs, r, c) = counted-passed raises 0 (items VA nv 0) p ext e in
-        sym (ap bodied (begin ∙ ap (λ (x : Item (List Variable)). after x W2) r ∙ wrong mo p _ h))
+  pub x-matrices : (p ext : ℕ) → Passed p ext ≡ counted raises 0 (items VA nv 0) → (mo ≡ p → ⊥) → Stopped 4 p ≡ bodied D
+  x-matrices p ext e h =
+      let (vs, r, c) = counted-passed raises 0 (items VA nv 0) p ext e in
+      sym (ap bodied (begin ∙ ap (λ (x : Item (List Variable)). after x W2) r ∙ wrong mo p _ h))
 
+  -- from the matrices on
+  module _ (ext : ℕ) (e : VariablesRight file end nv mo ext) where
     pub record S1 : Type 0 where
       pub vs : List Variable
       pub counts : ext ≡ total raises vs
       pub is : D ≡ after (items MA nm mo) (W3 vs)
 
-    s1 : mo ≡ p → S1
-    s1 h =
-        let (vs, r, c) = counted-passed raises 0 (items VA nv 0) p ext e in
-        record { vs = vs; counts = c ∙ (let q : 0 + total raises vs ≡ total raises vs = omega arith in q); is = begin ∙ ap (λ (x : Item (List Variable)). after x W2) r ∙ go-on mo p (λ n. after (items MA nm n) (W3 vs)) h }
+    s1 : S1
+    s1 =
+        let (vs, r, c) = counted-passed raises 0 (items VA nv 0) mo ext e in
+        record { vs = vs; counts = c ∙ (let q : 0 + total raises vs ≡ total raises vs = omega arith in q); is = begin ∙ ap (λ (x : Item (List Variable)). after x W2) r ∙ go-on mo (λ n. after (items MA nm n) (W3 vs)) }
 
-    module _ (h₁ : mo ≡ p) where
-      pub x-matrix : (i q : ℕ) → Refused i q ≡ walked (items MA nm mo) → Stopped i q ≡ bodied D
-      x-matrix i q r = sym (ap bodied (s1 h₁ .is ∙ ap (λ (x : Item (List Matrix)). after x (W3 (s1 h₁ .vs))) (stopped (items MA nm mo) i q r)))
+    pub x-matrix : (i q : ℕ) → Refused i q ≡ walked (items MA nm mo) → Stopped i q ≡ bodied D
+    x-matrix i q r = sym (ap bodied (s1 .is ∙ ap (λ (x : Item (List Matrix)). after x (W3 (s1 .vs))) (stopped (items MA nm mo) i q r)))
 
-      module _ (q : ℕ) (e₂ : Past q ≡ walked (items MA nm mo)) where
-        pub x-events : (eo ≡ q → ⊥) → Stopped 4 q ≡ bodied D
-        x-events h =
-            let (ms, r) = passed (items MA nm mo) q e₂ in
-            sym (ap bodied (s1 h₁ .is ∙ ap (λ (x : Item (List Matrix)). after x (W3 (s1 h₁ .vs))) r ∙ wrong eo q _ h))
+    pub x-events : (q : ℕ) → Past q ≡ walked (items MA nm mo) → (eo ≡ q → ⊥) → Stopped 4 q ≡ bodied D
+    x-events q e₂ h =
+        let (ms, r) = passed (items MA nm mo) q e₂ in
+        sym (ap bodied (s1 .is ∙ ap (λ (x : Item (List Matrix)). after x (W3 (s1 .vs))) r ∙ wrong eo q _ h))
 
-        pub record S2 : Type 0 where
+    -- from the events on
+    module _ (e₂ : MatricesRight file end mo nm eo) where
+      pub before-events : (mo ≡ 3 * nv) × (mo + 2 * nm ≤ end) × (eo ≤ end)
+      before-events = let a = variables-end mo ext e in let b = matrices-end eo (omega arith) e₂ in (omega arith, omega arith, omega arith)
+
+      pub record S2 : Type 0 where
+        pub vs : List Variable
+        pub ms : List Matrix
+        pub counts : ext ≡ total raises vs
+        pub is : D ≡ after (eventsFrom file end N mo 0 nm eo) (W4 vs ms)
+
+      s2 : S2
+      s2 =
+          let (ms, r) = passed (items MA nm mo) eo e₂ in
+          record { vs = s1 .vs; ms = ms; counts = s1 .counts; is = s1 .is ∙ ap (λ (x : Item (List Matrix)). after x (W3 (s1 .vs))) r ∙ go-on eo (λ n. after (eventsFrom file end N mo 0 nm n) (W4 (s1 .vs) ms)) }
+
+      pub x-event : (i j : ℕ) → Refused i j ≡ walked (eventsFrom file end N mo 0 nm eo) → Stopped i j ≡ bodied D
+      x-event i j r = sym (ap bodied (s2 .is ∙ ap (λ (x : Item (List (List BoolExpr))). after x (W4 (s2 .vs) (s2 .ms))) (stopped (eventsFrom file end N mo 0 nm eo) i j r)))
+
+      pub x-cells : (s : ℕ) → Past s ≡ walked (eventsFrom file end N mo 0 nm eo) → (co ≡ s → ⊥) → Stopped 4 s ≡ bodied D
+      x-cells s e₃ h =
+          let (rows, r) = passed (eventsFrom file end N mo 0 nm eo) s e₃ in
+          sym (ap bodied (s2 .is ∙ ap (λ (x : Item (List (List BoolExpr))). after x (W4 (s2 .vs) (s2 .ms))) r ∙ wrong co s _ h))
+
+      -- from the cells on
+      module _ (e₃ : EventsRight file end nv mo nm eo co) where
+        pub before-cells : (mo ≡ 3 * nv) × (mo + 2 * nm ≤ end) × (co ≤ end) × (ext ≤ nv)
+        before-cells = let a = variables-end mo ext e in let b = before-events in let d = events-end co (omega arith) e₃ in (omega arith, omega arith, omega arith, omega arith)
+
+        pub record S3 : Type 0 where
           pub vs : List Variable
           pub ms : List Matrix
+          pub rows : List (List BoolExpr)
           pub counts : ext ≡ total raises vs
-          pub is : D ≡ after (eventsFrom file end N mo 0 nm eo) (W4 vs ms)
+          pub is : D ≡ after (cellsFrom file end N mo (eventIn rows) nc co co) (W5 vs ms)
 
-        s2 : eo ≡ q → S2
-        s2 h =
-            let (ms, r) = passed (items MA nm mo) q e₂ in
-            record { vs = s1 h₁ .vs; ms = ms; counts = s1 h₁ .counts; is = s1 h₁ .is ∙ ap (λ (x : Item (List Matrix)). after x (W3 (s1 h₁ .vs))) r ∙ go-on eo q (λ n. after (eventsFrom file end N mo 0 nm n) (W4 (s1 h₁ .vs) ms)) h }
+        s3 : S3
+        s3 =
+            let (rows, r) = passed (eventsFrom file end N mo 0 nm eo) co e₃ in
+            record { vs = s2 .vs; ms = s2 .ms; rows = rows; counts = s2 .counts; is = s2 .is ∙ ap (λ (x : Item (List (List BoolExpr))). after x (W4 (s2 .vs) (s2 .ms))) r ∙ go-on co (λ n. after (cellsFrom file end N mo (eventIn rows) nc n n) (W5 (s2 .vs) (s2 .ms))) }
 
-        module _ (h₂ : eo ≡ q) where
-          pub x-event : (i j : ℕ) → Refused i j ≡ walked (eventsFrom file end N mo 0 nm eo) → Stopped i j ≡ bodied D
-          x-event i j r = sym (ap bodied (s2 h₂ .is ∙ ap (λ (x : Item (List (List BoolExpr))). after x (W4 (s2 h₂ .vs) (s2 h₂ .ms))) (stopped (eventsFrom file end N mo 0 nm eo) i j r)))
+        abbrev CF : (ℕ → ℕ → BoolExpr) → Item (List Entry)
+        CF f = cellsFrom file end N mo f nc co co
 
-          module _ (s : ℕ) (e₃ : Past s ≡ walked (eventsFrom file end N mo 0 nm eo)) where
-            pub x-cells : (co ≡ s → ⊥) → Stopped 4 s ≡ bodied D
-            x-cells h =
-                let (rows, r) = passed (eventsFrom file end N mo 0 nm eo) s e₃ in
-                sym (ap bodied (s2 h₂ .is ∙ ap (λ (x : Item (List (List BoolExpr))). after x (W4 (s2 h₂ .vs) (s2 h₂ .ms))) r ∙ wrong co s _ h))
+        pub x-cell : (i j : ℕ) → ((f : ℕ → ℕ → BoolExpr) → Stopped i j ≡ counted moves 0 (CF f)) → Stopped i j ≡ bodied D
+        x-cell i j r = sym (ap bodied (s3 .is ∙ ap (λ (x : Item (List Entry)). after x (W5 (s3 .vs) (s3 .ms))) (counted-stopped moves 0 (CF (eventIn (s3 .rows))) i j (r (eventIn (s3 .rows))))))
 
-            pub record S3 : Type 0 where
-              pub vs : List Variable
-              pub ms : List Matrix
-              pub rows : List (List BoolExpr)
-              pub counts : ext ≡ total raises vs
-              pub is : D ≡ after (cellsFrom file end N mo (eventIn rows) nc co co) (W5 vs ms)
+        pub x-invariants : (t w : ℕ) → ((f : ℕ → ℕ → BoolExpr) → Passed t w ≡ counted moves 0 (CF f)) → (io ≡ t → ⊥) → Stopped 4 t ≡ bodied D
+        x-invariants t w e₄ h =
+            let (es, r, c) = counted-passed moves 0 (CF (eventIn (s3 .rows))) t w (e₄ (eventIn (s3 .rows))) in
+            sym (ap bodied (s3 .is ∙ ap (λ (x : Item (List Entry)). after x (W5 (s3 .vs) (s3 .ms))) r ∙ wrong io t _ h))
 
-            s3 : co ≡ s → S3
-            s3 h =
-                let (rows, r) = passed (eventsFrom file end N mo 0 nm eo) s e₃ in
-                record { vs = s2 h₂ .vs; ms = s2 h₂ .ms; rows = rows; counts = s2 h₂ .counts; is = s2 h₂ .is ∙ ap (λ (x : Item (List (List BoolExpr))). after x (W4 (s2 h₂ .vs) (s2 h₂ .ms))) r ∙ go-on co s (λ n. after (cellsFrom file end N mo (eventIn rows) nc n n) (W5 (s2 h₂ .vs) (s2 h₂ .ms))) h }
+        -- the invariant
+        module _ (w : ℕ) (e₄ : (f : ℕ → ℕ → BoolExpr) → Passed io w ≡ counted moves 0 (CF f)) where
+          pub few-movers : w + ext ≤ nc + nv
+          few-movers = let a = before-cells in let b = cells-bound (eventIn (s3 .rows)) io w (e₄ (eventIn (s3 .rows))) in omega arith
 
-            abbrev CF : (ℕ → ℕ → BoolExpr) → Item (List Entry)
-            CF f = cellsFrom file end N mo f nc co co
+          pub record S4 : Type 0 where
+            pub vs : List Variable
+            pub ms : List Matrix
+            pub es : List Entry
+            pub counts : ext ≡ total raises vs
+            pub normal : w ≡ total moves es
+            pub is : D ≡ after (invariantAt file end N io) (W6 vs ms es)
 
-            module _ (h₃ : co ≡ s) where
-              pub x-cell : (i j : ℕ) → ((f : ℕ → ℕ → BoolExpr) → Stopped i j ≡ counted moves 0 (CF f)) → Stopped i j ≡ bodied D
-              x-cell i j r = sym (ap bodied (s3 h₃ .is ∙ ap (λ (x : Item (List Entry)). after x (W5 (s3 h₃ .vs) (s3 h₃ .ms))) (counted-stopped moves 0 (CF (eventIn (s3 h₃ .rows))) i j (r (eventIn (s3 h₃ .rows))))))
+          s4 : S4
+          s4 =
+              let (es, r, c) = counted-passed moves 0 (CF (eventIn (s3 .rows))) io w (e₄ (eventIn (s3 .rows))) in
+              record { vs = s3 .vs; ms = s3 .ms; es = es; counts = s3 .counts; normal = c ∙ (let q : 0 + total moves es ≡ total moves es = omega arith in q); is = s3 .is ∙ ap (λ (x : Item (List Entry)). after x (W5 (s3 .vs) (s3 .ms))) r ∙ go-on io (λ n. after (invariantAt file end N n) (W6 (s3 .vs) (s3 .ms) es)) }
 
-              module _ (t w : ℕ) (e₄ : (f : ℕ → ℕ → BoolExpr) → Passed t w ≡ counted moves 0 (CF f)) where
-                pub x-invariants : (io ≡ t → ⊥) → Stopped 4 t ≡ bodied D
-                x-invariants h =
-                    let (es, r, c) = counted-passed moves 0 (CF (eventIn (s3 h₃ .rows))) t w (e₄ (eventIn (s3 h₃ .rows))) in
-                    sym (ap bodied (s3 h₃ .is ∙ ap (λ (x : Item (List Entry)). after x (W5 (s3 h₃ .vs) (s3 h₃ .ms))) r ∙ wrong io t _ h))
+          pub x-invariant : (i j : ℕ) → Refused i j ≡ walked (invariantAt file end N io) → Stopped i j ≡ bodied D
+          x-invariant i j r = sym (ap bodied (s4 .is ∙ ap (λ (x : Item BoolExpr). after x (W6 (s4 .vs) (s4 .ms) (s4 .es))) (stopped (invariantAt file end N io) i j r)))
 
-                pub record S4 : Type 0 where
-                  pub vs : List Variable
-                  pub ms : List Matrix
-                  pub es : List Entry
-                  pub counts : ext ≡ total raises vs
-                  pub normal : w ≡ total moves es
-                  pub is : D ≡ after (invariantAt file end N io) (W6 vs ms es)
+          movers-length : (vs : List Variable) (ms : List Matrix) (es : List Entry) (inv : BoolExpr) → length (movers (tree vs ms es inv)) ≡ total moves es + total raises vs
+          unfolding movers
+          movers-length vs ms es inv =
+              length-append (map cell (normals es)) (externals 0 vs)
+              ∙ ap₂ _+_ (length-map (normals es) cell ∙ normals-length es) (externals-length vs 0)
 
-                s4 : io ≡ t → S4
-                s4 h =
-                    let (es, r, c) = counted-passed moves 0 (CF (eventIn (s3 h₃ .rows))) t w (e₄ (eventIn (s3 h₃ .rows))) in
-                    record { vs = s3 h₃ .vs; ms = s3 h₃ .ms; es = es; counts = s3 h₃ .counts; normal = c ∙ (let q : 0 + total moves es ≡ total moves es = omega arith in q); is = s3 h₃ .is ∙ ap (λ (x : Item (List Entry)). after x (W5 (s3 h₃ .vs) (s3 h₃ .ms))) r ∙ go-on io t (λ n. after (invariantAt file end N n) (W6 (s3 h₃ .vs) (s3 h₃ .ms) es)) h }
+          pub all-passed : (u : ℕ) → Past u ≡ walked (invariantAt file end N io) → Passed u (w + ext) ≡ bodied D
+          all-passed u r =
+              let (inv, q) = passed (invariantAt file end N io) u r in
+              sym (ap bodied (s4 .is ∙ ap (λ (x : Item BoolExpr). after x (W6 (s4 .vs) (s4 .ms) (s4 .es))) q)
+              ∙ ap (Passed u) (movers-length (s4 .vs) (s4 .ms) (s4 .es) inv ∙ sym (ap₂ _+_ (s4 .normal) (s4 .counts))))
 
-                module _ (h₄ : io ≡ t) where
-                  pub x-invariant : (i j : ℕ) → Refused i j ≡ walked (invariantAt file end N io) → Stopped i j ≡ bodied D
-                  x-invariant i j r = sym (ap bodied (s4 h₄ .is ∙ ap (λ (x : Item BoolExpr). after x (W6 (s4 h₄ .vs) (s4 h₄ .ms) (s4 h₄ .es))) (stopped (invariantAt file end N io) i j r)))
+-- the tests of the limits
+pub length-short : (n : ℕ) → n < trailerBytes → false ≡ lengthRight n
+length-short n h = simp (lt-leb trailerBytes n h)
 
-                  movers-length : (vs : List Variable) (ms : List Matrix) (es : List Entry) (inv : BoolExpr) → length (movers (tree vs ms es inv)) ≡ total moves es + total raises vs
-                  unfolding movers
-                  movers-length vs ms es inv =
-                      length-append (map cell (normals es)) (externals 0 vs)
-                      ∙ ap₂ _+_ (length-map (normals es) cell ∙ normals-length es) (externals-length vs 0)
+pub length-last : (n : ℕ) → trailerBytes ≤ n → leb n maxBytes ≡ lengthRight n
+length-last n h = simp (le-leb trailerBytes n h)
 
-                  pub all-passed : (u : ℕ) → Past u ≡ walked (invariantAt file end N io) → Passed u (w + ext) ≡ bodied D
-                  all-passed u r =
-                      let (inv, q) = passed (invariantAt file end N io) u r in
-                      sym (ap bodied (s4 h₄ .is ∙ ap (λ (x : Item BoolExpr). after x (W6 (s4 h₄ .vs) (s4 h₄ .ms) (s4 h₄ .es))) q)
-                      ∙ ap (Passed u) (movers-length (s4 h₄ .vs) (s4 h₄ .ms) (s4 h₄ .es) inv ∙ sym (ap₂ _+_ (s4 h₄ .normal) (s4 h₄ .counts))))
+pub length-low : (t : Bool) (n : ℕ) → t ≡ lengthRight n → t ≡ true → trailerBytes ≤ n
+length-low t n e h = leb-true _ _ (and-inv (leb trailerBytes n) (leb n maxBytes) (sym e ∙ h) .0)
+
+module _ (v m c : ℕ) where
+  pub counts-variables : maxVariables < v → false ≡ countsRight v m c
+  counts-variables h = simp (lt-leb v maxVariables h)
+
+  pub counts-no-matrix : v ≤ maxVariables → m < 1 → false ≡ countsRight v m c
+  counts-no-matrix g h = simp (le-leb v maxVariables g, lt-leb 1 m h)
+
+  pub counts-matrices : v ≤ maxVariables → 1 ≤ m → maxMatrices < m → false ≡ countsRight v m c
+  counts-matrices g k h = simp (le-leb v maxVariables g, le-leb 1 m k, lt-leb m maxMatrices h)
+
+  pub counts-last : v ≤ maxVariables → 1 ≤ m → m ≤ maxMatrices → leb c maxCells ≡ countsRight v m c
+  counts-last g k h = simp (le-leb v maxVariables g, le-leb 1 m k, le-leb m maxMatrices h)
+
+pub movers-none : (n : ℕ) → n < 1 → false ≡ moversRight n
+movers-none n h = simp (lt-leb 1 n h)
+
+pub movers-last : (n : ℕ) → 1 ≤ n → leb n maxMovers ≡ moversRight n
+movers-last n h = simp (le-leb 1 n h)
 
 -- the whole file
 module _ (file : List ℕ) where
-  abbrev pub lengths : Bool
-  lengths = leb trailerBytes (length file) && leb (length file) maxBytes
-
-  abbrev pub middle : Bool
-  middle = leb 1 (matrixCount file) && leb (matrixCount file) maxMatrices
-
   abbrev pub counts : Bool
-  counts = leb (variableCount file) maxVariables && middle && leb (cellCount file) maxCells
+  counts = countsRight (variableCount file) (matrixCount file) (cellCount file)
 
   abbrev pub R3 : Item Design
   R3 = need counts 3 (trailer file) (body file 0)
@@ -267,103 +304,70 @@ module _ (file : List ℕ) where
   abbrev pub R2 : Item Design
   R2 = need (eqb (version file) 1) 2 (trailer file) R3
 
+  abbrev R1 : Item Design
+  R1 = need (lengthRight (length file)) 1 (length file) R2
+
   abbrev answers : ℕ → ℕ → Type 0
   answers i p = record { number = i; place = p } ≡ refusal (check file)
 
-  refuse : (i p : ℕ) → need lengths 1 (length file) R2 ≡ refused i p → answers i p
+  refuse : (i p : ℕ) → R1 ≡ refused i p → answers i p
   unfolding check
   refuse i p e = sym (ap (λ (x : Item Design). refusal (last file x)) e)
 
-  pub whole-short : length file < trailerBytes → answers 1 (length file)
-  whole-short h = refuse 1 (length file) (unmet lengths 1 (length file) R2 (ap (λ (b : Bool). b && leb (length file) maxBytes) (lt-leb trailerBytes (length file) h)))
+  module _ (t : Bool) (te : t ≡ lengthRight (length file)) where
+    pub whole-length : t ≡ false → answers 1 (length file)
+    whole-length h = refuse 1 (length file) (unmet (lengthRight (length file)) 1 (length file) R2 (sym te ∙ h))
 
-  false-right : (a b : Bool) → b ≡ false → (a && b) ≡ false
-  false-right true b e = e
-  false-right false b e = refl
+    module _ (t1 : t ≡ true) (v : ℕ) (ve : v ≡ version file) where
+      in-length : R1 ≡ R2
+      in-length = met (lengthRight (length file)) 1 (length file) R2 (sym te ∙ t1)
 
-  both : (a b : Bool) → a ≡ true → b ≡ true → (a && b) ≡ true
-  both a b e h = rw (e, h)
-
-  pub whole-long : maxBytes < length file → answers 1 (length file)
-  whole-long h = refuse 1 (length file) (unmet lengths 1 (length file) R2 (false-right (leb trailerBytes (length file)) (leb (length file) maxBytes) (lt-leb (length file) maxBytes h)))
-
-  module _ (lo : trailerBytes ≤ length file) (hi : length file ≤ maxBytes) where
-    in-length : need lengths 1 (length file) R2 ≡ R2
-    in-length = met lengths 1 (length file) R2 (both (leb trailerBytes (length file)) (leb (length file) maxBytes) (le-leb trailerBytes (length file) lo) (le-leb (length file) maxBytes hi))
-
-    module _ (v : ℕ) (ve : v ≡ version file) where
       pub whole-version : (v ≡ 1 → ⊥) → answers 2 (trailer file)
       whole-version h = refuse 2 (trailer file) (in-length ∙ unmet (eqb (version file) 1) 2 (trailer file) R3 (ne-eqb (version file) 1 (λ e. h (ve ∙ e))))
 
-      module _ (v1 : v ≡ 1) where
-        in-version : need lengths 1 (length file) R2 ≡ R3
+      module _ (v1 : v ≡ 1) (nv nm nc : ℕ) (nve : nv ≡ variableCount file) (nme : nm ≡ matrixCount file) (nce : nc ≡ cellCount file) (u : Bool) (ue : u ≡ countsRight nv nm nc) where
+        in-version : R1 ≡ R3
         in-version = in-length ∙ met (eqb (version file) 1) 2 (trailer file) R3 (eq-eqb (version file) 1 (sym ve ∙ v1))
 
-        refuse3 : counts ≡ false → answers 3 (trailer file)
-        refuse3 h = refuse 3 (trailer file) (in-version ∙ unmet counts 3 (trailer file) (body file 0) h)
+        told : u ≡ counts
+        told = ue ∙ (λ i. countsRight (nve i) (nme i) (nce i))
 
-        module _ (nv : ℕ) (nve : nv ≡ variableCount file) where
-          pub whole-variables : maxVariables < nv → answers 3 (trailer file)
-          whole-variables h = refuse3 (ap (λ (b : Bool). b && middle && leb (cellCount file) maxCells) (lt-leb (variableCount file) maxVariables (omega arith)))
+        pub whole-counts : u ≡ false → answers 3 (trailer file)
+        whole-counts h = refuse 3 (trailer file) (in-version ∙ unmet counts 3 (trailer file) (body file 0) (sym told ∙ h))
 
-          module _ (nm : ℕ) (nme : nm ≡ matrixCount file) where
-            refuse-middle : middle ≡ false → answers 3 (trailer file)
-            refuse-middle h = refuse3 (ap (λ (b : Bool). b && leb (cellCount file) maxCells) (false-right (leb (variableCount file) maxVariables) middle h))
+        module _ (u1 : u ≡ true) where
+          whole-body : check file ≡ last file (body file 0)
+          unfolding check
+          whole-body = ap (last file) (in-version ∙ met counts 3 (trailer file) (body file 0) (sym told ∙ u1))
 
-            pub whole-no-matrix : nm < 1 → answers 3 (trailer file)
-            whole-no-matrix h = refuse-middle (ap (λ (b : Bool). b && leb (matrixCount file) maxMatrices) (lt-leb 1 (matrixCount file) (omega arith)))
+          module _ (mo eo co io : ℕ) (moe : mo ≡ matricesOffset file) (eoe : eo ≡ eventsOffset file) (coe′ : co ≡ cellsOffset file) (ioe : io ≡ invariantOffset file) where
+            abbrev D′ : Item Design
+            D′ = sections file (trailer file) nv mo nm eo co nc io 0
 
-            pub whole-matrices : maxMatrices < nm → answers 3 (trailer file)
-            whole-matrices h = refuse-middle (false-right (leb 1 (matrixCount file)) (leb (matrixCount file) maxMatrices) (lt-leb (matrixCount file) maxMatrices (omega arith)))
+            same-body : D′ ≡ body file 0
+            same-body = cc
 
-            module _ (nc : ℕ) (nce : nc ≡ cellCount file) where
-              pub whole-cells : maxCells < nc → answers 3 (trailer file)
-              whole-cells h = refuse3 (false-right (leb (variableCount file) maxVariables && middle) (leb (cellCount file) maxCells) (lt-leb (cellCount file) maxCells (omega arith)))
+            whole-is : check file ≡ last file D′
+            whole-is = whole-body ∙ ap (last file) (sym same-body)
 
-              module _ (a : nv ≤ maxVariables) (b : 1 ≤ nm) (c : nm ≤ maxMatrices) (d : nc ≤ maxCells) where
-                in-counts : need lengths 1 (length file) R2 ≡ body file 0
-                in-counts =
-                    in-version ∙ met counts 3 (trailer file) (body file 0)
-                    (both (leb (variableCount file) maxVariables && middle) (leb (cellCount file) maxCells)
-                    (both (leb (variableCount file) maxVariables) middle (le-leb (variableCount file) maxVariables (omega arith))
-                    (both (leb 1 (matrixCount file)) (leb (matrixCount file) maxMatrices) (le-leb 1 (matrixCount file) (omega arith)) (le-leb (matrixCount file) maxMatrices (omega arith))))
-                    (le-leb (cellCount file) maxCells (omega arith)))
+            bodied-stopped : (x : Item Design) (i p : ℕ) → Stopped i p ≡ bodied x → record { number = i; place = p } ≡ refusal (last file x)
+            bodied-stopped (item x n) i p e = let z : _≡_ {A = ℕ} 0 1 = cc in absurd (omega arith)
+            bodied-stopped (refused j q) i p e = let g : i ≡ j = cc in let h : p ≡ q = cc in λ k. record { number = g k; place = h k }
 
-                whole-body : check file ≡ last file (body file 0)
-                unfolding check
-                whole-body = ap (last file) in-counts
+            pub whole-stopped : (r : Counted) (i p : ℕ) → r ≡ bodied D′ → r ≡ Stopped i p → answers i p
+            whole-stopped r i p e h = bodied-stopped D′ i p (sym h ∙ e) ∙ sym (ap refusal whole-is)
 
-                module _ (mo eo co io : ℕ) (moe : mo ≡ matricesOffset file) (eoe : eo ≡ eventsOffset file) (coe′ : co ≡ cellsOffset file) (ioe : io ≡ invariantOffset file) where
-                  same-body : sections file (trailer file) nv mo nm eo co nc io 0 ≡ body file 0
-                  same-body = cc
+            bodied-passed : (x : Item Design) (n w : ℕ) → Passed n w ≡ bodied x → (m : Bool) → m ≡ moversRight w → refusal (last file x) ≡ cond m (record { number = 0; place = 0 }) (record { number = 10; place = length file })
+            bodied-passed (item x k) n w e m h = let g : w ≡ length (movers x) = cc in go m (sym (h ∙ ap moversRight g))
+              where
+                go : (m : Bool) → moversRight (length (movers x)) ≡ m → refusal (last file (item x k)) ≡ cond m (record { number = 0; place = 0 }) (record { number = 10; place = length file })
+                go true q = rw q
+                go false q = rw q
+            bodied-passed (refused j q) n w e m h = let z : _≡_ {A = ℕ} 0 1 = cc in absurd (omega arith)
 
-                  abbrev D′ : Item Design
-                  D′ = sections file (trailer file) nv mo nm eo co nc io 0
+            module _ (r : Counted) (n w : ℕ) (e : r ≡ bodied D′) (h : r ≡ Passed n w) (m : Bool) (me : m ≡ moversRight w) where
+              pub whole-movers : m ≡ false → answers 10 (length file)
+              whole-movers l = sym (ap refusal whole-is ∙ bodied-passed D′ n w (sym h ∙ e) false (sym l ∙ me))
 
-                  whole-is : check file ≡ last file D′
-                  whole-is = whole-body ∙ ap (last file) (sym same-body)
-
-                  bodied-stopped : (x : Item Design) (i p : ℕ) → Stopped i p ≡ bodied x → record { number = i; place = p } ≡ refusal (last file x)
-                  bodied-stopped (item x n) i p e = let z : _≡_ {A = ℕ} 0 1 = cc in absurd (omega arith)
-                  bodied-stopped (refused j q) i p e = let g : i ≡ j = cc in let h : p ≡ q = cc in λ k. record { number = g k; place = h k }
-
-                  pub whole-stopped : (r : Counted) (i p : ℕ) → r ≡ bodied D′ → r ≡ Stopped i p → answers i p
-                  whole-stopped r i p e h = bodied-stopped D′ i p (sym h ∙ e) ∙ sym (ap refusal whole-is)
-
-                  bodied-passed : (x : Item Design) (n w : ℕ) → Passed n w ≡ bodied x → (t : Bool) → (leb 1 w && leb w maxMovers) ≡ t → refusal (last file x) ≡ cond t (record { number = 0; place = 0 }) (record { number = 10; place = length file })
-                  bodied-passed (item x m) n w e t h = let g : w ≡ length (movers x) = cc in go t (ap (λ (j : ℕ). leb 1 j && leb j maxMovers) (sym g) ∙ h)
-                    where
-                      go : (t : Bool) → (leb 1 (length (movers x)) && leb (length (movers x)) maxMovers) ≡ t → refusal (last file (item x m)) ≡ cond t (record { number = 0; place = 0 }) (record { number = 10; place = length file })
-                      go true q = rw q
-                      go false q = rw q
-                  bodied-passed (refused j q) n w e t h = let z : _≡_ {A = ℕ} 0 1 = cc in absurd (omega arith)
-
-                  module _ (r : Counted) (n w : ℕ) (e : r ≡ bodied D′) (h : r ≡ Passed n w) where
-                    pub whole-idle : w < 1 → answers 10 (length file)
-                    whole-idle l = sym (ap refusal whole-is ∙ bodied-passed D′ n w (sym h ∙ e) false (ap (λ (b : Bool). b && leb w maxMovers) (lt-leb 1 w l)))
-
-                    pub whole-many : maxMovers < w → answers 10 (length file)
-                    whole-many l = sym (ap refusal whole-is ∙ bodied-passed D′ n w (sym h ∙ e) false (false-right (leb 1 w) (leb w maxMovers) (lt-leb w maxMovers l)))
-
-                    pub whole-accepted : 1 ≤ w → w ≤ maxMovers → answers 0 0
-                    whole-accepted l m = sym (ap refusal whole-is ∙ bodied-passed D′ n w (sym h ∙ e) true (both (leb 1 w) (leb w maxMovers) (le-leb 1 w l) (le-leb w maxMovers m)))
+              pub whole-accepted : m ≡ true → answers 0 0
+              whole-accepted l = sym (ap refusal whole-is ∙ bodied-passed D′ n w (sym h ∙ e) true (sym l ∙ me))

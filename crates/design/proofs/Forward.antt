@@ -8,7 +8,7 @@ use native.Mathlib.Nat.{le-refl}
 use lib.Dec.{ltb, leb, eqb}
 use Rattle.design.specs.Tree.{IntExpr, BoolExpr, Stmt, Stmts, variableB}
 use Rattle.design.specs.Limits.{maxDepth}
-use Rattle.design.specs.Reading.{Read, got, bad, Reader, bind, when}
+use Rattle.design.specs.Reading.{Read, got, bad, Reader, bind, provided}
 use Rattle.design.specs.Expression.{Names, IntOp, BoolOp, intOp, boolOp, byte, word, intOf, boolOf, intExpr, boolExpr}
 use Rattle.design.specs.Action.{StmtOp, stmtOp, value, assignment, statements, listOf, conditional, stmtOf, statement, list}
 use Rattle.design.specs.Answers.{found}
@@ -25,9 +25,9 @@ module _ {A : Type 0} where
   on-bad : (lo : ℕ) → Onward {A = A} lo bad
   on-bad lo = record { of = λ m e. let z : _≡_ {A = ℕ} 0 1 = cc in absurd (omega arith) }
 
-  on-when : (lo : ℕ) (t : Bool) (r : Read A) → Onward lo r → Onward lo (when t r)
-  on-when lo true r h = h
-  on-when lo false r h = on-bad lo
+  on-provided : (lo : ℕ) (t : Bool) (r : Read A) → Onward lo r → Onward lo (provided t r)
+  on-provided lo true r h = h
+  on-provided lo false r h = on-bad lo
 
 on-bind : {A B : Type 0} (lo : ℕ) (x : Read A) (k : A → ℕ → Read B) → Onward lo x → ((a : A) (m : ℕ) → lo ≤ m → Onward lo (k a m)) → Onward lo (bind x k)
 on-bind lo (got a n) k h f = f a n (h .of n refl)
@@ -35,10 +35,10 @@ on-bind lo bad k h f = on-bad lo
 
 module _ (text : List ℕ) (names : Names) (end : ℕ) where
   on-byte : (lo at : ℕ) → lo ≤ at + 1 → Onward lo (byte text names end at)
-  on-byte lo at h = on-when lo (ltb at end) _ (on-got lo _ (at + 1) h)
+  on-byte lo at h = on-provided lo (ltb at end) _ (on-got lo _ (at + 1) h)
 
   on-word : (lo at : ℕ) → lo ≤ at + 2 → Onward lo (word text names end at)
-  on-word lo at h = on-when lo (leb (at + 2) end) _ (on-got lo _ (at + 2) h)
+  on-word lo at h = on-provided lo (leb (at + 2) end) _ (on-got lo _ (at + 2) h)
 
   -- a reader that starts at lo or later ends there
   abbrev Goes : {A : Type 0} → ℕ → Reader A → Type 0
@@ -46,8 +46,8 @@ module _ (text : List ℕ) (names : Names) (end : ℕ) where
 
   intOf-on : (lo : ℕ) (operand : Reader IntExpr) → Goes lo operand → (o : IntOp) → Goes lo (intOf text names end operand o)
   intOf-on lo operand h IntOp.op-constant at l = on-bind lo (word text names end at) _ (on-word lo at (omega arith)) (λ c m q. on-got lo _ m q)
-  intOf-on lo operand h IntOp.op-variable at l = on-bind lo (byte text names end at) _ (on-byte lo at (omega arith)) (λ v m q. on-when lo (ltb v (names .variables)) _ (on-when lo (eqb (names .kindOf v) 1) _ (on-got lo _ m q)))
-  intOf-on lo operand h IntOp.op-status at l = on-bind lo (byte text names end at) _ (on-byte lo at (omega arith)) (λ v m q. on-when lo (ltb v (names .matrices)) _ (on-got lo _ m q))
+  intOf-on lo operand h IntOp.op-variable at l = on-bind lo (byte text names end at) _ (on-byte lo at (omega arith)) (λ v m q. on-provided lo (ltb v (names .variables)) _ (on-provided lo (eqb (names .kindOf v) 1) _ (on-got lo _ m q)))
+  intOf-on lo operand h IntOp.op-status at l = on-bind lo (byte text names end at) _ (on-byte lo at (omega arith)) (λ v m q. on-provided lo (ltb v (names .matrices)) _ (on-got lo _ m q))
   intOf-on lo operand h IntOp.op-unknown at l = on-bad lo
   intOf-on lo operand h (IntOp.op-ints f) at l = on-bind lo (operand at) _ (h at l) (λ a m q. on-bind lo (operand m) _ (h m q) (λ b n r. on-got lo _ n r))
 
@@ -57,8 +57,8 @@ module _ (text : List ℕ) (names : Names) (end : ℕ) where
   int-goes (suc d) lo at l = on-bind lo (byte text names end at) _ (on-byte lo at (omega arith)) (λ op m q. intOf-on lo (intExpr text names end d) (int-goes d lo) (intOp op) m q)
 
   boolOf-on : (lo : ℕ) (int : Reader IntExpr) → Goes lo int → (operand : Reader BoolExpr) → Goes lo operand → (o : BoolOp) → Goes lo (boolOf text names end int operand o)
-  boolOf-on lo int i operand h BoolOp.op-constant at l = on-bind lo (byte text names end at) _ (on-byte lo at (omega arith)) (λ v m q. on-when lo (leb v 1) _ (on-got lo _ m q))
-  boolOf-on lo int i operand h BoolOp.op-variable at l = on-bind lo (byte text names end at) _ (on-byte lo at (omega arith)) (λ v m q. on-when lo (ltb v (names .variables)) _ (on-when lo (not (eqb (names .kindOf v) 1)) _ (on-got lo (variableB v) m q)))
+  boolOf-on lo int i operand h BoolOp.op-constant at l = on-bind lo (byte text names end at) _ (on-byte lo at (omega arith)) (λ v m q. on-provided lo (leb v 1) _ (on-got lo _ m q))
+  boolOf-on lo int i operand h BoolOp.op-variable at l = on-bind lo (byte text names end at) _ (on-byte lo at (omega arith)) (λ v m q. on-provided lo (ltb v (names .variables)) _ (on-provided lo (not (eqb (names .kindOf v) 1)) _ (on-got lo (variableB v) m q)))
   boolOf-on lo int i operand h BoolOp.op-not at l = on-bind lo (operand at) _ (h at l) (λ a m q. on-got lo _ m q)
   boolOf-on lo int i operand h BoolOp.op-unknown at l = on-bad lo
   boolOf-on lo int i operand h (BoolOp.op-bools f) at l = on-bind lo (operand at) _ (h at l) (λ a m q. on-bind lo (operand m) _ (h m q) (λ b n r. on-got lo _ n r))
@@ -75,7 +75,7 @@ module _ (text : List ℕ) (names : Names) (end : ℕ) where
 
   assign-goes : (lo : ℕ) → Goes lo (assignment text names end)
   unfolding assignment
-  assign-goes lo at l = on-bind lo (byte text names end at) _ (on-byte lo at (omega arith)) (λ v m q. on-when lo (ltb v (names .variables)) _ (value-goes lo v (eqb (names .kindOf v) 1) m q))
+  assign-goes lo at l = on-bind lo (byte text names end at) _ (on-byte lo at (omega arith)) (λ v m q. on-provided lo (ltb v (names .variables)) _ (value-goes lo v (eqb (names .kindOf v) 1) m q))
 
   module _ (one : Reader Stmt) (lo : ℕ) (h : Goes lo one) where
     statements-go : (n : ℕ) → Goes lo (statements text names end one n)

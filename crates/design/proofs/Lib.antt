@@ -4,6 +4,7 @@ pub mod Forward
 pub mod Sections
 pub mod Positions
 pub mod Items
+pub mod Cells
 pub mod File
 pub mod Numbers
 pub mod Trees

@@ -7,14 +7,14 @@ use native.Mathlib.Omega.{arith}
 use lib.ListN.{getD, length}
 use lib.Dec.{leb, eqb}
 use Rattle.design.specs.Tree.{BoolExpr, constantB, Design, movers}
-use Rattle.design.specs.Limits.{maxMovers, maxDepth, maxNest, maxStatuses, maxEvents}
+use Rattle.design.specs.Limits.{lengthRight, moversRight, maxDepth, maxNest, maxStatuses, maxEvents}
 use Rattle.design.specs.Reading.{Read, got, bad}
 use Rattle.design.specs.Expression.{Names, boolExpr}
 use Rattle.design.specs.Action.{list}
 use Rattle.design.specs.DesignFile.{Item, item, refused, Walk, need, filling, after, items, offset, variableAt, matrixAt, eventAt, eventsFrom, events, guard, action, entry, cellAt, cellsFrom, c-guard, c-kind, c-middle, c-past, at8, at16, fields, ordered, invariantAt}
 use Rattle.design.specs.Check.{Checked, accepted, namesOf, sections, last, check, trailer, version, variableCount, matricesOffset, matrixCount, eventsOffset, cellsOffset, cellCount, invariantOffset, body}
 use Rattle.design.specs.Answers.{refusal}
-use Rattle.design.proofs.File.{lengths, counts, R2, R3}
+use Rattle.design.proofs.File.{counts, R2, R3}
 
 abbrev Number : ℕ → Type 0
 Number i = (1 ≤ i) × (i ≤ 10)
@@ -114,7 +114,7 @@ module _ (file : List ℕ) (end : ℕ) where
 
 -- an answer of number 0 is an accepted file
 last-zero : (file : List ℕ) (x : Item Design) → Numbered x → refusal (last file x) .number ≡ 0 → (d : Design) × (last file x ≡ accepted d)
-last-zero file (item d n) h e = go (leb 1 (length (movers d)) && leb (length (movers d)) maxMovers) e
+last-zero file (item d n) h e = go (moversRight (length (movers d))) e
   where
     go : (t : Bool) → refusal (cond t (accepted d) (Checked.refused 10 (length file))) .number ≡ 0 → (d′ : Design) × (cond t (accepted d) (Checked.refused 10 (length file)) ≡ accepted d′)
     go true q = (d, refl)
@@ -124,8 +124,8 @@ last-zero file (refused i p) h e = let k = h .of i p refl in absurd (omega arith
 pub zero-accepted : (file : List ℕ) → refusal (check file) .number ≡ 0 → (d : Design) × (check file ≡ accepted d)
 unfolding check
 zero-accepted file e =
-    last-zero file (need (lengths file) 1 (length file) (R2 file))
-    (n-need (lengths file) 1 (length file) (R2 file) (omega arith)
+    last-zero file (need (lengthRight (length file)) 1 (length file) (R2 file))
+    (n-need (lengthRight (length file)) 1 (length file) (R2 file) (omega arith)
     (n-need (eqb (version file) 1) 2 (trailer file) (R3 file) (omega arith)
     (n-need (counts file) 3 (trailer file) (body file 0) (omega arith)
     (n-sections file (trailer file) (variableCount file) (matricesOffset file) (matrixCount file) (eventsOffset file) (cellsOffset file) (cellCount file) (invariantOffset file)))))

@@ -1,23 +1,22 @@
 -- What stands at the positions that the tables hold: the walk of each item succeeds there and gives the item of the tree. Assumes nothing.
 use mathlib.Core.Path.{_≡_, refl, sym, ap, subst, _∙_}
-use mathlib.Core.Bool.{Bool, true, false, cond, _&&_}
-use mathlib.Core.List.{List, [], _∷_, _++_}
-use mathlib.Core.Logic.{⊎-elim}
+use mathlib.Core.Bool.{false, _&&_}
+use mathlib.Core.List.{List, [], _∷_}
 use Prim.Native.Nat.{ℕ, zero, suc, _+_, _*_, _-_, _<_, _≤_}
 use native.Mathlib.Omega.{arith}
 use native.Mathlib.Numerals.{add-one}
-use lib.ListN.{getD, length, take, drop, length-append}
-use lib.Seq.{getD-take}
-use lib.Dec.{eqb, leb, ltb}
+use lib.ListN.{getD, length}
+use lib.Dec.{leb, ltb}
 use borrow.Author.Tests.{eq-eqb, ne-eqb}
-use Rattle.design.specs.Tree.{BoolExpr, constantB, Cell, Variable, Design, Mover, cell, movers, externals}
-use Rattle.design.specs.Limits.{maxMovers, maxStatuses, maxEvents}
+use Rattle.design.specs.Tree.{BoolExpr, constantB, Cell, Design}
+use Rattle.design.specs.Limits.{maxStatuses, maxEvents}
 use Rattle.design.specs.Expression.{Names}
-use Rattle.design.specs.DesignFile.{Item, item, Walk, need, Matrix, Entry, normal, invalid, matrixAt, eventAt, cellAt, fields, ordered, ending, statuses, events, at8, c-matrix, c-status, c-event, c-kind, c-past}
-use Rattle.design.specs.Check.{check, accepted, normals, trailer, matricesOffset, matrixCount, eventsOffset, cellsOffset, cellCount, invariantOffset, names}
-use Rattle.design.specs.Places.{Accepted, pastEvents, pastCells, eventsStart, eventPlace, normalsFrom, normalPlaces, EventsIndexed, CellsIndexed}
-use Rattle.design.proofs.Sections.{Run, Rows, Cells, eventIn, Parts, Whole, whole, need-inv, and-inv}
-use Rattle.design.proofs.Positions.{event-reads, cell-reads, EventRead, NormalRead, CellRead, EntryRead, matrix-stands}
+use Rattle.design.specs.DesignFile.{item, need, Matrix, Entry, normal, invalid, matrixAt, eventAt, fields, ordered, ending, statuses, events, at8, c-matrix, c-status, c-event, c-kind, c-past}
+use Rattle.design.specs.Check.{check, accepted, normals, trailer, matricesOffset, matrixCount, eventsOffset, cellsOffset, cellCount, invariantOffset, names, eventIn}
+use Rattle.design.specs.Places.{Accepted, pastEvents, pastCells, eventsStart, eventPlace, normalsFrom, normalPlaces}
+use Rattle.design.specs.Sections.{Run, Rows, Cells, Parts, EventRead, CellRead, Standing, CellFields}
+use Rattle.design.proofs.Sections.{Whole, whole, need-inv, and-inv}
+use Rattle.design.proofs.Positions.{event-reads, cell-reads, matrix-stands}
 use Rattle.design.proofs.Numbers.{zero-accepted}
 use Rattle.design.proofs.Items.{matrix-ends}
 use Rattle.design.specs.Answers.{walked}
@@ -90,19 +89,7 @@ module _ (file : List ℕ) where
       let g : (j : ℕ) → pastCells file j (r .0) ≡ pastCells file (suc j) at = λ j. ap (pastCells file j) q ∙ cells-front j at in
       (t .0, subst (λ (p : ℕ). CellRead file E N (matricesOffset file) f (t .0) p (getD ys i x) (c-past file p)) (g i) (t .1))
 
-  -- a cell that stands somewhere, after some other
-  abbrev pub Standing : (ℕ → ℕ → BoolExpr) → ℕ → Entry → Type 0
-  Standing f p x = (b : ℕ) × CellRead file E N (matricesOffset file) f b p x (c-past file p)
-
-  -- what its fields name is there
-  pub record CellFields (p : ℕ) : Type 0 where
-    pub matrix : c-matrix file p < matrixCount file
-    pub status : c-status file p < statuses file (matricesOffset file) (c-matrix file p)
-    pub event : c-event file p < events file (matricesOffset file) (c-matrix file p)
-    pub header : p + 8 ≤ E
-    pub past : c-past file p ≤ E
-
-  pub cell-fields : (f : ℕ → ℕ → BoolExpr) (p : ℕ) (x : Entry) → Standing f p x → CellFields p
+  pub cell-fields : (f : ℕ → ℕ → BoolExpr) (p : ℕ) (x : Entry) → Standing file f p x → CellFields file p
   cell-fields f p x (b, c) =
       let i = c .inside in
       let t = and-inv (fields file (matricesOffset file) (N .matrices) p) (ordered file b p) (c .right) .0 in
@@ -117,15 +104,15 @@ module _ (file : List ℕ) where
   -- the normal cells
   pub record Normals (f : ℕ → ℕ → BoolExpr) (places : List ℕ) (cs : List Cell) : Type 0 where
     pub count : length places ≡ length cs
-    pub reads : (j : ℕ) → j < length cs → (c : Cell) → Standing f (getD places j 0) (normal (getD cs j c))
+    pub reads : (j : ℕ) → j < length cs → (c : Cell) → Standing file f (getD places j 0) (normal (getD cs j c))
 
   normals-none : (f : ℕ → ℕ → BoolExpr) → Normals f [] []
   normals-none f = record { count = refl; reads = λ j h c. absurd (omega arith) }
 
-  normals-more : (f : ℕ → ℕ → BoolExpr) (p : ℕ) (c : Cell) (ps : List ℕ) (cs : List Cell) → Standing f p (normal c) → Normals f ps cs → Normals f (p ∷ ps) (c ∷ cs)
+  normals-more : (f : ℕ → ℕ → BoolExpr) (p : ℕ) (c : Cell) (ps : List ℕ) (cs : List Cell) → Standing file f p (normal c) → Normals f ps cs → Normals f (p ∷ ps) (c ∷ cs)
   normals-more f p c ps cs r h = record { count = ap suc (h .count); reads = go }
     where
-      go : (j : ℕ) → j < length (c ∷ cs) → (x : Cell) → Standing f (getD (p ∷ ps) j 0) (normal (getD (c ∷ cs) j x))
+      go : (j : ℕ) → j < length (c ∷ cs) → (x : Cell) → Standing file f (getD (p ∷ ps) j 0) (normal (getD (c ∷ cs) j x))
       go zero l x = r
       go (suc j) l x = h .reads j (omega arith) x
 
@@ -147,7 +134,7 @@ module _ (file : List ℕ) where
     unfolding eventsStart
     event-count m h = rows-row (w .rows) 0 (eventsOffset file) (cellsOffset file) (w .row-run) refl m m (omega arith) (omega (arith, w .row-count)) .0
 
-    pub event-stands : (m e : ℕ) → m < matrixCount file → e < events file (matricesOffset file) m → EventRead file E N (eventPlace file m e) (eventIn file (w .rows) m e) (pastEvents file (suc e) (eventsStart file m))
+    pub event-stands : (m e : ℕ) → m < matrixCount file → e < events file (matricesOffset file) m → EventRead file E N (eventPlace file m e) (eventIn (w .rows) m e) (pastEvents file (suc e) (eventsStart file m))
     unfolding eventsStart
     event-stands m e h k =
         let (c, n, r) = rows-row (w .rows) 0 (eventsOffset file) (cellsOffset file) (w .row-run) refl m m (omega arith) (omega (arith, w .row-count)) in
@@ -168,16 +155,16 @@ module _ (file : List ℕ) where
         leb-true (at8 file (at + 1)) maxEvents (and-inv others few (u .0) .1)
 
     -- the normal cells, in the tree's order
-    pub normal-stands : Normals (eventIn file (w .rows)) (normalPlaces file) (d .cells)
+    pub normal-stands : Normals (eventIn (w .rows)) (normalPlaces file) (d .cells)
     normal-stands =
-        subst (λ (n : ℕ). Normals (eventIn file (w .rows)) (normalsFrom file n (cellsOffset file)) (d .cells)) (w .cell-count)
-        (subst (λ (cs : List Cell). Normals (eventIn file (w .rows)) (normalsFrom file (length (w .entries)) (cellsOffset file)) cs) (sym (w .cells))
-        (normals-stand (eventIn file (w .rows)) (w .entries) (cellsOffset file) (cellsOffset file) (invariantOffset file) (w .cell-run)))
+        subst (λ (n : ℕ). Normals (eventIn (w .rows)) (normalsFrom file n (cellsOffset file)) (d .cells)) (w .cell-count)
+        (subst (λ (cs : List Cell). Normals (eventIn (w .rows)) (normalsFrom file (length (w .entries)) (cellsOffset file)) cs) (sym (w .cells))
+        (normals-stand (eventIn (w .rows)) (w .entries) (cellsOffset file) (cellsOffset file) (invariantOffset file) (w .cell-run)))
 
     pub cell-inside : (i : ℕ) → i < cellCount file → (pastCells file i (cellsOffset file) + 8 ≤ E) × (pastCells file (suc i) (cellsOffset file) ≤ E)
     unfolding pastCells
     cell-inside i h =
         let none : Entry = invalid (record { matrix = 0; status = 0; event = constantB false }) in
-        let (b, c) = cell-stands (eventIn file (w .rows)) (w .entries) (cellsOffset file) (cellsOffset file) (invariantOffset file) (w .cell-run) i (omega (arith, w .cell-count)) none in
+        let (b, c) = cell-stands (eventIn (w .rows)) (w .entries) (cellsOffset file) (cellsOffset file) (invariantOffset file) (w .cell-run) i (omega (arith, w .cell-count)) none in
         let k = c .inside in
         (omega arith, k)

@@ -1,21 +1,22 @@
 -- What code that walks an accepted file may use: where each item stands, that its walk and its readers succeed there, and where it ends. Assumes nothing.
 use Prim.Native.Nat.{ℕ, zero, suc, _+_, _-_, _*_, _<_, _≤_}
 use mathlib.Core.Path.{_≡_, refl, sym, ap, subst, _∙_}
-use mathlib.Core.Bool.{true, _&&_}
+use mathlib.Core.Bool.{_&&_}
 use mathlib.Core.List.{List, [], _∷_}
 use native.Mathlib.Omega.{arith}
 use native.Mathlib.Nat.{mul-suc, mul-zero}
 use lib.ListN.{getD, length, take, drop}
 use lib.Dec.{leb, eqb}
 use borrow.Author.Tests.{leb-true, eqb-true}
-use Rattle.design.specs.Tree.{BoolExpr, Variable, Cell, InvalidCell, Design}
+use Rattle.design.specs.Tree.{BoolExpr, Variable, Design}
 use Rattle.design.specs.Limits.{maxDepth, maxNest}
 use Rattle.design.specs.Reading.{Read, got, bad}
 use Rattle.design.specs.Expression.{Names, boolExpr}
 use Rattle.design.specs.Action.{list}
-use Rattle.design.specs.DesignFile.{item, Walk, filling, Matrix, Entry, normal, invalid, variableAt, matrixAt, eventAt, invariantAt, fields, ordered, guard, action, entry, c-matrix, c-status, c-event, c-kind, c-target, c-guard, c-middle, c-past, cellAt, events}
+use Rattle.design.specs.DesignFile.{item, Walk, filling, Matrix, Entry, variableAt, matrixAt, eventAt, invariantAt, fields, ordered, guard, action, entry, c-kind, c-guard, c-middle, c-past, cellAt, events}
 use Rattle.design.specs.Check.{trailer, variableCount, matricesOffset, matrixCount, eventsOffset, invariantOffset, names}
-use Rattle.design.proofs.Sections.{after-inv, need-inv, item-past, item-same, Run, Rows, Cells, Parts}
+use Rattle.design.specs.Sections.{Run, Rows, Cells, Parts, EventRead, EntryRead, CellRead}
+use Rattle.design.proofs.Sections.{after-inv, need-inv, item-past, item-same}
 use Rattle.design.specs.Answers.{walked}
 use Rattle.design.proofs.Items.{variable-ends, matrix-ends}
 
@@ -41,13 +42,7 @@ run-fixed one k f (x ∷ xs) at past r (suc i) p e h d =
     run-fixed one k f xs (r .0) past (r .2) i p (let g = f at (r .0) x (r .1) in let z = mul-suc k i in omega arith) (omega arith) d
 
 module _ (file : List ℕ) (end : ℕ) where
-  -- an event that was passed: its expression fills its length
-  pub record EventRead (N : Names) (at : ℕ) (x : BoolExpr) (n : ℕ) : Type 0 where
-    pub past : n ≡ at + 1 + getD file at 0
-    pub inside : n ≤ end
-    pub reads : boolExpr file N n maxDepth (at + 1) ≡ got x n
-
-  pub event-reads : (N : Names) (at : ℕ) (x : BoolExpr) (n : ℕ) → eventAt file end N at ≡ item x n → EventRead N at x n
+  pub event-reads : (N : Names) (at : ℕ) (x : BoolExpr) (n : ℕ) → eventAt file end N at ≡ item x n → EventRead file end N at x n
   unfolding eventAt
   event-reads N at x n e =
       let (t, h) = need-inv (leb (at + 1 + getD file at 0) end) 4 at _ x n e in
@@ -60,34 +55,16 @@ module _ (file : List ℕ) (end : ℕ) where
   invariant-reads N at x n e = filling-inv 8 at end (boolExpr file N end maxDepth at) x n e .0
 
   module _ (N : Names) (M : ℕ) (f : ℕ → ℕ → BoolExpr) where
-    -- what a cell that was passed is, by its bytes
-    pub record NormalRead (at : ℕ) (c : Cell) : Type 0 where
-      pub matrix : c .matrix ≡ c-matrix file at
-      pub status : c .status ≡ c-status file at
-      pub event : c .event ≡ f (c-matrix file at) (c-event file at)
-      pub target : c .target ≡ c-target file at
-      pub guard : guard file end N at (c-guard file at) ≡ item (c .guard) (c-middle file at)
-      pub action : list file N (c-past file at) maxNest (c-middle file at) ≡ got (c .action) (c-past file at)
-
-    pub record InvalidRead (at : ℕ) (p : InvalidCell) : Type 0 where
-      pub matrix : p .matrix ≡ c-matrix file at
-      pub status : p .status ≡ c-status file at
-      pub event : p .event ≡ f (c-matrix file at) (c-event file at)
-
-    abbrev pub EntryRead : ℕ → ℕ → Entry → Type 0
-    EntryRead at k (normal c) = (k ≡ 0) × NormalRead at c
-    EntryRead at k (invalid p) = (k ≡ 0 → ⊥) × InvalidRead at p
-
     guard-past : (at k : ℕ) (g : BoolExpr) (n : ℕ) → guard file end N at k ≡ item g n → n ≡ c-middle file at
     guard-past at zero g n e = sym (item-past _ _ _ _ e)
     guard-past at (suc k) g n e = filling-inv 8 at (c-middle file at) (boolExpr file N (c-middle file at) maxDepth (at + 8)) g n e .1
 
-    entry-reads : (at k : ℕ) (x : Entry) (n : ℕ) → entry file end N M f at k ≡ item x n → (n ≡ c-past file at) × EntryRead at k x
+    entry-reads : (at k : ℕ) (x : Entry) (n : ℕ) → entry file end N M f at k ≡ item x n → (n ≡ c-past file at) × EntryRead file end N M f at k x
     entry-reads at zero x n e =
         let (g, p, e₁, h₁) = after-inv (guard file end N at (c-guard file at)) _ x n e in
         let (a, q, e₂, h₂) = after-inv (action file end N at) _ x n h₁ in (
           sym (item-past _ _ _ _ h₂),
-          subst (EntryRead at 0) (item-same _ _ _ _ h₂) (
+          subst (EntryRead file end N M f at 0) (item-same _ _ _ _ h₂) (
             refl,
             record {
               matrix = refl;
@@ -100,15 +77,9 @@ module _ (file : List ℕ) (end : ℕ) where
           ),
         )
     entry-reads at (suc k) x n e =
-        (sym (item-past _ _ _ _ e), subst (EntryRead at (suc k)) (item-same _ _ _ _ e) ((λ z. omega arith), record { matrix = refl; status = refl; event = refl }))
+        (sym (item-past _ _ _ _ e), subst (EntryRead file end N M f at (suc k)) (item-same _ _ _ _ e) ((λ z. omega arith), record { matrix = refl; status = refl; event = refl }))
 
-    pub record CellRead (before at : ℕ) (x : Entry) (n : ℕ) : Type 0 where
-      pub past : n ≡ c-past file at
-      pub inside : n ≤ end
-      pub right : fields file M (N .matrices) at && ordered file before at ≡ true
-      pub entry : EntryRead at (c-kind file at) x
-
-    pub cell-reads : (before at : ℕ) (x : Entry) (n : ℕ) → cellAt file end N M f before at ≡ item x n → CellRead before at x n
+    pub cell-reads : (before at : ℕ) (x : Entry) (n : ℕ) → cellAt file end N M f before at ≡ item x n → CellRead file end N M f before at x n
     unfolding cellAt
     cell-reads before at x n e =
         let (t, h) = need-inv (leb (c-past file at) end) 4 at _ x n e in

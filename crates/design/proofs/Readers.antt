@@ -70,6 +70,18 @@ bool-none b s = simp (ne-eqb _ _ (out 0x10 (omega arith) (omega arith)), ne-eqb 
     out : (k : ℕ) → 0x10 ≤ k → k < 0x17 → b ≡ k → ⊥
     out k p q e = ⊎-elim (λ l. omega arith) (λ l. omega arith) s
 
+-- of the two statements, the one that is no assignment
+pub stmt-second : (b : ℕ) → 0x20 ≤ b → b < 0x22 → (b ≡ 0x20 → ⊥) → stmtOp b ≡ StmtOp.op-if
+unfolding stmtOp
+stmt-second b p q n = ⊎-elim (λ e. absurd (n e)) (λ e. ap stmtOp e) (one-of-two b 0x20 p q)
+
+stmt-unknown : (b : ℕ) → (b < 0x20) ⊎ (0x22 ≤ b) → stmtOp b ≡ StmtOp.op-unknown
+unfolding stmtOp
+stmt-unknown b s = simp (ne-eqb _ _ (out 0x20 (omega arith) (omega arith)), ne-eqb _ _ (out 0x21 (omega arith) (omega arith)))
+  where
+    out : (k : ℕ) → 0x20 ≤ k → k < 0x22 → b ≡ k → ⊥
+    out k p q e = ⊎-elim (λ l. omega arith) (λ l. omega arith) s
+
 module _ (text : List ℕ) (names : Names) (end : ℕ) where
   abbrev I : ℕ → ℕ → Read IntExpr
   I d at = intExpr text names end d at
@@ -202,10 +214,10 @@ module _ (text : List ℕ) (names : Names) (end : ℕ) where
   stmt-assign zero at h e = simp (lt-ltb at end h, e)
   stmt-assign (suc k) at h e = simp (lt-ltb at end h, e)
 
-  pub stmt-none : (k at : ℕ) → at < end → (getD text at 0 ≡ 0x20 → ⊥) → (getD text at 0 ≡ 0x21 → ⊥) → Bad ≡ found (S k at)
-  unfolding statement stmtOp
-  stmt-none zero at l h e = simp (lt-ltb at end l, ne-eqb _ _ h, ne-eqb _ _ e)
-  stmt-none (suc k) at l h e = simp (lt-ltb at end l, ne-eqb _ _ h, ne-eqb _ _ e)
+  pub stmt-none : (k at : ℕ) → at < end → (getD text at 0 < 0x20) ⊎ (0x22 ≤ getD text at 0) → Bad ≡ found (S k at)
+  unfolding statement
+  stmt-none zero at l h = simp (lt-ltb at end l, stmt-unknown (getD text at 0) h)
+  stmt-none (suc k) at l h = simp (lt-ltb at end l, stmt-unknown (getD text at 0) h)
 
   pub stmt-flat : (k at : ℕ) → k ≡ 0 → at < end → stmtOp (getD text at 0) ≡ StmtOp.op-if → Bad ≡ found (S k at)
   unfolding statement

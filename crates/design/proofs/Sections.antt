@@ -7,10 +7,11 @@ use native.Mathlib.Omega.{arith}
 use lib.ListN.{length, getD}
 use lib.Dec.{leb, eqb}
 use borrow.Author.Tests.{leb-true, eqb-true}
-use Rattle.design.specs.Tree.{BoolExpr, constantB, Variable, Design, movers}
-use Rattle.design.specs.Limits.{maxBytes, trailerBytes, maxVariables, maxMatrices, maxCells, maxMovers}
+use Rattle.design.specs.Tree.{BoolExpr, Variable, Design, movers}
+use Rattle.design.specs.Limits.{maxBytes, trailerBytes, maxVariables, maxMatrices, maxCells, maxMovers, lengthRight, countsRight, moversRight}
 use Rattle.design.specs.DesignFile.{Item, item, refused, Walk, need, after, items, offset, Matrix, Entry, variableAt, matrixAt, eventAt, events, eventsFrom, cellAt, cellsFrom, invariantAt}
-use Rattle.design.specs.Check.{Checked, accepted, normals, invalids, trailer, version, variableCount, matricesOffset, matrixCount, eventsOffset, cellsOffset, cellCount, invariantOffset, names, sections, body, last, check}
+use Rattle.design.specs.Check.{Checked, accepted, eventIn, normals, invalids, trailer, version, variableCount, matricesOffset, matrixCount, eventsOffset, cellsOffset, cellCount, invariantOffset, names, sections, body, last, check}
+use Rattle.design.specs.Sections.{Run, Rows, Cells, Parts}
 
 pub after-inv : {A B : Type 0} (x : Item A) (k : A → ℕ → Item B) (b : B) (n : ℕ) → after x k ≡ item b n → (a : A) × (m : ℕ) × (x ≡ item a m) × (k a m ≡ item b n)
 after-inv (item a m) k b n e = (a, m, refl, e)
@@ -31,11 +32,6 @@ item-past a b m n e = cc
 
 pub item-same : {A : Type 0} (a b : A) (m n : ℕ) → item a m ≡ item b n → a ≡ b
 item-same a b m n e = cc
-
--- items that follow one another, each found by the walk
-abbrev pub Run : {A : Type 0} → Walk A → ℕ → List A → ℕ → Type 0
-Run one at [] past = at ≡ past
-Run one at (x ∷ xs) past = (n : ℕ) × (one at ≡ item x n) × Run one n xs past
 
 pub items-run : {A : Type 0} (one : Walk A) (n at : ℕ) (xs : List A) (past : ℕ) → items one n at ≡ item xs past → (length xs ≡ n) × Run one at xs past
 unfolding items
@@ -67,17 +63,7 @@ module _ (file : List ℕ) where
   abbrev E : ℕ
   E = trailer file
 
-  -- the rows of events, from matrix m on
-  abbrev pub Rows : ℕ → ℕ → List (List BoolExpr) → ℕ → Type 0
-  Rows m at [] past = at ≡ past
-  Rows m at (row ∷ rows) past = (n : ℕ) × (length row ≡ events file (matricesOffset file) m) × Run (eventAt file E (names file)) at row n × Rows (m + 1) n rows past
-
-  module _ (eventOf : ℕ → ℕ → BoolExpr) where
-    abbrev pub Cells : ℕ → ℕ → List Entry → ℕ → Type 0
-    Cells before at [] past = at ≡ past
-    Cells before at (c ∷ cs) past = (n : ℕ) × (cellAt file E (names file) (matricesOffset file) eventOf before at ≡ item c n) × Cells at n cs past
-
-  rows-run : (m n at : ℕ) (rows : List (List BoolExpr)) (past : ℕ) → eventsFrom file E (names file) (matricesOffset file) m n at ≡ item rows past → (length rows ≡ n) × Rows m at rows past
+  rows-run : (m n at : ℕ) (rows : List (List BoolExpr)) (past : ℕ) → eventsFrom file E (names file) (matricesOffset file) m n at ≡ item rows past → (length rows ≡ n) × Rows file m at rows past
   unfolding eventsFrom
   rows-run m zero at [] past e = (refl, item-past _ _ _ _ e)
   rows-run m zero at (x ∷ xs) past e = let z : _≡_ {A = ℕ} 0 1 = (let q : [] ≡ x ∷ xs = item-same _ _ _ _ e in cc) in absurd (omega arith)
@@ -87,10 +73,10 @@ module _ (file : List ℕ) where
       let r = rows-run (m + 1) n j xs i e₂ in
       go x xs j i (items-run _ _ at x j e₁) (r .0) (r .1) l (sym (item-same _ _ _ _ h′)) (item-past _ _ _ _ h′)
     where
-      go : (x : List BoolExpr) (xs : List (List BoolExpr)) (j i : ℕ) → (length x ≡ events file (matricesOffset file) m) × Run (eventAt file E (names file)) at x j → length xs ≡ n → Rows (m + 1) j xs i → (l′ : List (List BoolExpr)) → l′ ≡ x ∷ xs → i ≡ past → (length l′ ≡ suc n) × Rows m at l′ past
-      go x xs j i e c r l′ q p = subst (λ (k : List (List BoolExpr)). (length k ≡ suc n) × Rows m at k past) (sym q) (ap suc c, (j, e .0, e .1, subst (λ (b : ℕ). Rows (m + 1) j xs b) p r))
+      go : (x : List BoolExpr) (xs : List (List BoolExpr)) (j i : ℕ) → (length x ≡ events file (matricesOffset file) m) × Run (eventAt file E (names file)) at x j → length xs ≡ n → Rows file (m + 1) j xs i → (l′ : List (List BoolExpr)) → l′ ≡ x ∷ xs → i ≡ past → (length l′ ≡ suc n) × Rows file m at l′ past
+      go x xs j i e c r l′ q p = subst (λ (k : List (List BoolExpr)). (length k ≡ suc n) × Rows file m at k past) (sym q) (ap suc c, (j, e .0, e .1, subst (λ (b : ℕ). Rows file (m + 1) j xs b) p r))
 
-  cells-run : (eventOf : ℕ → ℕ → BoolExpr) (n before at : ℕ) (es : List Entry) (past : ℕ) → cellsFrom file E (names file) (matricesOffset file) eventOf n before at ≡ item es past → (length es ≡ n) × Cells eventOf before at es past
+  cells-run : (eventOf : ℕ → ℕ → BoolExpr) (n before at : ℕ) (es : List Entry) (past : ℕ) → cellsFrom file E (names file) (matricesOffset file) eventOf n before at ≡ item es past → (length es ≡ n) × Cells file eventOf before at es past
   unfolding cellsFrom
   cells-run f zero before at [] past e = (refl, item-past _ _ _ _ e)
   cells-run f zero before at (x ∷ xs) past e = let z : _≡_ {A = ℕ} 0 1 = (let q : [] ≡ x ∷ xs = item-same _ _ _ _ e in cc) in absurd (omega arith)
@@ -100,30 +86,8 @@ module _ (file : List ℕ) where
       let r = cells-run f n at m xs j e₂ in
       go x xs m j e₁ (r .0) (r .1) l (sym (item-same _ _ _ _ h′)) (item-past _ _ _ _ h′)
     where
-      go : (x : Entry) (xs : List Entry) (m j : ℕ) → cellAt file E (names file) (matricesOffset file) f before at ≡ item x m → length xs ≡ n → Cells f at m xs j → (l′ : List Entry) → l′ ≡ x ∷ xs → j ≡ past → (length l′ ≡ suc n) × Cells f before at l′ past
-      go x xs m j e c r l′ q p = subst (λ (k : List Entry). (length k ≡ suc n) × Cells f before at k past) (sym q) (ap suc c, (m, e, subst (λ (i : ℕ). Cells f at m xs i) p r))
-
-  abbrev pub eventIn : List (List BoolExpr) → ℕ → ℕ → BoolExpr
-  eventIn rows m e = getD (getD rows m []) e (constantB false)
-
-  -- where everything stands in a file whose body is right
-  pub record Parts (d : Design) : Type 0 where
-    pub matrices : List Matrix
-    pub rows : List (List BoolExpr)
-    pub entries : List Entry
-    pub variable-count : length (d .variables) ≡ variableCount file
-    pub variable-run : Run (variableAt file E) 0 (d .variables) (matricesOffset file)
-    pub matrix-count : length matrices ≡ matrixCount file
-    pub matrix-run : Run (matrixAt file E) (matricesOffset file) matrices (eventsOffset file)
-    pub statuses : d .statuses ≡ map (λ (m : Matrix). m .statuses) matrices
-    pub row-count : length rows ≡ matrixCount file
-    pub row-run : Rows 0 (eventsOffset file) rows (cellsOffset file)
-    pub cell-count : length entries ≡ cellCount file
-    pub cell-run : Cells (eventIn rows) (cellsOffset file) (cellsOffset file) entries (invariantOffset file)
-    pub cells : d .cells ≡ normals entries
-    pub invalid : d .invalid ≡ invalids entries
-    pub past : ℕ
-    pub invariant : invariantAt file E (names file) (invariantOffset file) ≡ item (d .invariant) past
+      go : (x : Entry) (xs : List Entry) (m j : ℕ) → cellAt file E (names file) (matricesOffset file) f before at ≡ item x m → length xs ≡ n → Cells file f at m xs j → (l′ : List Entry) → l′ ≡ x ∷ xs → j ≡ past → (length l′ ≡ suc n) × Cells file f before at l′ past
+      go x xs m j e c r l′ q p = subst (λ (k : List Entry). (length k ≡ suc n) × Cells file f before at k past) (sym q) (ap suc c, (m, e, subst (λ (i : ℕ). Cells file f at m xs i) p r))
 
   elim-after : {A B R : Type 0} (x : Item A) (k : A → ℕ → Item B) (b : B) (n : ℕ) → after x k ≡ item b n → ((a : A) (m : ℕ) → x ≡ item a m → k a m ≡ item b n → R) → R
   elim-after (item a m) k b n e f = f a m refl e
@@ -146,7 +110,7 @@ module _ (file : List ℕ) where
         → items (matrixAt file E) (matrixCount file) (matricesOffset file) ≡ item ms p₂ → p₂ ≡ eventsOffset file
         → eventsFrom file E (names file) (matricesOffset file) 0 (matrixCount file) (eventsOffset file) ≡ item rows p₃ → p₃ ≡ cellsOffset file
         → cellsFrom file E (names file) (matricesOffset file) (eventIn rows) (cellCount file) (cellsOffset file) (cellsOffset file) ≡ item es p₄ → p₄ ≡ invariantOffset file
-        → invariantAt file E (names file) (invariantOffset file) ≡ item inv p₅ → Parts tree
+        → invariantAt file E (names file) (invariantOffset file) ≡ item inv p₅ → Parts file tree
     make p₁ p₂ p₃ p₄ p₅ e₁ o₁ e₂ o₂ e₃ o₃ e₄ o₄ e₅ = record {
       matrices = ms;
       rows = rows;
@@ -157,16 +121,16 @@ module _ (file : List ℕ) where
       matrix-run = subst (λ (p : ℕ). Run (matrixAt file E) (matricesOffset file) ms p) o₂ (items-run (matrixAt file E) (matrixCount file) (matricesOffset file) ms p₂ e₂ .1);
       statuses = refl;
       row-count = rows-run 0 (matrixCount file) (eventsOffset file) rows p₃ e₃ .0;
-      row-run = subst (λ (p : ℕ). Rows 0 (eventsOffset file) rows p) o₃ (rows-run 0 (matrixCount file) (eventsOffset file) rows p₃ e₃ .1);
+      row-run = subst (λ (p : ℕ). Rows file 0 (eventsOffset file) rows p) o₃ (rows-run 0 (matrixCount file) (eventsOffset file) rows p₃ e₃ .1);
       cell-count = cells-run (eventIn rows) (cellCount file) (cellsOffset file) (cellsOffset file) es p₄ e₄ .0;
-      cell-run = subst (λ (p : ℕ). Cells (eventIn rows) (cellsOffset file) (cellsOffset file) es p) o₄ (cells-run (eventIn rows) (cellCount file) (cellsOffset file) (cellsOffset file) es p₄ e₄ .1);
+      cell-run = subst (λ (p : ℕ). Cells file (eventIn rows) (cellsOffset file) (cellsOffset file) es p) o₄ (cells-run (eventIn rows) (cellCount file) (cellsOffset file) (cellsOffset file) es p₄ e₄ .1);
       cells = refl;
       invalid = refl;
       past = p₅;
       invariant = e₅;
     }
 
-  pub body-parts : (d : Design) (past : ℕ) → body file 0 ≡ item d past → Parts d
+  pub body-parts : (d : Design) (past : ℕ) → body file 0 ≡ item d past → Parts file d
   unfolding sections
   body-parts d past e =
       elim-after (items (variableAt file E) (variableCount file) 0) _ d past e λ vs p₁ e₁ h₁.
@@ -178,7 +142,7 @@ module _ (file : List ℕ) where
       elim-after (cellsFrom file E (names file) (matricesOffset file) (eventIn rows) (cellCount file) (cellsOffset file) (cellsOffset file)) _ d past k₃ λ es p₄ e₄ h₄.
       elim-offset (invariantOffset file) p₄ _ d past h₄ λ o₄ k₄.
       elim-after (invariantAt file E (names file) (invariantOffset file)) _ d past k₄ λ inv p₅ e₅ h₅.
-      subst Parts (item-same (tree vs ms rows es inv) d p₅ past h₅) (make vs ms rows es inv p₁ p₂ p₃ p₄ p₅ e₁ o₁ e₂ o₂ e₃ o₃ e₄ o₄ e₅)
+      subst (Parts file) (item-same (tree vs ms rows es inv) d p₅ past h₅) (make vs ms rows es inv p₁ p₂ p₃ p₄ p₅ e₁ o₁ e₂ o₂ e₃ o₃ e₄ o₄ e₅)
 
   -- an accepted file: its length, version and counts, its body, and the number of movers
   pub record Whole (d : Design) : Type 0 where
@@ -189,14 +153,14 @@ module _ (file : List ℕ) where
     pub matrix : 1 ≤ matrixCount file
     pub matrices : matrixCount file ≤ maxMatrices
     pub cells : cellCount file ≤ maxCells
-    pub parts : Parts d
+    pub parts : Parts file d
     pub mover : 1 ≤ length (movers d)
     pub movers : length (movers d) ≤ maxMovers
 
   last-inv : (r : Item Design) (d : Design) → last file r ≡ accepted d → (past : ℕ) × (r ≡ item d past) × (1 ≤ length (movers d)) × (length (movers d) ≤ maxMovers)
-  last-inv (item d′ past) d e = go (leb 1 (length (movers d′)) && leb (length (movers d′)) maxMovers) refl e
+  last-inv (item d′ past) d e = go (moversRight (length (movers d′))) refl e
     where
-      go : (t : Bool) → (leb 1 (length (movers d′)) && leb (length (movers d′)) maxMovers) ≡ t → cond t (accepted d′) (Checked.refused 10 (length file)) ≡ accepted d → (p : ℕ) × (item d′ past ≡ item d p) × (1 ≤ length (movers d)) × (length (movers d) ≤ maxMovers)
+      go : (t : Bool) → moversRight (length (movers d′)) ≡ t → cond t (accepted d′) (Checked.refused 10 (length file)) ≡ accepted d → (p : ℕ) × (item d′ past ≡ item d p) × (1 ≤ length (movers d)) × (length (movers d) ≤ maxMovers)
       go true q e′ =
           let s : d′ ≡ d = cc in
           let r = and-inv _ _ q in
@@ -204,25 +168,20 @@ module _ (file : List ℕ) where
       go false q e′ = let z : _≡_ {A = ℕ} 0 1 = cc in absurd (omega arith)
   last-inv (refused i p) d e = let z : _≡_ {A = ℕ} 0 1 = cc in absurd (omega arith)
 
-  abbrev lengths : Bool
-  lengths = leb trailerBytes (length file) && leb (length file) maxBytes
-
-  abbrev matrices-right : Bool
-  matrices-right = leb 1 (matrixCount file) && leb (matrixCount file) maxMatrices
-
   abbrev counts : Bool
-  counts = leb (variableCount file) maxVariables && matrices-right && leb (cellCount file) maxCells
+  counts = countsRight (variableCount file) (matrixCount file) (cellCount file)
 
   pub whole : (d : Design) → check file ≡ accepted d → Whole d
   unfolding check
   whole d e =
-      let (past, h, lo, hi) = last-inv (need lengths 1 (length file) (need (eqb (version file) 1) 2 (trailer file) (need counts 3 (trailer file) (body file 0)))) d e in
-      let (t₁, h₁) = need-inv lengths 1 (length file) (need (eqb (version file) 1) 2 (trailer file) (need counts 3 (trailer file) (body file 0))) d past h in
+      let (past, h, lo, hi) = last-inv (need (lengthRight (length file)) 1 (length file) (need (eqb (version file) 1) 2 (trailer file) (need counts 3 (trailer file) (body file 0)))) d e in
+      let (t₁, h₁) = need-inv (lengthRight (length file)) 1 (length file) (need (eqb (version file) 1) 2 (trailer file) (need counts 3 (trailer file) (body file 0))) d past h in
       let (t₂, h₂) = need-inv (eqb (version file) 1) 2 (trailer file) (need counts 3 (trailer file) (body file 0)) d past h₁ in
       let (t₃, h₃) = need-inv counts 3 (trailer file) (body file 0) d past h₂ in
       let a = and-inv (leb trailerBytes (length file)) (leb (length file) maxBytes) t₁ in
-      let b = and-inv (leb (variableCount file) maxVariables && matrices-right) (leb (cellCount file) maxCells) t₃ in
-      let b′ = and-inv (leb (variableCount file) maxVariables) matrices-right (b .0) in
+      let few = leb 1 (matrixCount file) && leb (matrixCount file) maxMatrices in
+      let b = and-inv (leb (variableCount file) maxVariables && few) (leb (cellCount file) maxCells) t₃ in
+      let b′ = and-inv (leb (variableCount file) maxVariables) few (b .0) in
       let m = and-inv (leb 1 (matrixCount file)) (leb (matrixCount file) maxMatrices) (b′ .1) in
       record {
         long = leb-true _ _ (a .0);

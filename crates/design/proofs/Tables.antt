@@ -1,9 +1,9 @@
 -- The loops that fill the tables: what has been filled so far. Assumes nothing.
 use mathlib.Core.Path.{_≡_, refl, sym, ap, subst, _∙_}
-use mathlib.Core.Bool.{Bool, true, false, cond}
+use mathlib.Core.Bool.{cond}
 use mathlib.Core.List.{List, [], _∷_, _++_, append-assoc, map}
 use mathlib.Core.Logic.{⊎-elim}
-use Prim.Native.Nat.{ℕ, zero, suc, _+_, _*_, _-_, _<_, _≤_}
+use Prim.Native.Nat.{ℕ, suc, _+_, _*_, _-_, _<_, _≤_}
 use native.Mathlib.Omega.{arith}
 use native.Mathlib.Numerals.{add-one}
 use native.Mathlib.Nat.{eq-or-lt-of-le}
@@ -11,9 +11,7 @@ use lib.ListN.{getD, length, take, set, length-set, length-append, length-map}
 use lib.Seq.{getD-set-same, getD-set-other, take-suc-set, length-take-le}
 use lib.Dec.{eqb}
 use borrow.Author.Tests.{eq-eqb, ne-eqb}
-use borrow.Author.Count.{below-more}
-use Rattle.design.specs.Tree.{Design, Mover, cell, movers, externals}
-use Rattle.design.specs.Limits.{maxMovers, maxEvents}
+use Rattle.design.specs.Tree.{cell, movers, externals}
 use Rattle.design.specs.DesignFile.{events, at8, c-kind, c-past}
 use Rattle.design.specs.Check.{trailer, matricesOffset, matrixCount, eventsOffset, cellsOffset, cellCount}
 use Rattle.design.specs.Places.{Accepted, pastEvents, pastCells, eventsStart, eventPlace, normalsFrom, normalPlaces, EventsIndexed, CellsIndexed}

@@ -9,7 +9,7 @@ use lib.Dec.{ltb, leb, eqb}
 use borrow.Author.Tests.{ltb-true, eqb-true, eqb-false, not-true}
 use Rattle.design.specs.Tree.{IntExpr, BoolExpr, Stmt, Stmts, constant, variable, status, constantB, variableB, notB, assign, assignB, ifElse, done, then, truth}
 use Rattle.design.specs.Limits.{maxDepth}
-use Rattle.design.specs.Reading.{Read, got, bad, Reader, when, bind, Line, lookup}
+use Rattle.design.specs.Reading.{Read, got, bad, Reader, provided, bind, Line, lookup}
 use Rattle.design.specs.Expression.{Names, IntOp, BoolOp, intOps, boolOps, intOp, boolOp, byte, word, intOf, boolOf, intExpr, boolExpr}
 use Rattle.design.specs.Action.{StmtOp, stmtOp, value, assignment, statements, listOf, conditional, stmtOf, statement, list}
 use Rattle.design.specs.State.{Layout}
@@ -29,9 +29,9 @@ pub all-bind : {A B : Type 0} (P : A → Type 0) (Q : B → Type 0) (x : Read A)
 all-bind P Q (got a n) k h f = f a n (h .of a n refl)
 all-bind P Q bad k h f = all-bad Q
 
-pub all-when : {A : Type 0} (P : A → Type 0) (t : Bool) (r : Read A) → (t ≡ true → All P r) → All P (when t r)
-all-when P true r f = f refl
-all-when P false r f = all-bad P
+pub all-provided : {A : Type 0} (P : A → Type 0) (t : Bool) (r : Read A) → (t ≡ true → All P r) → All P (provided t r)
+all-provided P true r f = f refl
+all-provided P false r f = all-bad P
 
 AllLines : {A : Type 0} → (A → Type 0) → List (Line A) → Type 0
 AllLines P [] = Unit {0}
@@ -93,11 +93,11 @@ module _ (text : List ℕ) (names : Names) (ws : List ℕ) (l : Layout)
     intOf-ok : (operand : Reader IntExpr) → ((at : ℕ) → All OkI (operand at)) → (o : IntOp) → KeepsI OkI OkB o → (at : ℕ) → All OkI (intOf text names end operand o at)
     intOf-ok operand h IntOp.op-constant k at =
         all-bind (λ c. c < 65536) OkI (word text names end at) _
-        (all-when (λ c. c < 65536) (leb (at + 2) end) _ (λ e. all-got (λ c. c < 65536) _ _ (omega (arith, bytes at, bytes (at + 1))))) (λ c n p. all-got OkI (constant c) n p)
+        (all-provided (λ c. c < 65536) (leb (at + 2) end) _ (λ e. all-got (λ c. c < 65536) _ _ (omega (arith, bytes at, bytes (at + 1))))) (λ c n p. all-got OkI (constant c) n p)
     intOf-ok operand h IntOp.op-variable k at =
-        all-bind (λ c. Unit {0}) OkI (byte text names end at) _ (any _) (λ v n p. all-when OkI (ltb v (names .variables)) (when (eqb (names .kindOf v) 1) (got (variable v) n)) (λ e. all-when OkI (eqb (names .kindOf v) 1) (got (variable v) n) (λ f. all-got OkI (variable v) n (ints v (ltb-true _ _ e) (eqb-true _ _ f)))))
+        all-bind (λ c. Unit {0}) OkI (byte text names end at) _ (any _) (λ v n p. all-provided OkI (ltb v (names .variables)) (provided (eqb (names .kindOf v) 1) (got (variable v) n)) (λ e. all-provided OkI (eqb (names .kindOf v) 1) (got (variable v) n) (λ f. all-got OkI (variable v) n (ints v (ltb-true _ _ e) (eqb-true _ _ f)))))
     intOf-ok operand h IntOp.op-status k at =
-        all-bind (λ c. Unit {0}) OkI (byte text names end at) _ (any _) (λ v n p. all-when OkI (ltb v (names .matrices)) (got (status v) n) (λ e. all-got OkI (status v) n (statuses v (ltb-true _ _ e))))
+        all-bind (λ c. Unit {0}) OkI (byte text names end at) _ (any _) (λ v n p. all-provided OkI (ltb v (names .matrices)) (got (status v) n) (λ e. all-got OkI (status v) n (statuses v (ltb-true _ _ e))))
     intOf-ok operand h IntOp.op-unknown k at = all-bad OkI
     intOf-ok operand h (IntOp.op-ints f) k at =
         all-bind OkI OkI (operand at) _ (h at) (λ a n p. all-bind OkI OkI (operand n) _ (h n) (λ b m q. all-got OkI (f a b) m (k a b p q)))
@@ -111,10 +111,10 @@ module _ (text : List ℕ) (names : Names) (ws : List ℕ) (l : Layout)
 
     boolOf-ok : (int : Reader IntExpr) → ((at : ℕ) → All OkI (int at)) → (operand : Reader BoolExpr) → ((at : ℕ) → All OkB (operand at)) → (o : BoolOp) → KeepsB OkI OkB o → (at : ℕ) → All OkB (boolOf text names end int operand o at)
     boolOf-ok int i operand h BoolOp.op-constant k at =
-        all-bind (λ c. Unit {0}) OkB (byte text names end at) _ (any _) (λ v n p. all-when OkB (leb v 1) (got (constantB (truth v)) n) (λ e. all-got OkB (constantB (truth v)) n tt))
+        all-bind (λ c. Unit {0}) OkB (byte text names end at) _ (any _) (λ v n p. all-provided OkB (leb v 1) (got (constantB (truth v)) n) (λ e. all-got OkB (constantB (truth v)) n tt))
     boolOf-ok int i operand h BoolOp.op-variable k at =
         all-bind (λ c. Unit {0}) OkB (byte text names end at) _ (any _)
-        (λ v n p. all-when OkB (ltb v (names .variables)) (when (not (eqb (names .kindOf v) 1)) (got (variableB v) n)) (λ e. all-when OkB (not (eqb (names .kindOf v) 1)) (got (variableB v) n) (λ f. all-got OkB (variableB v) n (flags v (ltb-true _ _ e) (eqb-false _ _ (not-true _ f))))))
+        (λ v n p. all-provided OkB (ltb v (names .variables)) (provided (not (eqb (names .kindOf v) 1)) (got (variableB v) n)) (λ e. all-provided OkB (not (eqb (names .kindOf v) 1)) (got (variableB v) n) (λ f. all-got OkB (variableB v) n (flags v (ltb-true _ _ e) (eqb-false _ _ (not-true _ f))))))
     boolOf-ok int i operand h BoolOp.op-not k at =
         all-bind OkB OkB (operand at) _ (h at) (λ a n p. all-got OkB (notB a) n p)
     boolOf-ok int i operand h BoolOp.op-unknown k at = all-bad OkB
@@ -146,7 +146,7 @@ module _ (text : List ℕ) (names : Names) (ws : List ℕ) (l : Layout)
     unfolding assignment
     assignment-ok at =
         all-bind (λ c. Unit {0}) RightS (byte text names end at) _ (any _)
-        (λ v n p. all-when RightS (ltb v (names .variables)) (value text names end v (eqb (names .kindOf v) 1) n) (λ e. value-ok v (ltb-true _ _ e) _ refl n))
+        (λ v n p. all-provided RightS (ltb v (names .variables)) (value text names end v (eqb (names .kindOf v) 1) n) (λ e. value-ok v (ltb-true _ _ e) _ refl n))
 
     module _ (one : Reader Stmt) (h : (at : ℕ) → All RightS (one at)) where
       statements-ok : (n at : ℕ) → All RightSs (statements text names end one n at)

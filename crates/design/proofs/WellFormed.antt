@@ -15,10 +15,11 @@ use Rattle.design.specs.Limits.{maxDepth, maxNest, maxStatuses, maxEvent
 use Rattle.design.specs.Reading.{Read, got, bad}
 use Rattle.design.specs.Expression.{Names, boolExpr}
 use Rattle.design.specs.DesignFile.{item, need, filling, Matrix, Entry, normal, invalid, kind, variableAt, matrixAt, eventAt, events, statuses, cellAt, invariantAt, c-past, fields, ending, ordered, guard, action, entry}
-use Rattle.design.specs.Check.{accepted, normals, invalids, trailer, variableCount, matricesOffset, matrixCount, eventsOffset, invariantOffset, names, check}
+use Rattle.design.specs.Check.{accepted, normals, invalids, trailer, variableCount, matricesOffset, matrixCount, eventsOffset, invariantOffset, names, check, eventIn}
 use Rattle.design.specs.WellFormed.{Narrow, IsStatus, BoolOk, StmtsOk, InRange, CellOk, InvalidOk, MoversOk, InvalidsOk, StatusesOk, WellFormed}
 use Rattle.design.proofs.Trees.{All, bool-ok, list-ok}
-use Rattle.design.proofs.Sections.{after-inv, need-inv, and-inv, item-same, item-past, Run, Rows, Cells, eventIn, Parts, whole}
+use Rattle.design.specs.Sections.{Run, Rows, Cells, Parts}
+use Rattle.design.proofs.Sections.{after-inv, need-inv, and-inv, item-same, item-past, whole}
 
 or-inv : (a b : Bool) → (a || b) ≡ true → (a ≡ true) ⊎ (b ≡ true)
 or-inv true b e = inl refl
@@ -173,13 +174,13 @@ module _ (file : List ℕ) (bytes : (i : ℕ) → getD file i 0 < 256) (d : Desi
   row-ok (x ∷ xs) at past r zero = event-ok at x (r .0) (r .1)
   row-ok (x ∷ xs) at past r (suc e) = row-ok xs (r .0) past (r .2) e
 
-  rows-ok : (rows : List (List BoolExpr)) (m at past : ℕ) → Rows file m at rows past → (i e : ℕ) → BoolOk (widths d) (layout d) (eventIn file rows i e)
+  rows-ok : (rows : List (List BoolExpr)) (m at past : ℕ) → Rows file m at rows past → (i e : ℕ) → BoolOk (widths d) (layout d) (eventIn rows i e)
   rows-ok [] m at past r i e = tt
   rows-ok (x ∷ xs) m at past r zero e = row-ok x at (r .0) (r .2) e
   rows-ok (x ∷ xs) m at past r (suc i) e = rows-ok xs (m + 1) (r .0) past (r .3) i e
 
   abbrev evs : ℕ → ℕ → BoolExpr
-  evs = eventIn file (p .rows)
+  evs = eventIn (p .rows)
 
   guard-ok : (at n : ℕ) (g : BoolExpr) (q : ℕ) → guard file E N at n ≡ item g q → BoolOk (widths d) (layout d) g
   guard-ok at zero g q e = subst (BoolOk (widths d) (layout d)) (item-same _ _ _ _ e) tt

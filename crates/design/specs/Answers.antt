@@ -1,12 +1,13 @@
 -- What the code answers, of what the definitions say.
 use Prim.Native.Nat.{ℕ, _+_}
+use mathlib.Core.Path.{_≡_}
 use mathlib.Core.Bool.{cond}
 use mathlib.Core.List.{List, [], _∷_}
 use lib.Dec.{eqb}
 use Rattle.design.specs.Tree.{Variable, ifExternal, Design, movers}
 use Rattle.design.specs.Reading.{Read, got, bad}
-use Rattle.design.specs.DesignFile.{Item, item, refused, Entry, normal, invalid}
-use Rattle.design.specs.Check.{Checked, accepted}
+use Rattle.design.specs.DesignFile.{Item, item, refused, items, Entry, normal, invalid, variableAt, matrixAt, eventsFrom}
+use Rattle.design.specs.Check.{Checked, accepted, namesOf}
 use lib.ListN.{length}
 use Rattle.design.specs.declared.Refusal.{Refusal}
 use Rattle.design.specs.declared.expression.Found.{Found}
@@ -51,6 +52,17 @@ moves (invalid p) = 0
 abbrev pub bodied : Item Design → Counted
 bodied (item d n) = Passed n (length (movers d))
 bodied (refused number place) = Stopped number place
+
+-- the first sections are right and end where the next ones stand
+module _ (file : List ℕ) (end : ℕ) where
+  abbrev pub VariablesRight : ℕ → ℕ → ℕ → Type 0
+  VariablesRight variables matricesAt externals = Passed matricesAt externals ≡ counted raises 0 (items (variableAt file end) variables 0)
+
+  abbrev pub MatricesRight : ℕ → ℕ → ℕ → Type 0
+  MatricesRight matricesAt matrices eventsAt = Past eventsAt ≡ walked (items (matrixAt file end) matrices matricesAt)
+
+  abbrev pub EventsRight : ℕ → ℕ → ℕ → ℕ → ℕ → Type 0
+  EventsRight variables matricesAt matrices eventsAt cellsAt = Past cellsAt ≡ walked (eventsFrom file end (namesOf file variables matrices) matricesAt 0 matrices eventsAt)
 
 -- of the whole, the refusal's number and place; 0 and 0 where it is accepted
 abbrev pub refusal : Checked → Refusal

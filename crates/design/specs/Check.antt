@@ -1,11 +1,11 @@
 -- CHECK (document 01, "Turned-back calls"): a file is refused, by a number and a place, or accepted as a tree.
 use Prim.Native.Nat.{ℕ, _+_, _*_, _-_}
-use mathlib.Core.Bool.{false, cond, _&&_}
+use mathlib.Core.Bool.{false, cond}
 use mathlib.Core.List.{List, [], _∷_, map}
 use lib.ListN.{getD, length}
-use lib.Dec.{leb, eqb}
-use Rattle.design.specs.Tree.{constantB, Cell, InvalidCell, Design, movers}
-use Rattle.design.specs.Limits.{maxBytes, trailerBytes, maxVariables, maxMatrices, maxCells, maxMovers}
+use lib.Dec.{eqb}
+use Rattle.design.specs.Tree.{BoolExpr, constantB, Cell, InvalidCell, Design, movers}
+use Rattle.design.specs.Limits.{trailerBytes, lengthRight, countsRight, moversRight}
 use Rattle.design.specs.Expression.{Names, intOp, boolOp, intExpr, boolExpr}
 use Rattle.design.specs.Action.{stmtOp, assignment, statements, listOf, statement}
 use Rattle.design.specs.DesignFile.{Item, item, Walk, give, need, _>>=_, _>>_, items, offset, Matrix, Entry, normal, invalid, at16, variableAt, matrixAt, eventAt, eventsFrom, cellAt, cellsFrom, invariantAt as invariantItem}
@@ -28,6 +28,10 @@ invalids [] = []
 invalids (normal c ∷ es) = invalids es
 invalids (invalid p ∷ es) = p ∷ invalids es
 
+-- event e of matrix m
+abbrev pub eventIn : List (List BoolExpr) → ℕ → ℕ → BoolExpr
+eventIn rows m e = getD (getD rows m []) e (constantB false)
+
 -- the items in file order, with what the trailer says of them; they end at `end`
 module _ (file : List ℕ) (end variables matricesAt matrices eventsAt cellsAt cells invariantAt : ℕ) where
   unfoldable pub sections : Walk Design
@@ -38,7 +42,7 @@ module _ (file : List ℕ) (end variables matricesAt matrices eventsAt cellsAt c
     offset eventsAt
     rows ← eventsFrom file end (namesOf file variables matrices) matricesAt 0 matrices
     offset cellsAt
-    es ← (λ at. cellsFrom file end (namesOf file variables matrices) matricesAt (λ m e. getD (getD rows m []) e (constantB false)) cells at at)
+    es ← (λ at. cellsFrom file end (namesOf file variables matrices) matricesAt (eventIn rows) cells at at)
     offset invariantAt
     invariant ← invariantItem file end (namesOf file variables matrices)
     give (record {
@@ -87,14 +91,14 @@ module _ (file : List ℕ) where
   -- last, the number of movers
   abbrev pub last : Item Design → Checked
   last (item d past) =
-      cond (leb 1 (length (movers d)) && leb (length (movers d)) maxMovers) (accepted d) (Checked.refused 10 (length file))
+      cond (moversRight (length (movers d))) (accepted d) (Checked.refused 10 (length file))
   last (Item.refused number place) = Checked.refused number place
 
   unfoldable pub check : Checked
   check = last (
-      need (leb trailerBytes (length file) && leb (length file) maxBytes) 1 (length file)
+      need (lengthRight (length file)) 1 (length file)
       (need (eqb version 1) 2 trailer
-      (need (leb variableCount maxVariables && (leb 1 matrixCount && leb matrixCount maxMatrices) && leb cellCount maxCells) 3 trailer
+      (need (countsRight variableCount matrixCount cellCount) 3 trailer
       (body 0))))
 
 -- Not part of CHECK: to unfold this is to unfold all that a check computes, for facts about given bytes.

@@ -5,7 +5,7 @@ use mathlib.Core.List.{List, [], _∷_}
 use lib.ListN.{getD}
 use lib.Dec.{ltb, leb, eqb}
 use Rattle.design.specs.Tree.{IntExpr, BoolExpr, constant, variable, status, sum, difference, constantB, variableB, notB, andB, orB, equal, less, truth}
-use Rattle.design.specs.Reading.{got, Reader, yield, fail, when, demand, _>>=_, Line, _means_, lookup}
+use Rattle.design.specs.Reading.{got, Reader, yield, fail, provided, demand, _>>=_, Line, _means_, lookup}
 
 -- What an expression may name: the variables with their kinds, and the matrices.
 pub record Names : Type 0 where
@@ -50,10 +50,10 @@ boolOp b = lookup BoolOp.op-unknown boolOps b
 -- `text` holds the expression, which must not pass `end`. The names it may use come from elsewhere: an expression need not stand in the file that names its variables.
 module _ (text : List ℕ) (names : Names) (end : ℕ) where
   abbrev pub byte : Reader ℕ
-  byte at = when (ltb at end) (got (getD text at 0) (at + 1))
+  byte at = provided (ltb at end) (got (getD text at 0) (at + 1))
 
   abbrev pub word : Reader ℕ
-  word at = when (leb (at + 2) end) (got (getD text at 0 + 256 * getD text (at + 1) 0) (at + 2))
+  word at = provided (leb (at + 2) end) (got (getD text at 0 + 256 * getD text (at + 1) 0) (at + 2))
 
   abbrev pub isVariable : ℕ → Bool
   isVariable v = ltb v (names .variables)

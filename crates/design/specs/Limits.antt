@@ -1,5 +1,7 @@
 -- The limits of the design file, in one place.
 use Prim.Native.Nat.{ℕ}
+use mathlib.Core.Bool.{Bool, _&&_}
+use lib.Dec.{leb}
 
 -- bytes of a file, and of its trailer
 abbrev pub maxBytes : ℕ
@@ -33,3 +35,13 @@ maxDepth = 16
 
 abbrev pub maxNest : ℕ
 maxNest = 4
+
+-- the tests of a file's length, of the trailer's counts, and of the number of movers
+abbrev pub lengthRight : ℕ → Bool
+lengthRight bytes = leb trailerBytes bytes && leb bytes maxBytes
+
+abbrev pub countsRight : ℕ → ℕ → ℕ → Bool
+countsRight variables matrices cells = leb variables maxVariables && (leb 1 matrices && leb matrices maxMatrices) && leb cells maxCells
+
+abbrev pub moversRight : ℕ → Bool
+moversRight movers = leb 1 movers && leb movers maxMovers

@@ -18,13 +18,13 @@ module _ {A : Type 0} where
   abbrev pub fail : Reader A
   fail at = bad
 
-  abbrev pub when : Bool → Read A → Read A
-  when true r = r
-  when false r = bad
+  abbrev pub provided : Bool → Read A → Read A
+  provided true r = r
+  provided false r = bad
 
   -- reads on only where the test holds
   abbrev pub demand : Bool → Reader A → Reader A
-  demand t r at = when t (r at)
+  demand t r at = provided t (r at)
 
 abbrev pub bind : {A B : Type 0} → Read A → (A → ℕ → Read B) → Read B
 bind (got a n) k = k a n

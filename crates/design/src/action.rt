@@ -48,8 +48,10 @@ pub fn check_stmt(
     }
     let op = text[at];
     match op {
-        0x20 => check_assign(text, file, at + 1, end, nv, nm),
-        0x21 => {
+        0x20..=0x21 => {
+            if op == 0x20 {
+                return check_assign(text, file, at + 1, end, nv, nm);
+            }
             if nest == 0 {
                 return Found::Bad;
             }

@@ -9,16 +9,22 @@ pub mod limits;
 pub mod section;
 
 ghost use mathlib.Core.Path.{_≡_};
-ghost use Rattle.design.specs.Check.{check as checked};
+ghost use Rattle.design.specs.Check.{check as checked, refused};
 ghost use Rattle.design.specs.Answers.{refusal};
 use bytes::word;
+use index::CELLS;
+use index::CELLS_AT;
+use index::EVENTS_AT;
+use index::INVARIANT_AT;
+use index::MATRICES;
+use index::MATRICES_AT;
+use index::VARIABLES;
+use index::trailer_word;
 use item::Counted;
-use limits::MAX_BYTES;
-use limits::MAX_CELLS;
-use limits::MAX_MATRICES;
-use limits::MAX_MOVERS;
-use limits::MAX_VARIABLES;
 use limits::TRAILER;
+use limits::counts_right;
+use limits::length_right;
+use limits::movers_right;
 use section::check_sections;
 
 // CHECK's answer: number 0 for an accepted file.
@@ -27,84 +33,46 @@ pub struct Refusal {
     pub place: usize,
 }
 
+pub fn answer(number: u8, place: usize) -> Refusal
+    ensures { λ r. ⌜ r ≡ refusal (refused number place) ⌝ }
+{
+    Refusal {
+        number: number,
+        place: place,
+    }
+}
+
 // CHECK.
 pub fn check(file: &[u8]) -> Refusal
     ensures { λ r. ⌜ r ≡ refusal (checked (now (file .entry))) ⌝ }
 {
     let len = file.len();
-    if len < TRAILER {
-        return Refusal {
-            number: 1,
-            place: len,
-        };
-    }
-    if MAX_BYTES < len {
-        return Refusal {
-            number: 1,
-            place: len,
-        };
+    if !length_right(len) {
+        return answer(1, len);
     }
     let end = len - TRAILER;
     let version = word(file, end);
     if version != 1 {
-        return Refusal {
-            number: 2,
-            place: end,
-        };
+        return answer(2, end);
     }
-    let nv = word(file, end + 2);
-    if MAX_VARIABLES < nv {
-        return Refusal {
-            number: 3,
-            place: end,
-        };
+    let nv = trailer_word(file, VARIABLES);
+    let mats = trailer_word(file, MATRICES_AT);
+    let nm = trailer_word(file, MATRICES);
+    let events = trailer_word(file, EVENTS_AT);
+    let cells = trailer_word(file, CELLS_AT);
+    let nc = trailer_word(file, CELLS);
+    let invariant = trailer_word(file, INVARIANT_AT);
+    if !counts_right(nv, nm, nc) {
+        return answer(3, end);
     }
-    let nm = word(file, end + 6);
-    if nm < 1 {
-        return Refusal {
-            number: 3,
-            place: end,
-        };
-    }
-    if MAX_MATRICES < nm {
-        return Refusal {
-            number: 3,
-            place: end,
-        };
-    }
-    let nc = word(file, end + 12);
-    if MAX_CELLS < nc {
-        return Refusal {
-            number: 3,
-            place: end,
-        };
-    }
-    let mats = word(file, end + 4);
-    let events = word(file, end + 8);
-    let cells = word(file, end + 10);
-    let invariant = word(file, end + 14);
     match check_sections(file, end, nv, mats, nm, events, cells, nc, invariant) {
-        Counted::Passed(_, w) => {
-            if w < 1 {
-                return Refusal {
-                    number: 10,
-                    place: len,
-                };
-            }
-            if MAX_MOVERS < w {
-                return Refusal {
-                    number: 10,
-                    place: len,
-                };
-            }
-            Refusal {
-                number: 0,
-                place: 0,
+        Counted::Passed(_, movers) => {
+            if movers_right(movers) {
+                answer(0, 0)
+            } else {
+                answer(10, len)
             }
         }
-        Counted::Stopped(number, place) => Refusal {
-            number: number,
-            place: place,
-        },
+        Counted::Stopped(number, place) => answer(number, place),
     }
 }

@@ -1,4 +1,7 @@
-// The limits of the design file, as specs/Limits.antt has them.
+// The limits of the design file, as specs/Limits.antt has them, and their tests.
+ghost use mathlib.Core.Path.{_≡_};
+ghost use Rattle.design.specs.Limits.{lengthRight, countsRight, moversRight};
+
 pub const MAX_BYTES: usize = 16384;
 
 pub const TRAILER: usize = 16;
@@ -18,3 +21,39 @@ pub const MAX_MOVERS: usize = 64;
 pub const MAX_DEPTH: usize = 16;
 
 pub const MAX_NEST: usize = 4;
+
+// Whether a file may have so many bytes.
+pub fn length_right(bytes: usize) -> bool
+    ensures { λ r. ⌜ r ≡ lengthRight bytes ⌝ }
+{
+    if bytes < TRAILER {
+        return false;
+    }
+    bytes <= MAX_BYTES
+}
+
+// Whether a trailer may have these counts.
+pub fn counts_right(variables: usize, matrices: usize, cells: usize) -> bool
+    ensures { λ r. ⌜ r ≡ countsRight variables matrices cells ⌝ }
+{
+    if MAX_VARIABLES < variables {
+        return false;
+    }
+    if matrices < 1 {
+        return false;
+    }
+    if MAX_MATRICES < matrices {
+        return false;
+    }
+    cells <= MAX_CELLS
+}
+
+// Whether a design may have so many movers.
+pub fn movers_right(movers: usize) -> bool
+    ensures { λ r. ⌜ r ≡ moversRight movers ⌝ }
+{
+    if movers < 1 {
+        return false;
+    }
+    movers <= MAX_MOVERS
+}

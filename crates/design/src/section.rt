@@ -5,7 +5,7 @@ ghost use lib.ListN.{length};
 ghost use Rattle.design.specs.Tree.{BoolExpr};
 ghost use Rattle.design.specs.DesignFile.{items, variableAt, matrixAt, eventAt, eventsFrom, cellsFrom};
 ghost use Rattle.design.specs.Check.{namesOf, sections};
-ghost use Rattle.design.specs.Answers.{walked, counted, raises, moves, bodied};
+ghost use Rattle.design.specs.Answers.{walked, counted, raises, moves, bodied, VariablesRight, MatricesRight, EventsRight};
 use super::bytes::wide;
 use super::cell::check_cell;
 use super::item::Counted;
@@ -138,6 +138,90 @@ pub fn check_cells(
     Counted::Passed(p, normals)
 }
 
+// The sections from the cells on, where those before are right.
+pub fn check_from_cells(
+    file: &[u8],
+    end: usize,
+    nv: usize,
+    mats: usize,
+    nm: usize,
+    events: usize,
+    cells: usize,
+    nc: usize,
+    invariant: usize,
+    externals: usize,
+) -> Counted
+    requires { ⌜ (end + 16 ≤ length (now file)) × (nv < 65536) × (nc < 65536) × VariablesRight (now file) end nv mats externals × MatricesRight (now file) end mats nm events × EventsRight (now file) end nv mats nm events cells ⌝ }
+    ensures { λ r. ⌜ r ≡ bodied (sections (now (file .entry)) end nv mats nm events cells nc invariant 0) ⌝ }
+{
+    match check_cells(file, end, nv, nm, mats, nc, cells) {
+        Counted::Passed(p, normals) => {
+            if invariant != p {
+                return Counted::Stopped(4, p);
+            }
+            match check_invariant(file, end, nv, nm, invariant) {
+                Walked::Past(q) => Counted::Passed(q, normals + externals),
+                Walked::Refused(number, place) => Counted::Stopped(number, place),
+            }
+        }
+        Counted::Stopped(number, place) => Counted::Stopped(number, place),
+    }
+}
+
+// The sections from the events on, likewise.
+pub fn check_from_events(
+    file: &[u8],
+    end: usize,
+    nv: usize,
+    mats: usize,
+    nm: usize,
+    events: usize,
+    cells: usize,
+    nc: usize,
+    invariant: usize,
+    externals: usize,
+) -> Counted
+    requires { ⌜ (end + 16 ≤ length (now file)) × (nv < 65536) × (nc < 65536) × VariablesRight (now file) end nv mats externals × MatricesRight (now file) end mats nm events ⌝ }
+    ensures { λ r. ⌜ r ≡ bodied (sections (now (file .entry)) end nv mats nm events cells nc invariant 0) ⌝ }
+{
+    match check_events(file, end, nv, nm, mats, events) {
+        Walked::Past(p) => {
+            if cells != p {
+                return Counted::Stopped(4, p);
+            }
+            check_from_cells(file, end, nv, mats, nm, events, cells, nc, invariant, externals)
+        }
+        Walked::Refused(number, place) => Counted::Stopped(number, place),
+    }
+}
+
+// The sections from the matrices on, likewise.
+pub fn check_from_matrices(
+    file: &[u8],
+    end: usize,
+    nv: usize,
+    mats: usize,
+    nm: usize,
+    events: usize,
+    cells: usize,
+    nc: usize,
+    invariant: usize,
+    externals: usize,
+) -> Counted
+    requires { ⌜ (end + 16 ≤ length (now file)) × (nv < 65536) × (nc < 65536) × VariablesRight (now file) end nv mats externals ⌝ }
+    ensures { λ r. ⌜ r ≡ bodied (sections (now (file .entry)) end nv mats nm events cells nc invariant 0) ⌝ }
+{
+    match check_matrices(file, end, nm, mats) {
+        Walked::Past(p) => {
+            if events != p {
+                return Counted::Stopped(4, p);
+            }
+            check_from_events(file, end, nv, mats, nm, events, cells, nc, invariant, externals)
+        }
+        Walked::Refused(number, place) => Counted::Stopped(number, place),
+    }
+}
+
 // All sections, each at its offset.
 pub fn check_sections(
     file: &[u8],
@@ -158,37 +242,7 @@ pub fn check_sections(
             if mats != p {
                 return Counted::Stopped(4, p);
             }
-            match check_matrices(file, end, nm, mats) {
-                Walked::Past(q) => {
-                    if events != q {
-                        return Counted::Stopped(4, q);
-                    }
-                    match check_events(file, end, nv, nm, mats, events) {
-                        Walked::Past(s) => {
-                            if cells != s {
-                                return Counted::Stopped(4, s);
-                            }
-                            match check_cells(file, end, nv, nm, mats, nc, cells) {
-                                Counted::Passed(t, normals) => {
-                                    if invariant != t {
-                                        return Counted::Stopped(4, t);
-                                    }
-                                    match check_invariant(file, end, nv, nm, invariant) {
-                                        Walked::Past(u) => Counted::Passed(u, normals + externals),
-                                        Walked::Refused(number, place) => Counted::Stopped(
-                                            number,
-                                            place,
-                                        ),
-                                    }
-                                }
-                                Counted::Stopped(number, place) => Counted::Stopped(number, place),
-                            }
-                        }
-                        Walked::Refused(number, place) => Counted::Stopped(number, place),
-                    }
-                }
-                Walked::Refused(number, place) => Counted::Stopped(number, place),
-            }
+            check_from_matrices(file, end, nv, mats, nm, events, cells, nc, invariant, externals)
         }
         Counted::Stopped(number, place) => Counted::Stopped(number, place),
     }

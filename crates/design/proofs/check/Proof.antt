@@ -1,126 +1,121 @@
 -- `design::check` meets its contract. Assumes nothing.
-use Rattle.design.proofs.File.{whole-short, whole-long, whole-version, whole-variables, whole-no-matrix, whole-matrices, whole-cells, whole-stopped, whole-idle, whole-many, whole-accepted}
-use borrow.Author.Needs.{needs}
+use native.Mathlib.Omega.{arith}
+use mathlib.Core.Path.{_∙_}
+use lib.ListN.{length}
+use borrow.Author.Tests.{not-true, not-false}
+use Rattle.design.proofs.File.{length-low, whole-length, whole-version, whole-counts, whole-stopped, whole-movers, whole-accepted}
 use Rattle.design.proofs.check.Statement.{statement}
 use Rattle.design.proofs.check.Tie as tie
 
-returns : tie.Need-returns
-returns c = whole-short (c .before .before .args .file .now) (c .if1 .taken)
+length-right-requires : tie.Need-length-right-requires
+length-right-requires c κs = tt
 
-returns-2 : tie.Need-returns-2
-returns-2 c = whole-long (c .before .before .before .args .file .now) (c .if2 .taken)
+answer-requires : tie.Need-answer-requires
+answer-requires c κs = tt
+
+returns : tie.Need-returns
+returns c = c .answer .ensures ∙ whole-length (c .before .before .before .before .args .file .now) _ (c .before .before .length-right .ensures) (not-true _ (c .before .if1 .taken))
+
+sub-end : tie.Need-sub-end
+sub-end c = omega (arith, length-low _ (length (c .before .before .before .args .file .now)) (c .before .length-right .ensures) (not-false _ (c .if1 .left)))
 
 word-requires : tie.Need-word-requires
-word-requires c κs = search needs
+word-requires c κs = omega (arith, length-low _ (length (c .before .before .before .args .file .now)) (c .before .length-right .ensures) (not-false _ (c .if1 .left)))
+
+answer-requires-2 : tie.Need-answer-requires-2
+answer-requires-2 c κs = tt
+
+returns-2 : tie.Need-returns-2
+returns-2 c = c .answer2 .ensures ∙ whole-version (c .before .before .before .before .before .before .args .file .now) _ (c .before .before .before .before .length-right .ensures) (not-false _ (c .before .before .before .if1 .left)) _ (c .before .before .word .ensures .0) (c .before .if2 .taken)
+
+trailer-word-requires : tie.Need-trailer-word-requires
+trailer-word-requires c κs = omega (arith, length-low _ (length (c .before .before .before .before .before .args .file .now)) (c .before .before .before .length-right .ensures) (not-false _ (c .before .before .if1 .left)))
+
+trailer-word-requires-2 : tie.Need-trailer-word-requires-2
+trailer-word-requires-2 c κs = omega (arith, length-low _ (length (c .before .before .before .before .before .before .args .file .now)) (c .before .before .before .before .length-right .ensures) (not-false _ (c .before .before .before .if1 .left)))
+
+trailer-word-requires-3 : tie.Need-trailer-word-requires-3
+trailer-word-requires-3 c κs = omega (arith, length-low _ (length (c .before .before .before .before .before .before .before .args .file .now)) (c .before .before .before .before .before .length-right .ensures) (not-false _ (c .before .before .before .before .if1 .left)))
+
+trailer-word-requires-4 : tie.Need-trailer-word-requires-4
+trailer-word-requires-4 c κs = omega (arith, length-low _ (length (c .before .before .before .before .before .before .before .before .args .file .now)) (c .before .before .before .before .before .before .length-right .ensures) (not-false _ (c .before .before .before .before .before .if1 .left)))
+
+trailer-word-requires-5 : tie.Need-trailer-word-requires-5
+trailer-word-requires-5 c κs = omega (arith, length-low _ (length (c .before .before .before .before .before .before .before .before .before .args .file .now)) (c .before .before .before .before .before .before .before .length-right .ensures) (not-false _ (c .before .before .before .before .before .before .if1 .left)))
+
+trailer-word-requires-6 : tie.Need-trailer-word-requires-6
+trailer-word-requires-6 c κs = omega (arith, length-low _ (length (c .before .before .before .before .before .before .before .before .before .before .args .file .now)) (c .before .before .before .before .before .before .before .before .length-right .ensures) (not-false _ (c .before .before .before .before .before .before .before .if1 .left)))
+
+trailer-word-requires-7 : tie.Need-trailer-word-requires-7
+trailer-word-requires-7 c κs = omega (arith, length-low _ (length (c .before .before .before .before .before .before .before .before .before .before .before .args .file .now)) (c .before .before .before .before .before .before .before .before .before .length-right .ensures) (not-false _ (c .before .before .before .before .before .before .before .before .if1 .left)))
+
+counts-right-requires : tie.Need-counts-right-requires
+counts-right-requires c κs = tt
+
+answer-requires-3 : tie.Need-answer-requires-3
+answer-requires-3 c κs = tt
 
 returns-3 : tie.Need-returns-3
-returns-3 c = whole-version (c .before .before .before .before .before .args .file .now) (c .before .before .before .if1 .left) (c .before .before .if2 .left) _ (c .before .word .ensures .0) (c .if3 .taken)
-
-add-word : tie.Need-add-word
-add-word c = search needs
-
-word-requires-2 : tie.Need-word-requires-2
-word-requires-2 c κs = search needs
-
-returns-4 : tie.Need-returns-4
-returns-4 c = whole-variables (c .before .before .before .before .before .before .before .args .file .now) (c .before .before .before .before .before .if1 .left) (c .before .before .before .before .if2 .left) _ (c .before .before .before .word .ensures .0) (c .before .before .if3 .left) _ (c .before .word2 .ensures .0) (c .if4 .taken)
-
-add-word-2 : tie.Need-add-word-2
-add-word-2 c = search needs
-
-word-requires-3 : tie.Need-word-requires-3
-word-requires-3 c κs = search needs
-
-returns-5 : tie.Need-returns-5
-returns-5 c = whole-no-matrix (c .before .before .before .before .before .before .before .before .before .args .file .now) (c .before .before .before .before .before .before .before .if1 .left) (c .before .before .before .before .before .before .if2 .left) _ (c .before .before .before .before .before .word .ensures .0) (c .before .before .before .before .if3 .left) _ (c .before .before .before .word2 .ensures .0) _ (c .before .word3 .ensures .0) (c .if5 .taken)
-
-returns-6 : tie.Need-returns-6
-returns-6 c = whole-matrices (c .before .before .before .before .before .before .before .before .before .before .args .file .now) (c .before .before .before .before .before .before .before .before .if1 .left) (c .before .before .before .before .before .before .before .if2 .left) _ (c .before .before .before .before .before .before .word .ensures .0) (c .before .before .before .before .before .if3 .left) _ (c .before .before .before .before .word2 .ensures .0) _ (c .before .before .word3 .ensures .0) (c .if6 .taken)
-
-add-word-3 : tie.Need-add-word-3
-add-word-3 c = search needs
-
-word-requires-4 : tie.Need-word-requires-4
-word-requires-4 c κs = search needs
-
-returns-7 : tie.Need-returns-7
-returns-7 c = whole-cells (c .before .before .before .before .before .before .before .before .before .before .before .before .args .file .now) (c .before .before .before .before .before .before .before .before .before .before .if1 .left) (c .before .before .before .before .before .before .before .before .before .if2 .left) _ (c .before .before .before .before .before .before .before .before .word .ensures .0) (c .before .before .before .before .before .before .before .if3 .left) _ (c .before .before .before .before .before .before .word2 .ensures .0) _ (c .before .before .before .before .word3 .ensures .0) _ (c .before .word4 .ensures .0) (c .if7 .taken)
-
-add-word-4 : tie.Need-add-word-4
-add-word-4 c = search needs
-
-word-requires-5 : tie.Need-word-requires-5
-word-requires-5 c κs = search needs
-
-add-word-5 : tie.Need-add-word-5
-add-word-5 c = search needs
-
-word-requires-6 : tie.Need-word-requires-6
-word-requires-6 c κs = search needs
-
-add-word-6 : tie.Need-add-word-6
-add-word-6 c = search needs
-
-word-requires-7 : tie.Need-word-requires-7
-word-requires-7 c κs = search needs
-
-add-word-7 : tie.Need-add-word-7
-add-word-7 c = search needs
-
-word-requires-8 : tie.Need-word-requires-8
-word-requires-8 c κs = search needs
+returns-3 c = c .answer3 .ensures ∙ whole-counts (c .before .before .before .before .before .before .before .before .before .before .before .before .before .before .before .args .file .now) _ (c .before .before .before .before .before .before .before .before .before .before .before .before .before .length-right .ensures) (not-false _ (c .before .before .before .before .before .before .before .before .before .before .before .before .if1 .left)) _ (c .before .before .before .before .before .before .before .before .before .before .before .word .ensures .0) (c .before .before .before .before .before .before .before .before .before .before .if2 .left) _ _ _ (c .before .before .before .before .before .before .before .before .before .trailer-word .ensures .0) (c .before .before .before .before .before .before .before .trailer-word3 .ensures .0) (c .before .before .before .before .trailer-word6 .ensures .0) _ (c .before .before .counts-right .ensures) (not-true _ (c .before .if3 .taken))
 
 check-sections-requires : tie.Need-check-sections-requires
-check-sections-requires c κs = search needs
+check-sections-requires c κs = let h = length-low _ (length (c .before .before .before .before .before .before .before .before .before .before .before .before .before .before .args .file .now)) (c .before .before .before .before .before .before .before .before .before .before .before .before .length-right .ensures) (not-false _ (c .before .before .before .before .before .before .before .before .before .before .before .if1 .left)) in omega (arith, c .before .before .before .before .before .before .before .before .trailer-word .ensures .1, c .before .before .before .trailer-word6 .ensures .1)
 
-enum-known-w : tie.Need-enum-known-w
-enum-known-w c = search needs
+enum-known-movers : tie.Need-enum-known-movers
+enum-known-movers c = c .match .keys1
 
-returns-8 : tie.Need-returns-8
-returns-8 c = whole-idle (c .before .before .before .before .before .before .before .before .before .before .before .before .before .before .before .before .before .before .before .before .before .args .file .now) (c .before .before .before .before .before .before .before .before .before .before .before .before .before .before .before .before .before .before .before .if1 .left) (c .before .before .before .before .before .before .before .before .before .before .before .before .before .before .before .before .before .before .if2 .left) _ (c .before .before .before .before .before .before .before .before .before .before .before .before .before .before .before .before .before .word .ensures .0) (c .before .before .before .before .before .before .before .before .before .before .before .before .before .before .before .before .if3 .left) _ (c .before .before .before .before .before .before .before .before .before .before .before .before .before .before .before .word2 .ensures .0) _ (c .before .before .before .before .before .before .before .before .before .before .before .before .before .word3 .ensures .0) _ (c .before .before .before .before .before .before .before .before .before .before .word4 .ensures .0) (c .before .before .before .before .before .before .before .before .before .before .before .before .before .before .if4 .left) (c .before .before .before .before .before .before .before .before .before .before .before .before .if5 .left) (c .before .before .before .before .before .before .before .before .before .before .before .if6 .left) (c .before .before .before .before .before .before .before .before .before .if7 .left) _ _ _ _ (c .before .before .before .before .before .before .before .before .word5 .ensures .0) (c .before .before .before .before .before .before .before .word6 .ensures .0) (c .before .before .before .before .before .before .word7 .ensures .0) (c .before .before .before .before .before .word8 .ensures .0) _ _ _ (c .before .before .before .before .check-sections .ensures) (c .before .before .w .given .1) (c .if8 .taken)
+movers-right-requires : tie.Need-movers-right-requires
+movers-right-requires c κs = tt
 
-returns-9 : tie.Need-returns-9
-returns-9 c = whole-many (c .before .before .before .before .before .before .before .before .before .before .before .before .before .before .before .before .before .before .before .before .before .before .args .file .now) (c .before .before .before .before .before .before .before .before .before .before .before .before .before .before .before .before .before .before .before .before .if1 .left) (c .before .before .before .before .before .before .before .before .before .before .before .before .before .before .before .before .before .before .before .if2 .left) _ (c .before .before .before .before .before .before .before .before .before .before .before .before .before .before .before .before .before .before .word .ensures .0) (c .before .before .before .before .before .before .before .before .before .before .before .before .before .before .before .before .before .if3 .left) _ (c .before .before .before .before .before .before .before .before .before .before .before .before .before .before .before .before .word2 .ensures .0) _ (c .before .before .before .before .before .before .before .before .before .before .before .before .before .before .word3 .ensures .0) _ (c .before .before .before .before .before .before .before .before .before .before .before .word4 .ensures .0) (c .before .before .before .before .before .before .before .before .before .before .before .before .before .before .before .if4 .left) (c .before .before .before .before .before .before .before .before .before .before .before .before .before .if5 .left) (c .before .before .before .before .before .before .before .before .before .before .before .before .if6 .left) (c .before .before .before .before .before .before .before .before .before .before .if7 .left) _ _ _ _ (c .before .before .before .before .before .before .before .before .before .word5 .ensures .0) (c .before .before .before .before .before .before .before .before .word6 .ensures .0) (c .before .before .before .before .before .before .before .word7 .ensures .0) (c .before .before .before .before .before .before .word8 .ensures .0) _ _ _ (c .before .before .before .before .before .check-sections .ensures) (c .before .before .before .w .given .1) (c .if9 .taken)
+answer-requires-4 : tie.Need-answer-requires-4
+answer-requires-4 c κs = tt
+
+answer-requires-5 : tie.Need-answer-requires-5
+answer-requires-5 c κs = tt
 
 enum-known-number : tie.Need-enum-known-number
-enum-known-number c = search needs
+enum-known-number c = c .match .keys2
 
-returns-10 : tie.Need-returns-10
-returns-10 c = whole-accepted (c .before .before .before .before .before .before .before .before .before .before .before .before .before .before .before .before .before .before .before .before .before .before .args .file .now) (c .before .before .before .before .before .before .before .before .before .before .before .before .before .before .before .before .before .before .before .before .if1 .left) (c .before .before .before .before .before .before .before .before .before .before .before .before .before .before .before .before .before .before .before .if2 .left) _ (c .before .before .before .before .before .before .before .before .before .before .before .before .before .before .before .before .before .before .word .ensures .0) (c .before .before .before .before .before .before .before .before .before .before .before .before .before .before .before .before .before .if3 .left) _ (c .before .before .before .before .before .before .before .before .before .before .before .before .before .before .before .before .word2 .ensures .0) _ (c .before .before .before .before .before .before .before .before .before .before .before .before .before .before .word3 .ensures .0) _ (c .before .before .before .before .before .before .before .before .before .before .before .word4 .ensures .0) (c .before .before .before .before .before .before .before .before .before .before .before .before .before .before .before .if4 .left) (c .before .before .before .before .before .before .before .before .before .before .before .before .before .if5 .left) (c .before .before .before .before .before .before .before .before .before .before .before .before .if6 .left) (c .before .before .before .before .before .before .before .before .before .before .if7 .left) _ _ _ _ (c .before .before .before .before .before .before .before .before .before .word5 .ensures .0) (c .before .before .before .before .before .before .before .before .word6 .ensures .0) (c .before .before .before .before .before .before .before .word7 .ensures .0) (c .before .before .before .before .before .before .word8 .ensures .0) _ _ _ (c .before .before .before .before .before .check-sections .ensures) (c .before .before .before .w .given .1) (c .before .if8 .left) (c .if9 .left)
+answer-requires-6 : tie.Need-answer-requires-6
+answer-requires-6 c κs = tt
 
-returns-11 : tie.Need-returns-11
-returns-11 c = whole-stopped (c .before .before .before .before .before .before .before .before .before .before .before .before .before .before .before .before .before .before .before .before .args .file .now) (c .before .before .before .before .before .before .before .before .before .before .before .before .before .before .before .before .before .before .if1 .left) (c .before .before .before .before .before .before .before .before .before .before .before .before .before .before .before .before .before .if2 .left) _ (c .before .before .before .before .before .before .before .before .before .before .before .before .before .before .before .before .word .ensures .0) (c .before .before .before .before .before .before .before .before .before .before .before .before .before .before .before .if3 .left) _ (c .before .before .before .before .before .before .before .before .before .before .before .before .before .before .word2 .ensures .0) _ (c .before .before .before .before .before .before .before .before .before .before .before .before .word3 .ensures .0) _ (c .before .before .before .before .before .before .before .before .before .word4 .ensures .0) (c .before .before .before .before .before .before .before .before .before .before .before .before .before .if4 .left) (c .before .before .before .before .before .before .before .before .before .before .before .if5 .left) (c .before .before .before .before .before .before .before .before .before .before .if6 .left) (c .before .before .before .before .before .before .before .before .if7 .left) _ _ _ _ (c .before .before .before .before .before .before .before .word5 .ensures .0) (c .before .before .before .before .before .before .word6 .ensures .0) (c .before .before .before .before .before .word7 .ensures .0) (c .before .before .before .before .word8 .ensures .0) _ _ _ (c .before .before .before .check-sections .ensures) (c .before .number .given .1)
+returns-4 : tie.Need-returns-4
+returns-4 c = c .answer4 .ensures ∙ whole-accepted (c .before .before .before .before .before .before .before .before .before .before .before .before .before .before .before .before .before .before .before .before .before .args .file .now) _ (c .before .before .before .before .before .before .before .before .before .before .before .before .before .before .before .before .before .before .before .length-right .ensures) (not-false _ (c .before .before .before .before .before .before .before .before .before .before .before .before .before .before .before .before .before .before .if1 .left)) _ (c .before .before .before .before .before .before .before .before .before .before .before .before .before .before .before .before .before .word .ensures .0) (c .before .before .before .before .before .before .before .before .before .before .before .before .before .before .before .before .if2 .left) _ _ _ (c .before .before .before .before .before .before .before .before .before .before .before .before .before .before .before .trailer-word .ensures .0) (c .before .before .before .before .before .before .before .before .before .before .before .before .before .trailer-word3 .ensures .0) (c .before .before .before .before .before .before .before .before .before .before .trailer-word6 .ensures .0) _ (c .before .before .before .before .before .before .before .before .counts-right .ensures) (not-false _ (c .before .before .before .before .before .before .before .if3 .left)) _ _ _ _ (c .before .before .before .before .before .before .before .before .before .before .before .before .before .before .trailer-word2 .ensures .0) (c .before .before .before .before .before .before .before .before .before .before .before .before .trailer-word4 .ensures .0) (c .before .before .before .before .before .before .before .before .before .before .before .trailer-word5 .ensures .0) (c .before .before .before .before .before .before .before .before .before .trailer-word7 .ensures .0) _ _ _ (c .before .before .before .before .before .before .check-sections .ensures) (c .before .before .before .before .movers .given .1) _ (c .before .before .movers-right .ensures) (c .before .if4 .taken)
+
+returns-5 : tie.Need-returns-5
+returns-5 c = c .answer5 .ensures ∙ whole-movers (c .before .before .before .before .before .before .before .before .before .before .before .before .before .before .before .before .before .before .before .before .before .args .file .now) _ (c .before .before .before .before .before .before .before .before .before .before .before .before .before .before .before .before .before .before .before .length-right .ensures) (not-false _ (c .before .before .before .before .before .before .before .before .before .before .before .before .before .before .before .before .before .before .if1 .left)) _ (c .before .before .before .before .before .before .before .before .before .before .before .before .before .before .before .before .before .word .ensures .0) (c .before .before .before .before .before .before .before .before .before .before .before .before .before .before .before .before .if2 .left) _ _ _ (c .before .before .before .before .before .before .before .before .before .before .before .before .before .before .before .trailer-word .ensures .0) (c .before .before .before .before .before .before .before .before .before .before .before .before .before .trailer-word3 .ensures .0) (c .before .before .before .before .before .before .before .before .before .before .trailer-word6 .ensures .0) _ (c .before .before .before .before .before .before .before .before .counts-right .ensures) (not-false _ (c .before .before .before .before .before .before .before .if3 .left)) _ _ _ _ (c .before .before .before .before .before .before .before .before .before .before .before .before .before .before .trailer-word2 .ensures .0) (c .before .before .before .before .before .before .before .before .before .before .before .before .trailer-word4 .ensures .0) (c .before .before .before .before .before .before .before .before .before .before .before .trailer-word5 .ensures .0) (c .before .before .before .before .before .before .before .before .before .trailer-word7 .ensures .0) _ _ _ (c .before .before .before .before .before .before .check-sections .ensures) (c .before .before .before .before .movers .given .1) _ (c .before .before .movers-right .ensures) (c .before .if4 .left)
+
+returns-6 : tie.Need-returns-6
+returns-6 c = c .answer6 .ensures ∙ whole-stopped (c .before .before .before .before .before .before .before .before .before .before .before .before .before .before .before .before .before .before .before .args .file .now) _ (c .before .before .before .before .before .before .before .before .before .before .before .before .before .before .before .before .before .length-right .ensures) (not-false _ (c .before .before .before .before .before .before .before .before .before .before .before .before .before .before .before .before .if1 .left)) _ (c .before .before .before .before .before .before .before .before .before .before .before .before .before .before .before .word .ensures .0) (c .before .before .before .before .before .before .before .before .before .before .before .before .before .before .if2 .left) _ _ _ (c .before .before .before .before .before .before .before .before .before .before .before .before .before .trailer-word .ensures .0) (c .before .before .before .before .before .before .before .before .before .before .before .trailer-word3 .ensures .0) (c .before .before .before .before .before .before .before .before .trailer-word6 .ensures .0) _ (c .before .before .before .before .before .before .counts-right .ensures) (not-false _ (c .before .before .before .before .before .if3 .left)) _ _ _ _ (c .before .before .before .before .before .before .before .before .before .before .before .before .trailer-word2 .ensures .0) (c .before .before .before .before .before .before .before .before .before .before .trailer-word4 .ensures .0) (c .before .before .before .before .before .before .before .before .before .trailer-word5 .ensures .0) (c .before .before .before .before .before .before .before .trailer-word7 .ensures .0) _ _ _ (c .before .before .before .before .check-sections .ensures) (c .before .before .number .given .1)
 
 pub check-spec : {M : Type 1} → statement M
 check-spec =
     tie.close
     (tie.spec
+    length-right-requires
+    answer-requires
     returns
-    returns-2
+    sub-end
     word-requires
+    answer-requires-2
+    returns-2
+    trailer-word-requires
+    trailer-word-requires-2
+    trailer-word-requires-3
+    trailer-word-requires-4
+    trailer-word-requires-5
+    trailer-word-requires-6
+    trailer-word-requires-7
+    counts-right-requires
+    answer-requires-3
     returns-3
-    add-word
-    word-requires-2
-    returns-4
-    add-word-2
-    word-requires-3
-    returns-5
-    returns-6
-    add-word-3
-    word-requires-4
-    returns-7
-    add-word-4
-    word-requires-5
-    add-word-5
-    word-requires-6
-    add-word-6
-    word-requires-7
-    add-word-7
-    word-requires-8
     check-sections-requires
-    enum-known-w
-    returns-8
-    returns-9
+    enum-known-movers
+    movers-right-requires
+    answer-requires-4
+    answer-requires-5
     enum-known-number
-    returns-10
-    returns-11)
+    answer-requires-6
+    returns-4
+    returns-5
+    returns-6)

@@ -1,12 +1,14 @@
 -- `design::action::check_list` and `design::action::check_stmt` meet their contracts. Assumes nothing.
 use native.Mathlib.Omega.{arith}
 use Prim.Native.Nat.{ℕ, _<_, _+_, _-_}
-use Rattle.design.proofs.Readers.{list-past, list-in, seq-none, seq-bad, seq-more, stmt-past, stmt-assign, stmt-none, stmt-flat, if-bad, if-bad-then, if-else}
-use Rattle.design.proofs.Forward.{bool-on, list-on, stmt-on}
+use mathlib.Core.Path.{_≡_, sym, ap, _∙_}
+use mathlib.Core.Logic.{inl, inr}
 use Rattle.design.specs.Action.{stmtOp, statements, statement as one, list}
 use Rattle.design.specs.Answers.{found}
 use Rattle.design.specs.Check.{namesOf}
-use mathlib.Core.Path.{_≡_, sym, ap, _∙_}
+use Rattle.design.proofs.Readers.{list-past, list-in, seq-none, seq-bad, seq-more, stmt-past, stmt-assign, stmt-second, stmt-none, stmt-flat, if-bad, if-bad-then, if-else}
+use Rattle.design.proofs.Forward.{bool-on, list-on, stmt-on}
+use Prim.Native.Nat.{ℕ, _<_}
 use borrow.Fn.Kinds.{In}
 use borrow.Fn.PlainCycle.{Measures, is, falls, and}
 use Rattle.design.proofs.action.check_list.Reads as check-list
@@ -128,7 +130,10 @@ check-stmt-check-assign-requires t c κs = omega arith
 
 check-stmt-returns-2 : (t : ℕ) → check-stmt-lts.Need-returns-2 (check-stmt-claims t) (check-stmt-at t) check-stmt.Post
 unfolding stmtOp
-check-stmt-returns-2 t c = stmt-flat _ _ _ _ _ (c .if2 .taken) (c .before .before .before .if1 .left) (ap stmtOp (c .before .match .keys2))
+check-stmt-returns-2 t c = c .check-assign .ensures ∙ stmt-assign _ _ _ _ _ (c .before .before .before .before .before .if1 .left) (ap stmtOp (c .before .if4 .taken))
+
+check-stmt-returns-3 : (t : ℕ) → check-stmt-lts.Need-returns-3 (check-stmt-claims t) (check-stmt-at t) check-stmt.Post
+check-stmt-returns-3 t c = stmt-flat _ _ _ _ _ (c .if5 .taken) (c .before .before .before .before .before .if1 .left) (stmt-second _ (c .before .before .before .if2 .left) (c .before .before .if3 .taken) (c .before .if4 .left))
 
 check-stmt-add-check-bool : (t : ℕ) → check-stmt-lts.Need-add-check-bool (check-stmt-claims t) (check-stmt-at t) check-stmt.Post
 check-stmt-add-check-bool t c = omega arith
@@ -137,7 +142,7 @@ check-stmt-check-bool-requires : (t : ℕ) → check-stmt-lts.Need-check-bool-re
 check-stmt-check-bool-requires t c κs = omega arith
 
 check-stmt-enum-known-m : (t : ℕ) → check-stmt-lts.Need-enum-known-m (check-stmt-claims t) (check-stmt-at t) check-stmt.Post
-check-stmt-enum-known-m t c = c .match2 .keys1
+check-stmt-enum-known-m t c = c .match .keys1
 
 check-stmt-sub-check-list : (t : ℕ) → check-stmt-lts.Need-sub-check-list (check-stmt-claims t) (check-stmt-at t) check-stmt.Post
 check-stmt-sub-check-list t c = omega arith
@@ -146,7 +151,7 @@ check-stmt-check-list-requires : (t : ℕ) → check-stmt-lts.Need-check-list-re
 check-stmt-check-list-requires t c κs = let g = bool-on _ _ _ _ _ _ (sym (c .before .m .given .1) ∙ c .before .before .before .check-bool .ensures) in omega arith
 
 check-stmt-enum-known-p : (t : ℕ) → check-stmt-lts.Need-enum-known-p (check-stmt-claims t) (check-stmt-at t) check-stmt.Post
-check-stmt-enum-known-p t c = c .match3 .keys1
+check-stmt-enum-known-p t c = c .match2 .keys1
 
 check-stmt-sub-check-list-2 : (t : ℕ) → check-stmt-lts.Need-sub-check-list-2 (check-stmt-claims t) (check-stmt-at t) check-stmt.Post
 check-stmt-sub-check-list-2 t c = omega arith
@@ -155,29 +160,25 @@ check-stmt-check-list-requires-2 : (t : ℕ) → check-stmt-lts.Need-check-list-
 check-stmt-check-list-requires-2 t c κs = let g = bool-on _ _ _ _ _ _ (sym (c .before .before .before .before .before .m .given .1) ∙ c .before .before .before .before .before .before .before .check-bool .ensures) in let h = list-on _ _ _ _ _ _ (sym (c .before .p .given .1) ∙ c .before .before .before .check-list .ensures) in omega arith
 
 check-stmt-enum-told : (t : ℕ) → check-stmt-lts.Need-enum-told (check-stmt-claims t) (check-stmt-at t) check-stmt.Post
-check-stmt-enum-told t c = c .match3 .keys2
+check-stmt-enum-told t c = c .match2 .keys2
 
 check-stmt-enum-told-2 : (t : ℕ) → check-stmt-lts.Need-enum-told-2 (check-stmt-claims t) (check-stmt-at t) check-stmt.Post
-check-stmt-enum-told-2 t c = c .match2 .keys2
-
-check-stmt-returns-3 : (t : ℕ) → check-stmt-lts.Need-returns-3 (check-stmt-claims t) (check-stmt-at t) check-stmt.Post
-unfolding stmtOp
-check-stmt-returns-3 t c = c .check-assign .ensures ∙ stmt-assign _ _ _ _ _ (c .before .before .before .if1 .left) (ap stmtOp (c .before .match .keys1))
+check-stmt-enum-told-2 t c = c .match .keys2
 
 check-stmt-returns-4 : (t : ℕ) → check-stmt-lts.Need-returns-4 (check-stmt-claims t) (check-stmt-at t) check-stmt.Post
-unfolding stmtOp
-check-stmt-returns-4 t c = if-else _ _ _ _ _ (c .before .before .before .before .before .before .before .before .before .if2 .left) (c .before .before .before .before .before .before .before .before .before .before .before .before .if1 .left) (ap stmtOp (c .before .before .before .before .before .before .before .before .before .before .match .keys2)) _ _ _ (sym (c .before .before .before .before .before .before .m .given .1) ∙ c .before .before .before .before .before .before .before .before .check-bool .ensures) (sym (c .before .before .p .given .1) ∙ c .before .before .before .before .check-list .ensures) (c .check-list2 .ensures)
+check-stmt-returns-4 t c = if-else _ _ _ _ _ (c .before .before .before .before .before .before .before .before .before .if5 .left) (c .before .before .before .before .before .before .before .before .before .before .before .before .before .before .if1 .left) (stmt-second _ (c .before .before .before .before .before .before .before .before .before .before .before .before .if2 .left) (c .before .before .before .before .before .before .before .before .before .before .before .if3 .taken) (c .before .before .before .before .before .before .before .before .before .before .if4 .left)) _ _ _ (sym (c .before .before .before .before .before .before .m .given .1) ∙ c .before .before .before .before .before .before .before .before .check-bool .ensures) (sym (c .before .before .p .given .1) ∙ c .before .before .before .before .check-list .ensures) (c .check-list2 .ensures)
 
 check-stmt-returns-5 : (t : ℕ) → check-stmt-lts.Need-returns-5 (check-stmt-claims t) (check-stmt-at t) check-stmt.Post
-unfolding stmtOp
-check-stmt-returns-5 t c = if-bad-then _ _ _ _ _ (c .before .before .before .before .before .before .before .if2 .left) (c .before .before .before .before .before .before .before .before .before .before .if1 .left) (ap stmtOp (c .before .before .before .before .before .before .before .before .match .keys2)) _ (sym (c .before .before .before .before .m .given .1) ∙ c .before .before .before .before .before .before .check-bool .ensures) (sym (c .enum-told .given .1) ∙ c .before .before .check-list .ensures)
+check-stmt-returns-5 t c = if-bad-then _ _ _ _ _ (c .before .before .before .before .before .before .before .if5 .left) (c .before .before .before .before .before .before .before .before .before .before .before .before .if1 .left) (stmt-second _ (c .before .before .before .before .before .before .before .before .before .before .if2 .left) (c .before .before .before .before .before .before .before .before .before .if3 .taken) (c .before .before .before .before .before .before .before .before .if4 .left)) _ (sym (c .before .before .before .before .m .given .1) ∙ c .before .before .before .before .before .before .check-bool .ensures) (sym (c .enum-told .given .1) ∙ c .before .before .check-list .ensures)
 
 check-stmt-returns-6 : (t : ℕ) → check-stmt-lts.Need-returns-6 (check-stmt-claims t) (check-stmt-at t) check-stmt.Post
-unfolding stmtOp
-check-stmt-returns-6 t c = if-bad _ _ _ _ _ (c .before .before .before .if2 .left) (c .before .before .before .before .before .before .if1 .left) (ap stmtOp (c .before .before .before .before .match .keys2)) (sym (c .enum-told2 .given .1) ∙ c .before .before .check-bool .ensures)
+check-stmt-returns-6 t c = if-bad _ _ _ _ _ (c .before .before .before .if5 .left) (c .before .before .before .before .before .before .before .before .if1 .left) (stmt-second _ (c .before .before .before .before .before .before .if2 .left) (c .before .before .before .before .before .if3 .taken) (c .before .before .before .before .if4 .left)) (sym (c .enum-told2 .given .1) ∙ c .before .before .check-bool .ensures)
 
 check-stmt-returns-7 : (t : ℕ) → check-stmt-lts.Need-returns-7 (check-stmt-claims t) (check-stmt-at t) check-stmt.Post
-check-stmt-returns-7 t c = stmt-none _ _ _ _ _ (c .before .before .if1 .left) (c .match .rest .0 .1) (c .match .rest .1)
+check-stmt-returns-7 t c = stmt-none _ _ _ _ _ (c .before .before .if1 .left) (inl (c .if2 .taken))
+
+check-stmt-returns-8 : (t : ℕ) → check-stmt-lts.Need-returns-8 (check-stmt-claims t) (check-stmt-at t) check-stmt.Post
+check-stmt-returns-8 t c = stmt-none _ _ _ _ _ (c .before .before .before .if1 .left) (inr (c .if3 .left))
 
 pub +check-list+check-stmt-spec : {M : Type 1} → statement M
 +check-list+check-stmt-spec = close μ-check-list μ-check-stmt (λ t. check-list-lts.spec (
@@ -216,6 +217,7 @@ pub +check-list+check-stmt-spec : {M : Type 1} → statement M
     (check-stmt-add-check-assign t)
     (check-stmt-check-assign-requires t)
     (check-stmt-returns-2 t)
+    (check-stmt-returns-3 t)
     (check-stmt-add-check-bool t)
     (check-stmt-check-bool-requires t)
     (check-stmt-enum-known-m t)
@@ -226,8 +228,8 @@ pub +check-list+check-stmt-spec : {M : Type 1} → statement M
     (check-stmt-check-list-requires-2 t)
     (check-stmt-enum-told t)
     (check-stmt-enum-told-2 t)
-    (check-stmt-returns-3 t)
     (check-stmt-returns-4 t)
     (check-stmt-returns-5 t)
     (check-stmt-returns-6 t)
     (check-stmt-returns-7 t)
+    (check-stmt-returns-8 t)

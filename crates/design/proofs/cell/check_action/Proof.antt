@@ -1,6 +1,6 @@
 -- `design::cell::check_action` meets its contract. Assumes nothing.
 use native.Mathlib.Omega.{arith}
-use Rattle.design.proofs.Items.{action-read}
+use Rattle.design.proofs.Cells.{action-read}
 use Rattle.design.proofs.cell.check_action.Statement.{statement}
 use Rattle.design.proofs.cell.check_action.Tie as tie
 

@@ -1,7 +1,7 @@
 -- `design::cell::check_cell` meets its contract. Assumes nothing.
 use native.Mathlib.Omega.{arith}
 use borrow.Author.Tests.{not-true, not-false}
-use Rattle.design.proofs.Items.{cell-passes, cell-fields, cell-order, cell-invalid, cell-guard, cell-action}
+use Rattle.design.proofs.Cells.{cell-passes, cell-fields, cell-order, cell-invalid, cell-guard, cell-action}
 use mathlib.Core.Path.{sym, _∙_}
 use borrow.Author.Needs.{needs}
 use Rattle.design.proofs.cell.check_cell.Statement.{statement}

@@ -1,6 +1,6 @@
 -- `design::cell::check_guard` meets its contract. Assumes nothing.
 use native.Mathlib.Omega.{arith}
-use Rattle.design.proofs.Items.{guard-none, guard-read}
+use Rattle.design.proofs.Cells.{guard-none, guard-read}
 use Prim.Native.Nat.{_+_}
 use lib.ListN.{getD}
 use mathlib.Core.Path.{refl}

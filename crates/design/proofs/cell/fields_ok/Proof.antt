@@ -5,7 +5,7 @@ use Prim.Native.Nat.{ℕ}
 use lib.Dec.{eqb}
 use mathlib.Core.Bool.{false}
 use mathlib.Core.Path.{refl, sym, ap}
-use Rattle.design.proofs.Items.{fields-ending, ending-other}
+use Rattle.design.proofs.Cells.{fields-ending, ending-other}
 use borrow.Author.Needs.{needs}
 use Rattle.design.proofs.cell.fields_ok.Statement.{statement}
 use Rattle.design.proofs.cell.fields_ok.Tie as tie

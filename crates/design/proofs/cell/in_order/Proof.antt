@@ -1,6 +1,6 @@
 -- `design::cell::in_order` meets its contract. Assumes nothing.
 use borrow.Author.Tests.{eq-eqb, ne-eqb}
-use Rattle.design.proofs.Items.{lt-ltb-of, le-ltb-of, eq-eqb-of, ne-eqb-of}
+use Rattle.design.proofs.Cells.{lt-ltb-of, le-ltb-of, eq-eqb-of, ne-eqb-of}
 use borrow.Author.Needs.{needs}
 use Rattle.design.proofs.cell.in_order.Statement.{statement}
 use Rattle.design.proofs.cell.in_order.Tie as tie

@@ -7,7 +7,7 @@ use Rattle.design.specs.Tree.{BoolExpr, constantB}
 use Rattle.design.specs.DesignFile.{cellsFrom}
 use Rattle.design.specs.Check.{namesOf}
 use Rattle.design.specs.Answers.{counted, moves}
-use Rattle.design.proofs.Items.{cells-none, cells-refused, cells-more, cell-ends}
+use Rattle.design.proofs.Cells.{cells-none, cells-refused, cells-more, cell-ends}
 use mathlib.Core.Bool.{true}
 use Rattle.design.proofs.section.check_cells.Statement.{statement}
 use Rattle.design.proofs.section.check_cells.Tie as tie
