@@ -1,16 +1,16 @@
 -- What a reader that succeeds tells of its parts. Assumes nothing.
-use mathlib.Core.Path.{_≡_, refl, sym, ap, subst, _∙_}
+use mathlib.Core.Path.{_≡_, refl}
 use mathlib.Core.Bool.{Bool, true, false, false≢true}
 use Prim.Native.Nat.{ℕ}
-use Rattle.design.specs.Reading.{Read, got, bad, bind, when}
+use Rattle.design.specs.Reading.{Read, got, bad, bind, provided}
 use Rattle.step.specs.Accepted.{isRead, past, valueOf}
 
 -- a test before what is read, and before what is made of it
-pub when-read : {A : Type 0} (t : Bool) (x : Read A) → isRead (when t x) ≡ true → (t ≡ true) × (when t x ≡ x)
-when-read true x h = (refl, refl)
-when-read false x h = absurd (false≢true h)
+pub provided-read : {A : Type 0} (t : Bool) (x : Read A) → isRead (provided t x) ≡ true → (t ≡ true) × (provided t x ≡ x)
+provided-read true x h = (refl, refl)
+provided-read false x h = absurd (false≢true h)
 
-pub bind-read : {A B : Type 0} (t : Bool) (x : Read A) (k : A → ℕ → Read B) → isRead (bind (when t x) k) ≡ true → (t ≡ true) × (bind (when t x) k ≡ bind x k)
+pub bind-read : {A B : Type 0} (t : Bool) (x : Read A) (k : A → ℕ → Read B) → isRead (bind (provided t x) k) ≡ true → (t ≡ true) × (bind (provided t x) k ≡ bind x k)
 bind-read true x k h = (refl, refl)
 bind-read false x k h = absurd (false≢true h)
 

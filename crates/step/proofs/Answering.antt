@@ -1,18 +1,17 @@
 -- What the answer of a call is, by the tests that led to it. Assumes nothing.
-use mathlib.Core.Path.{_≡_, refl, sym, ap, ap₂, subst, _∙_}
+use mathlib.Core.Path.{_≡_, refl, sym, ap, ap₂, _∙_}
 use mathlib.Core.Bool.{Bool, true, false, false≢true}
-use mathlib.Core.List.{List, [], _∷_, map}
-use mathlib.Core.Option.{Option, none, some}
+use mathlib.Core.List.{List, [], _∷_}
 use Prim.Native.Nat.{ℕ, zero, suc, _+_, _<_, _≤_}
 use native.Mathlib.Omega.{arith}
 use lib.ListN.{getD, length, List·getD-map}
-use lib.Dec.{ltb, leb, eqb}
+use lib.Dec.{ltb, leb}
 use borrow.Author.Tests.{lt-leb, le-leb, eq-eqb, ne-eqb, ltb-true}
 use Rattle.design.specs.Tree.{Design, movers}
 use Rattle.design.specs.State.{start}
 use Rattle.design.specs.Check.{Checked, refused, accepted, check, variableCount}
 use Rattle.design.specs.Answers.{refusal}
-use Rattle.design.specs.Places.{Accepted, normalPlaces, CellsIndexed}
+use Rattle.design.specs.Places.{Accepted, CellsIndexed}
 use Rattle.design.specs.declared.Refusal.{Refusal}
 use Rattle.design.proofs.Sections.{whole}
 use Rattle.design.proofs.Places.{read}

@@ -12,9 +12,6 @@ use Rattle.design.specs.State.{State, start}
 use Rattle.step.specs.OneStep.{step, run, property, breaksAt, breaksFrom, breaks}
 use Rattle.step.specs.Operations.{firstBreak}
 
-none-some : (a b : ℕ) → _≡_ {A = Option ℕ} none (some a) → ⊥
-none-some a b e = let z : _≡_ {A = ℕ} 0 1 = cc in omega arith
-
 or-true : (a b : Bool) → a ≡ true → (a || b) ≡ true
 or-true true b e = refl
 or-true false b e = absurd (false≢true e)

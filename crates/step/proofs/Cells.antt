@@ -1,40 +1,32 @@
 -- What the readers find at a cell of an accepted file, and what the cell does. Assumes nothing.
 use mathlib.Core.Path.{_≡_, refl, sym, ap, ap₂, subst, _∙_}
-use mathlib.Core.Bool.{Bool, true, false, false≢true, cond, not, _&&_}
-use mathlib.Core.List.{List, [], _∷_}
-use mathlib.Core.Logic.{⊎-elim}
-use Prim.Native.Nat.{ℕ, zero, suc, _+_, _*_, _-_, _<_, _≤_}
+use mathlib.Core.Bool.{Bool, true, false, cond, not, _&&_}
+use mathlib.Core.List.{List}
+use Prim.Native.Nat.{ℕ, zero, suc, _+_, _*_, _<_, _≤_}
 use native.Mathlib.Omega.{arith}
-use native.Mathlib.Numerals.{add-one}
 use lib.ListN.{getD, length, set}
-use lib.Dec.{eqb, ltb, leb}
+use lib.Dec.{eqb}
 use borrow.Author.Tests.{eq-eqb, ne-eqb, eqb-true}
-use Rattle.design.specs.Tree.{BoolExpr, Stmts, constantB, Variable, boolean, Cell, Design, Mover, cell, raise, truth}
+use Rattle.design.specs.Tree.{BoolExpr, Stmts, constantB, Variable, boolean, Cell, Design, cell, raise, truth}
 use Rattle.design.specs.Limits.{maxDepth, maxNest}
 use Rattle.design.specs.State.{State, Layout}
 use Rattle.design.specs.Reading.{Read, got, bad}
 use Rattle.design.specs.Expression.{Names, boolExpr}
 use Rattle.design.specs.Action.{list}
-use Rattle.design.specs.DesignFile.{Item, item, refused, filling, need, guard, normal, c-matrix, c-status, c-event, c-target, c-guard, c-action, c-middle, c-past, events}
-use Rattle.design.specs.Check.{namesOf, names, trailer, variableCount, matricesOffset, matrixCount}
+use Rattle.design.specs.DesignFile.{item, filling, guard, normal, c-matrix, c-status, c-event, c-target, c-guard, c-middle, c-past, events}
+use Rattle.design.specs.Check.{namesOf, names, trailer, variableCount, matricesOffset, matrixCount, eventIn}
 use Rattle.design.specs.Places.{Accepted, eventPlace, pastEvents, eventsStart}
-use Rattle.design.proofs.Sections.{Parts, eventIn, need-inv, item-same}
+use Rattle.design.specs.Sections.{Parts, NormalRead, EventRead, CellFields}
+use Rattle.design.proofs.Sections.{need-inv, item-same}
 use Rattle.design.specs.Answers.{walked}
 use Rattle.design.proofs.Items.{variable-ends}
-use Rattle.design.proofs.Positions.{NormalRead, CellRead, EventRead, variable-stands}
-use Rattle.design.proofs.Places.{Read as Tree, read, event-stands, Standing, CellFields, cell-fields}
+use Rattle.design.proofs.Positions.{variable-stands}
+use Rattle.design.proofs.Places.{Read as Tree, read, event-stands, cell-fields}
 use Rattle.design.proofs.Tables.{few-events}
 use Rattle.step.specs.Evaluation.{evalBool}
 use Rattle.step.specs.OneStep.{executeAll, statusAndEvent, enabled, effect, move}
 use Rattle.step.specs.Accepted.{isRead, past, layoutOf, boolValue, afterList}
 use Rattle.step.specs.Ready.{Ready, NormalCell}
-
--- what a reading that is known gives
-pub known : {A : Type 0} (x : Read A) (a : A) (n : ℕ) → x ≡ got a n → isRead x ≡ true
-known x a n e = ap isRead e
-
-pub bool-known : (l : Layout) (s : State) (x : Read BoolExpr) (a : BoolExpr) (n : ℕ) (r : Bool) → x ≡ got a n → r ≡ boolValue l s x → r ≡ evalBool l s a
-bool-known l s x a n r e h = h ∙ ap (boolValue l s) e
 
 -- the variables stand in the file
 pub variables-inside : (file : List ℕ) → Accepted file → 3 * variableCount file ≤ trailer file
@@ -79,18 +71,18 @@ module _ (file events′ : List ℕ) (nv nm : ℕ) (slots : State) (h : Ready fi
         (omega (arith, h .matrices), subst (λ (j : ℕ). e < events file (matricesOffset file) j) (sym a) (subst (λ (j : ℕ). j < events file (matricesOffset file) (c-matrix file p)) (sym c) (g .event)))
 
     abbrev Wanted : Bool → Type 0
-    Wanted r = (d : Design) (w : Parts file d) → r ≡ statusAndEvent l slots (c-matrix file p) (c-status file p) (eventIn file (w .rows) (c-matrix file p) (c-event file p))
+    Wanted r = (d : Design) (w : Parts file d) → r ≡ statusAndEvent l slots (c-matrix file p) (c-status file p) (eventIn (w .rows) (c-matrix file p) (c-event file p))
 
     tests : eqb (getD slots (nv + m) 0) s ≡ eqb (getD slots (nv + c-matrix file p) 0) (c-status file p)
     tests = ap₂ (λ (x y : ℕ). eqb (getD slots (nv + x) 0) y) a b
 
     pub other-status : (getD slots (nv + m) 0 ≡ s → ⊥) → Wanted false
-    other-status ne d w = ap (λ (t : Bool). t && evalBool l slots (eventIn file (w .rows) (c-matrix file p) (c-event file p))) (sym (ne-eqb _ _ ne) ∙ tests)
+    other-status ne d w = ap (λ (t : Bool). t && evalBool l slots (eventIn (w .rows) (c-matrix file p) (c-event file p))) (sym (ne-eqb _ _ ne) ∙ tests)
 
-    pub same-status : getD slots (nv + m) 0 ≡ s → (r : Bool) → ((d : Design) (w : Parts file d) → r ≡ evalBool l slots (eventIn file (w .rows) m e)) → Wanted r
+    pub same-status : getD slots (nv + m) 0 ≡ s → (r : Bool) → ((d : Design) (w : Parts file d) → r ≡ evalBool l slots (eventIn (w .rows) m e)) → Wanted r
     same-status q r k d w =
-        k d w ∙ ap₂ (λ (x y : ℕ). evalBool l slots (eventIn file (w .rows) x y)) a c
-        ∙ ap (λ (t : Bool). t && evalBool l slots (eventIn file (w .rows) (c-matrix file p) (c-event file p))) (sym (eq-eqb _ _ q) ∙ tests)
+        k d w ∙ ap₂ (λ (x y : ℕ). evalBool l slots (eventIn (w .rows) x y)) a c
+        ∙ ap (λ (t : Bool). t && evalBool l slots (eventIn (w .rows) (c-matrix file p) (c-event file p))) (sym (eq-eqb _ _ q) ∙ tests)
 
   -- event e of matrix m
   module _ (m e : ℕ) (a : m < nm) (b : e < events file (matricesOffset file) m) where
@@ -104,14 +96,14 @@ module _ (file events′ : List ℕ) (nv nm : ℕ) (slots : State) (h : Ready fi
     event-slot = omega (arith, few-events file (h .accepted) m (omega (arith, h .matrices)), sizes)
 
     module _ (d : Design) (w : Parts file d) where
-      event-read : EventRead file E (names file) place (eventIn file (w .rows) m e) (pastEvents file (suc e) (eventsStart file m))
-      event-read = subst (λ (p : ℕ). EventRead file E (names file) p (eventIn file (w .rows) m e) (pastEvents file (suc e) (eventsStart file m))) (sym here) (event-stands file d w m e (omega (arith, h .matrices)) b)
+      event-read : EventRead file E (names file) place (eventIn (w .rows) m e) (pastEvents file (suc e) (eventsStart file m))
+      event-read = subst (λ (p : ℕ). EventRead file E (names file) p (eventIn (w .rows) m e) (pastEvents file (suc e) (eventsStart file m))) (sym here) (event-stands file d w m e (omega (arith, h .matrices)) b)
 
-      pub event-got : (n at : ℕ) → n ≡ place + 1 + getD file place 0 → at ≡ place + 1 → boolExpr file N n maxDepth at ≡ got (eventIn file (w .rows) m e) n
+      pub event-got : (n at : ℕ) → n ≡ place + 1 + getD file place 0 → at ≡ place + 1 → boolExpr file N n maxDepth at ≡ got (eventIn (w .rows) m e) n
       event-got n at p q =
           let t = event-read in
           let z : pastEvents file (suc e) (eventsStart file m) ≡ n = t .past ∙ sym p in
-          ap (λ (x : Names). boolExpr file x n maxDepth at) names-here ∙ ap (boolExpr file (names file) n maxDepth) q ∙ subst (λ (j : ℕ). boolExpr file (names file) j maxDepth (place + 1) ≡ got (eventIn file (w .rows) m e) j) z (t .reads)
+          ap (λ (x : Names). boolExpr file x n maxDepth at) names-here ∙ ap (boolExpr file (names file) n maxDepth) q ∙ subst (λ (j : ℕ). boolExpr file (names file) j maxDepth (place + 1) ≡ got (eventIn (w .rows) m e) j) z (t .reads)
 
       event-past : place + 1 + getD file place 0 ≤ E
       event-past = let t = event-read in let p = t .past in let i = t .inside in omega arith
@@ -125,18 +117,18 @@ module _ (file events′ : List ℕ) (nv nm : ℕ) (slots : State) (h : Ready fi
     pub event-reads : (n at : ℕ) → n ≡ place + 1 + getD file place 0 → at ≡ place + 1 → isRead (boolExpr file N n maxDepth at) ≡ true
     event-reads n at p q = ap isRead (event-got (tree .tree) (tree .all .parts) n at p q)
 
-    pub event-value : (n at : ℕ) → n ≡ place + 1 + getD file place 0 → at ≡ place + 1 → (r : Bool) → r ≡ boolValue l slots (boolExpr file N n maxDepth at) → (d : Design) (w : Parts file d) → r ≡ evalBool l slots (eventIn file (w .rows) m e)
+    pub event-value : (n at : ℕ) → n ≡ place + 1 + getD file place 0 → at ≡ place + 1 → (r : Bool) → r ≡ boolValue l slots (boolExpr file N n maxDepth at) → (d : Design) (w : Parts file d) → r ≡ evalBool l slots (eventIn (w .rows) m e)
     event-value n at p q r v d w = v ∙ ap (boolValue l slots) (event-got d w n at p q)
 
   -- a normal cell
   module _ (p : ℕ) (x : NormalCell file p) where
     f : ℕ → ℕ → BoolExpr
-    f = eventIn file (x .parts .rows)
+    f = eventIn (x .parts .rows)
 
     pub normal-fields : CellFields file p
-    normal-fields = cell-fields file (eventIn file (x .parts .rows)) p (normal (x .cell)) (x .stands)
+    normal-fields = cell-fields file (eventIn (x .parts .rows)) p (normal (x .cell)) (x .stands)
 
-    is : NormalRead file E (names file) (matricesOffset file) (eventIn file (x .parts .rows)) p (x .cell)
+    is : NormalRead file E (names file) (matricesOffset file) (eventIn (x .parts .rows)) p (x .cell)
     is = x .stands .1 .entry .1
 
     pub guard-none : c-guard file p ≡ 0 → x .cell .guard ≡ constantB true
@@ -177,10 +169,10 @@ module _ (file events′ : List ℕ) (nv nm : ℕ) (slots : State) (h : Ready fi
     abbrev c : Cell
     c = x .cell
 
-    event-same : statusAndEvent l slots (c-matrix file p) (c-status file p) (eventIn file (x .parts .rows) (c-matrix file p) (c-event file p)) ≡ statusAndEvent l slots (c .matrix) (c .status) (c .event)
+    event-same : statusAndEvent l slots (c-matrix file p) (c-status file p) (eventIn (x .parts .rows) (c-matrix file p) (c-event file p)) ≡ statusAndEvent l slots (c .matrix) (c .status) (c .event)
     event-same =
-        ap (λ (k : ℕ). statusAndEvent l slots k (c-status file p) (eventIn file (x .parts .rows) (c-matrix file p) (c-event file p))) (sym (is .matrix))
-        ∙ ap (λ (k : ℕ). statusAndEvent l slots (c .matrix) k (eventIn file (x .parts .rows) (c-matrix file p) (c-event file p))) (sym (is .status))
+        ap (λ (k : ℕ). statusAndEvent l slots k (c-status file p) (eventIn (x .parts .rows) (c-matrix file p) (c-event file p))) (sym (is .matrix))
+        ∙ ap (λ (k : ℕ). statusAndEvent l slots (c .matrix) k (eventIn (x .parts .rows) (c-matrix file p) (c-event file p))) (sym (is .status))
         ∙ ap (statusAndEvent l slots (c .matrix) (c .status)) (sym (is .event))
 
     abbrev SE : Bool
@@ -191,7 +183,7 @@ module _ (file events′ : List ℕ) (nv nm : ℕ) (slots : State) (h : Ready fi
 
     -- the two tests, and what follows from them
     abbrev pub Sees : Bool → Type 0
-    Sees r = (d : Design) (w : Parts file d) → r ≡ statusAndEvent l slots (c-matrix file p) (c-status file p) (eventIn file (w .rows) (c-matrix file p) (c-event file p))
+    Sees r = (d : Design) (w : Parts file d) → r ≡ statusAndEvent l slots (c-matrix file p) (c-status file p) (eventIn (w .rows) (c-matrix file p) (c-event file p))
 
     sees : (r : Bool) → Sees r → r ≡ SE
     sees r k = k (x .tree) (x .parts) ∙ event-same
@@ -215,8 +207,7 @@ module _ (file events′ : List ℕ) (nv nm : ℕ) (slots : State) (h : Ready fi
     unfolding enabled move effect
     moved-cell r g k e j q m n a b s u i v y z =
         let on : enabled l slots (cell c) ≡ true = ap (λ (t : Bool). t && G) (sym (sees r k) ∙ e) ∙ sym j ∙ q in
-        let ran : s ≡ executeAll (c .action) l slots = u ∙ ap (λ (t : Read Stmts). afterList l t slots) (action-got m n a b) in
-        (
+        let ran : s ≡ executeAll (c .action) l slots = u ∙ ap (λ (t : Read Stmts). afterList l t slots) (action-got m n a b) in (
           ap (λ (t : State). set t (nv + i) v) ran ∙ ap₂ (λ (k : ℕ) (t : ℕ). set (executeAll (c .action) l slots) (nv + k) t) (y ∙ sym (is .matrix)) (z ∙ sym (is .target)) ∙ ap (λ (t : Bool). cond t (effect l slots (cell c)) slots) (sym on),
           ap not (sym on),
         )

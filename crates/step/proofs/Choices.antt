@@ -1,23 +1,24 @@
 -- What the mover that a choice names does is the step. Assumes nothing.
-use mathlib.Core.Path.{_≡_, refl, sym, ap, subst, _∙_}
-use mathlib.Core.Bool.{Bool, not, true, false}
+use mathlib.Core.Path.{_≡_, sym, ap, subst, _∙_}
+use mathlib.Core.Bool.{Bool, not, false}
 use mathlib.Core.List.{List, []}
-use mathlib.Core.Option.{Option, none, some}
-use Prim.Native.Nat.{ℕ, _+_, _-_, _<_, _≤_}
+use mathlib.Core.Option.{some}
+use Prim.Native.Nat.{ℕ, _-_, _<_, _≤_}
 use native.Mathlib.Omega.{arith}
-use lib.ListN.{getD, length, take, getElem?}
+use lib.ListN.{getD, length, getElem?}
 use lib.Seq.{getD-take}
-use Rattle.design.specs.Tree.{Cell, Design, Mover, cell, raise, constantB, Stmts, done, movers}
+use Rattle.design.specs.Tree.{Cell, Design, Mover, cell, raise, constantB, done, movers}
 use Rattle.design.specs.State.{State, Layout, layout}
 use Rattle.design.specs.DesignFile.{normal}
-use Rattle.design.specs.Check.{check, accepted, trailer, variableCount}
+use Rattle.design.specs.Check.{check, accepted, variableCount, eventIn}
 use Rattle.design.specs.Places.{Accepted, CellsIndexed, normalPlaces}
-use Rattle.design.proofs.Sections.{Parts, Whole, whole, eventIn}
-use Rattle.design.proofs.Places.{read, Standing, normal-stands, CellFields, cell-fields}
+use Rattle.design.specs.Sections.{Parts, Standing}
+use Rattle.design.proofs.Sections.{whole}
+use Rattle.design.proofs.Places.{read, normal-stands, cell-fields}
 use Rattle.design.proofs.Tables.{few-normals}
 use Rattle.step.specs.OneStep.{enabled, move, moved, idles, step, idle}
 use Rattle.step.specs.Accepted.{layoutOf}
-use Rattle.step.specs.Ready.{Ready, NormalCell, externalsFrom}
+use Rattle.step.specs.Ready.{NormalCell, externalsFrom}
 use Rattle.step.proofs.Externals.{cell-mover, raise-mover}
 use Rattle.step.proofs.Scanning.{same-layout}
 
@@ -35,7 +36,7 @@ module _ (file cells : List ℕ) (normals : ℕ) (h : CellsIndexed file cells no
     tree = d;
     parts = w;
     cell = getD (d .cells) j no-cell;
-    stands = subst (λ (p : ℕ). Standing file (eventIn file (w .rows)) p (normal (getD (d .cells) j no-cell))) (sym place) (normal-stands file d w .reads j (omega (arith, h .count, normal-stands file d w .count)) no-cell);
+    stands = subst (λ (p : ℕ). Standing file (eventIn (w .rows)) p (normal (getD (d .cells) j no-cell))) (sym place) (normal-stands file d w .reads j (omega (arith, h .count, normal-stands file d w .count)) no-cell);
   }
 
   pub chosen : Accepted file → NormalCell file (getD cells j 0)
@@ -47,7 +48,7 @@ module _ (file cells : List ℕ) (normals : ℕ) (h : CellsIndexed file cells no
   pub place-small : Accepted file → getD cells j 0 < 65536
   place-small a =
       let x = chosen a in
-      let f = cell-fields file (eventIn file (x .parts .rows)) (getD cells j 0) (normal (x .cell)) (x .stands) in
+      let f = cell-fields file (eventIn (x .parts .rows)) (getD cells j 0) (normal (x .cell)) (x .stands) in
       let b = f .header in
       let c = read file a .all .short in
       omega arith
@@ -59,8 +60,7 @@ module _ (file : List ℕ) (nv : ℕ) (q : nv ≡ variableCount file) (s s′ : 
   made : (c : ℕ) (m : Mover) → getElem? (movers d) c ≡ some m → (s′ ≡ move (layoutOf nv) s m) × (r ≡ not (enabled (layoutOf nv) s m)) → (s′ ≡ step d s c) × (r ≡ idle d s c)
   unfolding step idle
   made c m g k =
-      let y = same-layout file d w nv q in
-      (
+      let y = same-layout file d w nv q in (
         k .0 ∙ ap (λ (z : Layout). move z s m) y ∙ sym (ap (moved (layout d) s) g),
         k .1 ∙ ap (λ (z : Layout). not (enabled z s m)) y ∙ sym (ap (idles (layout d) s) g),
       )

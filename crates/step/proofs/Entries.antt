@@ -1,20 +1,21 @@
 -- The entries of the calls: their tests, and the loops over them. Assumes nothing.
-use mathlib.Core.Path.{_≡_, refl, sym, ap, ap₂, subst, _∙_}
+use mathlib.Core.Path.{_≡_, refl, sym, ap, ap₂, _∙_}
 use mathlib.Core.Bool.{Bool, true, false, cond, _&&_}
 use mathlib.Core.List.{List, [], _∷_, _++_, map}
 use Prim.Native.Nat.{ℕ, zero, suc, _+_, _-_, _*_, _<_, _≤_}
 use native.Mathlib.Omega.{arith}
 use native.Mathlib.Numerals.{add-one}
-use lib.ListN.{getD, length, take, drop, set, replicate, length-map, length-replicate, length-append, length-drop, length-take, List·getD-map}
-use lib.Seq.{paste, paste-zero, paste-suc, length-paste, take-all, drop-length, drop-drop, take-length, getD-drop, length-take-le}
+use lib.ListN.{getD, length, take, drop, set, replicate, length-map, length-replicate, length-drop, List·getD-map}
+use lib.Seq.{paste, paste-zero, paste-suc, length-paste, take-all, getD-drop}
 use lib.Dec.{ltb, leb, eqb}
 use borrow.Author.Tests.{lt-ltb, le-ltb, ltb-true, ltb-false, ne-eqb}
-use Rattle.design.specs.Tree.{Kind, boolean, integer, external, Variable, Design}
-use Rattle.design.specs.DesignFile.{Item, item, need, Matrix, kind, at8, variableAt, matrixAt}
+use Rattle.design.specs.Tree.{Kind, boolean, Variable, Design}
+use Rattle.design.specs.DesignFile.{Item, item, need, Matrix, kind, at8, matrixAt}
 use Rattle.design.specs.Limits.{maxStatuses, maxEvents}
 use Rattle.design.specs.Check.{check, accepted, trailer, variableCount, matrixCount, matricesOffset}
 use Rattle.design.specs.Places.{Accepted}
-use Rattle.design.proofs.Sections.{Parts, whole, need-inv, item-same}
+use Rattle.design.specs.Sections.{Parts}
+use Rattle.design.proofs.Sections.{whole, need-inv, item-same}
 use Rattle.design.proofs.Positions.{variable-stands, matrix-stands}
 use Rattle.design.proofs.Places.{read, matrix-inside}
 use Rattle.step.specs.Interface.{rightKind, valuesRight, statusesRight, firstWrong}
@@ -81,13 +82,13 @@ module _ (file : List ℕ) (d : Design) (c : check file ≡ accepted d) where
   value-at : (nv : ℕ) → nv ≡ variableCount file → (ps : List ℕ) (i : ℕ) → i < length ps → (z : Bool) → getD (valuesRight (d .variables) ps) i z ≡ valueRight file nv i (getD ps i 0)
   value-at nv e ps i l z = split-lt i nv _
       (λ h.
-        let x : Variable = record { kind = boolean; initial = 0 } in
-        let k = variable-is file (trailer file) (3 * i) (3 * i + 3) (getD (d .variables) i x) (variable-stands file d w i (omega arith) x) .0 in
-        used (d .variables) ps i (omega (arith, w .variable-count)) l x z ∙ ap (λ (y : Kind). rightKind y (getD ps i 0)) k ∙ right-kind (at8 file (3 * i)) (getD ps i 0)
-        ∙ ap (λ (t : Bool). cond t (cond (eqb (getD file (3 * i) 0) 1) true (leb (getD ps i 0) 1)) (eqb (getD ps i 0) 0)) (sym (lt-ltb i nv h)))
+      let x : Variable = record { kind = boolean; initial = 0 } in
+      let k = variable-is file (trailer file) (3 * i) (3 * i + 3) (getD (d .variables) i x) (variable-stands file d w i (omega arith) x) .0 in
+      used (d .variables) ps i (omega (arith, w .variable-count)) l x z ∙ ap (λ (y : Kind). rightKind y (getD ps i 0)) k ∙ right-kind (at8 file (3 * i)) (getD ps i 0)
+      ∙ ap (λ (t : Bool). cond t (cond (eqb (getD file (3 * i) 0) 1) true (leb (getD ps i 0) 1)) (eqb (getD ps i 0) 0)) (sym (lt-ltb i nv h)))
       (λ h.
-        unused (d .variables) ps i (omega (arith, w .variable-count)) l z
-        ∙ ap (λ (t : Bool). cond t (cond (eqb (getD file (3 * i) 0) 1) true (leb (getD ps i 0) 1)) (eqb (getD ps i 0) 0)) (sym (le-ltb i nv h)))
+      unused (d .variables) ps i (omega (arith, w .variable-count)) l z
+      ∙ ap (λ (t : Bool). cond t (cond (eqb (getD file (3 * i) 0) 1) true (leb (getD ps i 0) 1)) (eqb (getD ps i 0) 0)) (sym (le-ltb i nv h)))
 
   count-at : (m : ℕ) → m < matrixCount file → getD (d .statuses) m 0 ≡ at8 file (matricesOffset file + 2 * m)
   unfolding matrixAt
@@ -103,11 +104,11 @@ module _ (file : List ℕ) (d : Design) (c : check file ≡ accepted d) where
   status-at : (mats nm : ℕ) → mats ≡ matricesOffset file → nm ≡ matrixCount file → (ss : List ℕ) (m : ℕ) → m < length ss → (z : Bool) → getD (statusesRight (d .statuses) ss) m z ≡ statusRight file mats nm m (getD ss m 0)
   status-at mats nm q e ss m l z = split-lt m nm _
       (λ h.
-        used-status (d .statuses) ss m (omega (arith, matrix-count file d w)) l z ∙ ap (ltb (getD ss m 0)) (count-at m (omega arith) ∙ ap (λ (j : ℕ). getD file (j + 2 * m) 0) (sym q))
-        ∙ ap (λ (t : Bool). cond t (ltb (getD ss m 0) (getD file (mats + 2 * m) 0)) (eqb (getD ss m 0) 0)) (sym (lt-ltb m nm h)))
+      used-status (d .statuses) ss m (omega (arith, matrix-count file d w)) l z ∙ ap (ltb (getD ss m 0)) (count-at m (omega arith) ∙ ap (λ (j : ℕ). getD file (j + 2 * m) 0) (sym q))
+      ∙ ap (λ (t : Bool). cond t (ltb (getD ss m 0) (getD file (mats + 2 * m) 0)) (eqb (getD ss m 0) 0)) (sym (lt-ltb m nm h)))
       (λ h.
-        unused-status (d .statuses) ss m (omega (arith, matrix-count file d w)) l z
-        ∙ ap (λ (t : Bool). cond t (ltb (getD ss m 0) (getD file (mats + 2 * m) 0)) (eqb (getD ss m 0) 0)) (sym (le-ltb m nm h)))
+      unused-status (d .statuses) ss m (omega (arith, matrix-count file d w)) l z
+      ∙ ap (λ (t : Bool). cond t (ltb (getD ss m 0) (getD file (mats + 2 * m) 0)) (eqb (getD ss m 0) 0)) (sym (le-ltb m nm h)))
 
 pub matrices-inside : (file : List ℕ) → Accepted file → matricesOffset file + 2 * matrixCount file ≤ trailer file
 matrices-inside file a = go (matrixCount file) refl

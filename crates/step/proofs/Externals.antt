@@ -2,18 +2,19 @@
 use mathlib.Core.Path.{_≡_, refl, sym, ap, subst, _∙_}
 use mathlib.Core.Bool.{Bool, true, false, cond, _&&_, _||_}
 use mathlib.Core.List.{List, [], _∷_, _++_, map}
-use mathlib.Core.Option.{Option, none, some}
+use mathlib.Core.Option.{some}
 use Prim.Native.Nat.{ℕ, zero, suc, _+_, _*_, _-_, _<_, _≤_}
 use native.Mathlib.Omega.{arith}
 use native.Mathlib.Numerals.{add-one}
 use lib.ListN.{getD, length, getElem?, length-append, length-map}
 use lib.Dec.{eqb, leb}
 use borrow.Author.Tests.{eq-eqb, ne-eqb, leb-true}
-use Rattle.design.specs.Tree.{Kind, boolean, integer, external, Variable, Cell, Design, Mover, cell, raise, ifExternal, externals, movers}
+use Rattle.design.specs.Tree.{Kind, Variable, Cell, Design, Mover, cell, raise, ifExternal, externals, movers}
 use Rattle.design.specs.DesignFile.{Item, item, need, kind, at8, at16, variableAt}
 use Rattle.design.specs.Check.{trailer, variableCount}
-use Rattle.design.specs.Places.{Accepted, normalPlaces}
-use Rattle.design.proofs.Sections.{Run, Parts, need-inv, and-inv, item-same, item-past}
+use Rattle.design.specs.Places.{normalPlaces}
+use Rattle.design.specs.Sections.{Run, Parts}
+use Rattle.design.proofs.Sections.{need-inv, and-inv, item-same, item-past}
 use Rattle.design.proofs.Places.{normal-stands}
 use Rattle.step.specs.Ready.{externalsFrom}
 

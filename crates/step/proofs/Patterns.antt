@@ -44,9 +44,9 @@ module _ (a b : ℕ) (h : a < 65536) (k : b < 65536) where
   unfolding wrap
   plus-signed = ⊎-elim
       (λ x. ⊎-elim (λ y. sym (ap₂ (λ (u v : ℤ). wrap (u +ℤ v)) (x .is) (y .is)))
-        (λ y. (let z : plus a b ≡ (a + (65536 - suc (65535 - b))) % 65536 = omega arith in z) ∙ sym (wrap-sub a (suc (65535 - b)) (omega arith)) ∙ sym (ap₂ (λ (u v : ℤ). wrap (u +ℤ v)) (x .is) (y .is))) (half b k))
+      (λ y. (let z : plus a b ≡ (a + (65536 - suc (65535 - b))) % 65536 = omega arith in z) ∙ sym (wrap-sub a (suc (65535 - b)) (omega arith)) ∙ sym (ap₂ (λ (u v : ℤ). wrap (u +ℤ v)) (x .is) (y .is))) (half b k))
       (λ x. ⊎-elim (λ y. (let z : plus a b ≡ (b + (65536 - suc (65535 - a))) % 65536 = omega arith in z) ∙ sym (wrap-sub b (suc (65535 - a)) (omega arith)) ∙ sym (ap₂ (λ (u v : ℤ). wrap (u +ℤ v)) (x .is) (y .is)))
-        (λ y. (let z : plus a b ≡ (65536 - suc (suc (65535 - a + (65535 - b))) % 65536) % 65536 = (let o = x .over in let o′ = y .over in omega arith) in z) ∙ sym (ap₂ (λ (u v : ℤ). wrap (u +ℤ v)) (x .is) (y .is))) (half b k))
+      (λ y. (let z : plus a b ≡ (65536 - suc (suc (65535 - a + (65535 - b))) % 65536) % 65536 = (let o = x .over in let o′ = y .over in omega arith) in z) ∙ sym (ap₂ (λ (u v : ℤ). wrap (u +ℤ v)) (x .is) (y .is))) (half b k))
       (half a h)
 
   same-test : (x y u v : ℕ) → (x < y → u < v) → (y ≤ x → v ≤ u) → ltb x y ≡ ltb u v
@@ -59,14 +59,10 @@ module _ (a b : ℕ) (h : a < 65536) (k : b < 65536) where
   pub below-signed : below a b ≡ ltZ (signed a) (signed b)
   below-signed = ⊎-elim
       (λ x. ⊎-elim (λ y. let o = x .under in let u = y .under in same-test (plus a 32768) (plus b 32768) a b (λ l. omega arith) (λ l. omega arith) ∙ sym (ap₂ ltZ (x .is) (y .is)))
-        (λ y. let o = x .under in let u = y .over in le-ltb (plus a 32768) (plus b 32768) (omega arith) ∙ sym (ap₂ ltZ (x .is) (y .is))) (half b k))
+      (λ y. let o = x .under in let u = y .over in le-ltb (plus a 32768) (plus b 32768) (omega arith) ∙ sym (ap₂ ltZ (x .is) (y .is))) (half b k))
       (λ x. ⊎-elim (λ y. let o = x .over in let u = y .under in lt-ltb (plus a 32768) (plus b 32768) (omega arith) ∙ sym (ap₂ ltZ (x .is) (y .is)))
-        (λ y. let o = x .over in let u = y .over in same-test (plus a 32768) (plus b 32768) (65535 - b) (65535 - a) (λ l. omega arith) (λ l. omega arith) ∙ sym (ap₂ ltZ (x .is) (y .is))) (half b k))
+      (λ y. let o = x .over in let u = y .over in same-test (plus a 32768) (plus b 32768) (65535 - b) (65535 - a) (λ l. omega arith) (λ l. omega arith) ∙ sym (ap₂ ltZ (x .is) (y .is))) (half b k))
       (half a h)
-
-  -- the negated number, in halves: zero is its own
-  neg-low : (q : ℕ) → q < 65536 → Low q → wrap (signed a -ℤ signed q) ≡ wrap (signed a +ℤ negℤ (pos q))
-  neg-low q l x = ap (λ (v : ℤ). wrap (signed a -ℤ v)) (x .is)
 
   pub minus-signed : minus a b ≡ wrap (signed a -ℤ signed b)
   unfolding wrap

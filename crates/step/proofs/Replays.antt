@@ -1,20 +1,21 @@
 -- The loops of a replay: the first state is loaded, and each choice acts on what the one before it left. Assumes nothing.
-use mathlib.Core.Path.{_≡_, refl, sym, ap, ap₂, subst, _∙_}
+use mathlib.Core.Path.{_≡_, refl, sym, ap, ap₂, _∙_}
 use mathlib.Core.Bool.{Bool, true, false, cond, _&&_, _||_}
 use mathlib.Core.List.{List, [], _∷_, _++_, map}
-use mathlib.Core.Option.{Option, none, some}
+use mathlib.Core.Option.{none, some}
 use Prim.Native.Nat.{ℕ, zero, suc, _+_, _*_, _<_, _≤_}
 use native.Mathlib.Omega.{arith}
 use native.Mathlib.Numerals.{add-one}
 use lib.ListN.{getD, length, take, drop, set, replicate, length-set, length-map, length-replicate, List·getD-map}
-use lib.Seq.{paste, paste-zero, paste-suc, length-paste, take-all, drop-cons, drop-length}
+use lib.Seq.{paste, paste-zero, paste-suc, take-all, drop-cons, drop-length}
 use lib.Dec.{leb, eqb}
 use Rattle.design.specs.Tree.{Variable, boolean, Design}
 use Rattle.design.specs.State.{State, start}
 use Rattle.design.specs.DesignFile.{Item, item, need, Matrix, kind, at8, at16, variableAt}
 use Rattle.design.specs.Check.{check, accepted, trailer, variableCount, matrixCount}
 use Rattle.design.specs.Places.{Accepted}
-use Rattle.design.proofs.Sections.{Parts, whole, need-inv, item-same}
+use Rattle.design.specs.Sections.{Parts}
+use Rattle.design.proofs.Sections.{whole, need-inv, item-same}
 use Rattle.design.proofs.Positions.{variable-stands}
 use Rattle.design.proofs.Places.{read}
 use Rattle.step.specs.OneStep.{step, property}
@@ -63,13 +64,13 @@ module _ (file : List ℕ) (a : Accepted file) (nv nm : ℕ) (e : nv ≡ variabl
     inside = omega arith;
     size = length-set s v x ∙ g .size;
     same = λ d c.
-      let w = whole file d c .parts in
-      let xs = map (λ (y : Variable). y .initial) (d .variables) in
-      let n : length xs ≡ nv = length-map (d .variables) (λ (y : Variable). y .initial) ∙ w .variable-count ∙ sym e in
-      let k : v < length xs = omega arith in
-      ap (λ (t : State). set t v x) (g .same d c) ∙ ap (set (paste (replicate (nv + nm) 0) 0 xs v) v) (h ∙ sym (initial-at file d w v (omega arith)))
-      ∙ ap (λ (i : ℕ). set (paste (replicate (nv + nm) 0) 0 xs v) i (getD xs v 0)) (let z : v ≡ 0 + v = omega arith in z)
-      ∙ paste-suc (replicate (nv + nm) 0) 0 xs v 0 (let z : length (replicate {A = ℕ} (nv + nm) 0) ≡ nv + nm = length-replicate (nv + nm) 0 in omega arith) k ∙ ap (paste (replicate (nv + nm) 0) 0 xs) (sym (add-one v));
+        let w = whole file d c .parts in
+        let xs = map (λ (y : Variable). y .initial) (d .variables) in
+        let n : length xs ≡ nv = length-map (d .variables) (λ (y : Variable). y .initial) ∙ w .variable-count ∙ sym e in
+        let k : v < length xs = omega arith in
+        ap (λ (t : State). set t v x) (g .same d c) ∙ ap (set (paste (replicate (nv + nm) 0) 0 xs v) v) (h ∙ sym (initial-at file d w v (omega arith)))
+        ∙ ap (λ (i : ℕ). set (paste (replicate (nv + nm) 0) 0 xs v) i (getD xs v 0)) (let z : v ≡ 0 + v = omega arith in z)
+        ∙ paste-suc (replicate (nv + nm) 0) 0 xs v 0 (let z : length (replicate {A = ℕ} (nv + nm) 0) ≡ nv + nm = length-replicate (nv + nm) 0 in omega arith) k ∙ ap (paste (replicate (nv + nm) 0) 0 xs) (sym (add-one v));
   }
 
   pub loading-end : (v : ℕ) (s : State) → nv ≤ v → Loading file nv nm v s → (d : Design) → check file ≡ accepted d → s ≡ start d
@@ -114,9 +115,9 @@ module _ (file : List ℕ) (p : ℕ) (cs : List ℕ) (s₀ : State) (i : ℕ) (s
     inside = omega arith;
     size = n ∙ g .size;
     same = λ d e.
-      ap (λ (j : ℕ). firstBreak d p s′ (drop j cs) j) (add-one i) ∙ ap (λ (x : State). firstBreak d p x (drop (suc i) cs) (suc i)) (k d e .0 ∙ ap (step d s) q)
-      ∙ ap (λ (b : Bool). cond b (firstBreak d p (step d s (getD cs i 0)) (drop (suc i) cs) (suc i)) (some i)) (sym t ∙ holds d e)
-      ∙ ap (λ (xs : List ℕ). firstBreak d p s xs i) (sym (drop-cons cs i 0 l)) ∙ g .same d e;
+        ap (λ (j : ℕ). firstBreak d p s′ (drop j cs) j) (add-one i) ∙ ap (λ (x : State). firstBreak d p x (drop (suc i) cs) (suc i)) (k d e .0 ∙ ap (step d s) q)
+        ∙ ap (λ (b : Bool). cond b (firstBreak d p (step d s (getD cs i 0)) (drop (suc i) cs) (suc i)) (some i)) (sym t ∙ holds d e)
+        ∙ ap (λ (xs : List ℕ). firstBreak d p s xs i) (sym (drop-cons cs i 0 l)) ∙ g .same d e;
   }
 
   pub replaying-never : r ≡ true → length cs ≤ i → (d : Design) → check file ≡ accepted d → none ≡ firstBreak d p s₀ cs 0

@@ -2,26 +2,27 @@
 use mathlib.Core.Path.{_≡_, refl, sym, ap, subst, _∙_}
 use mathlib.Core.Bool.{Bool, true, false, false≢true, cond}
 use mathlib.Core.List.{List}
-use Prim.Native.Nat.{ℕ, zero, suc, _+_, _-_, _*_, _<_, _≤_}
+use mathlib.Core.Logic.{_⊎_}
+use Prim.Native.Nat.{ℕ, zero, suc, _+_, _-_, _<_, _≤_}
 use native.Mathlib.Omega.{arith}
 use native.Mathlib.Numerals.{sub-one}
 use lib.ListN.{getD, set, length, length-set}
-use lib.Dec.{ltb, leb, eqb}
+use lib.Dec.{ltb, eqb}
 use borrow.Author.Tests.{lt-ltb, eq-eqb, ne-eqb, ltb-true, eqb-true, eqb-false}
 use Rattle.design.specs.Tree.{IntExpr, BoolExpr, Stmt, Stmts, assign, assignB, ifElse, done, then, bit}
 use Rattle.design.specs.Limits.{maxDepth}
 use Rattle.design.specs.State.{State, Layout}
-use Rattle.design.specs.Reading.{Read, got, bad, bind, when}
+use Rattle.design.specs.Reading.{Read, got, bad, bind}
 use Rattle.design.specs.Expression.{Names, intExpr, boolExpr}
-use Rattle.design.specs.Action.{StmtOp, stmtOp, value, assignment, statements, listOf, conditional, stmtOf, statement, list}
+use Rattle.design.specs.Action.{stmtOp, assignment, statements, listOf, statement, list}
 use Rattle.design.specs.Answers.{found}
-use Rattle.design.specs.declared.expression.Found.{Found}
 use Rattle.design.specs.declared.expression.Found.the-variants.{At, Bad}
+use Rattle.design.proofs.Readers.{stmt-none}
 use Rattle.design.proofs.Forward.{bool-on, list-on, stmt-on}
 use Rattle.step.specs.Evaluation.{evalInt, evalBool}
 use Rattle.step.specs.OneStep.{execute, executeAll}
-use Rattle.step.specs.Accepted.{isRead, past, valueOf, intValue, boolValue, afterStmt, afterList}
-use Rattle.step.proofs.Accepted.{when-read, bind-read, one-first, one-past, two, two-first, two-second, two-past, two-value, three, three-first, three-second, three-third, three-past}
+use Rattle.step.specs.Accepted.{isRead, past, intValue, boolValue, afterStmt, afterList}
+use Rattle.step.proofs.Accepted.{provided-read, bind-read, one-first, one-past, two, two-first, two-second, two-past, two-value, three, three-first, three-second, three-third, three-past}
 
 pub found-past : {A : Type 0} (x : Read A) (m : ℕ) → At m ≡ found x → m ≡ past x
 found-past (got a n) m e = cc
@@ -45,6 +46,7 @@ length-cond false a b n p q = q
 
 mutual
   unfolding execute executeAll
+
   pub length-execute : (x : Stmt) (l : Layout) (s : State) → length (execute x l s) ≡ length s
   length-execute (assign v e) l s = length-set s v (evalInt l s e)
   length-execute (assignB v e) l s = length-set s v (bit (evalBool l s e))
@@ -122,8 +124,8 @@ module _ (text : List ℕ) (N : Names) (end : ℕ) where
     seq-rest y s s′ m p q = (
       subst (λ (j : ℕ). isRead (Q k (n - 1) j) ≡ true) (sym q) (two-second then (S k at) (Q k (n - 1)) both),
       ap (λ (j : ℕ). afterList y (Q k (n - 1) j) s′) q ∙ ap (λ (w : State). afterList y (Q k (n - 1) (past (S k at))) w) p
-      ∙ sym (ap (λ (r : State → State). r s) (two-value then {P = State → State} {Q = State → State} {R = State → State} (λ (t : Stmts) (w : State). executeAll t y w) (λ w. w) (λ (t : Stmt) (w : State). execute t y w) (λ w. w) (λ (t : Stmts) (w : State). executeAll t y w) (λ w. w) (λ a b w. b (a w)) (λ a b. refl) (S k at) (Q k (n - 1)) both))
-      ∙ sym (ap (λ (x : Read Stmts). afterList y x s) (seq-step k n at l)),
+          ∙ sym (ap (λ (r : State → State). r s) (two-value then {P = State → State} {Q = State → State} {R = State → State} (λ (t : Stmts) (w : State). executeAll t y w) (λ w. w) (λ (t : Stmt) (w : State). execute t y w) (λ w. w) (λ (t : Stmts) (w : State). executeAll t y w) (λ w. w) (λ a b w. b (a w)) (λ a b. refl) (S k at) (Q k (n - 1)) both))
+          ∙ sym (ap (λ (x : Read Stmts). afterList y x s) (seq-step k n at l)),
       ap (λ (j : ℕ). past (Q k (n - 1) j)) q ∙ sym (two-past then (S k at) (Q k (n - 1)) both) ∙ sym (ap past (seq-step k n at l)),
     )
 
@@ -160,6 +162,13 @@ module _ (text : List ℕ) (N : Names) (end : ℕ) where
   stmt-live (suc k) at h = ltb-true at end (bind-read (ltb at end) _ _ h .0)
 
   module _ (k at : ℕ) (h : isRead (S k at) ≡ true) where
+    pub stmt-unknown : (getD text at 0 < 0x20) ⊎ (0x22 ≤ getD text at 0) → ⊥
+    stmt-unknown s = go (S k at) h (stmt-none text N end k at (stmt-live k at h) s)
+      where
+        go : (x : Read Stmt) → isRead x ≡ true → Bad ≡ found x → ⊥
+        go (got a n) g e = let z : _≡_ {A = ℕ} 0 1 = cc in omega arith
+        go bad g e = false≢true g
+
     module _ (e : getD text at 0 ≡ 0x20) where
       pub stmt-assign : S k at ≡ assignment text N end (at + 1)
       unfolding statement stmtOp
@@ -222,9 +231,9 @@ module _ (text : List ℕ) (N : Names) (end : ℕ) where
         if-runs y s b p e w =
             let w′ : p ≡ past (L (k - 1) (past (C (at + 1)))) = w ∙ ap (λ (j : ℕ). past (L (k - 1) j)) q in (
               ap (λ (t : Bool). cond t (afterList y (L (k - 1) m) s) (afterList y (L (k - 1) p) s)) e
-              ∙ ap (λ (j : ℕ). cond (boolValue y s (C (at + 1))) (afterList y (L (k - 1) j) s) (afterList y (L (k - 1) p) s)) q
-              ∙ ap (λ (j : ℕ). cond (boolValue y s (C (at + 1))) (afterList y (L (k - 1) (past (C (at + 1)))) s) (afterList y (L (k - 1) j) s)) w′
-              ∙ sym (if-value y s (C (at + 1)) (L (k - 1)) all) ∙ sym (ap (λ (x : Read Stmt). afterStmt y x s) as-if),
+                  ∙ ap (λ (j : ℕ). cond (boolValue y s (C (at + 1))) (afterList y (L (k - 1) j) s) (afterList y (L (k - 1) p) s)) q
+                  ∙ ap (λ (j : ℕ). cond (boolValue y s (C (at + 1))) (afterList y (L (k - 1) (past (C (at + 1)))) s) (afterList y (L (k - 1) j) s)) w′
+                  ∙ sym (if-value y s (C (at + 1)) (L (k - 1)) all) ∙ sym (ap (λ (x : Read Stmt). afterStmt y x s) as-if),
               ap (λ (j : ℕ). past (L (k - 1) j)) w′ ∙ sym (three-past ifElse (C (at + 1)) (L (k - 1)) all) ∙ sym (ap past as-if),
             )
 
@@ -244,7 +253,7 @@ module _ (text : List ℕ) (N : Names) (end : ℕ) where
     assign-inside =
         let p = bind-read (ltb at end) _ _ h in
         let a = sym (ap isRead (p .1)) ∙ h in
-        (ltb-true _ _ (p .0), ltb-true _ _ (when-read (ltb target (N .variables)) _ a .0))
+        (ltb-true _ _ (p .0), ltb-true _ _ (provided-read (ltb target (N .variables)) _ a .0))
 
     module _ (kind : N .kindOf target ≡ 1) where
       pub as-int : assignment text N end at ≡ bind (intExpr text N end maxDepth (at + 1)) (λ e n. got (assign target e) n)

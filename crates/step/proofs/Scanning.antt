@@ -1,23 +1,23 @@
 -- The loop over the cells that looks at the invalid ones, and the invariant. Assumes nothing.
 use mathlib.Core.Path.{_≡_, refl, sym, ap, ap₂, subst, _∙_}
-use mathlib.Core.Bool.{Bool, true, false, cond, not, _&&_}
+use mathlib.Core.Bool.{Bool, true, false, not, _&&_}
 use mathlib.Core.List.{List, [], _∷_}
-use Prim.Native.Nat.{ℕ, zero, suc, _+_, _*_, _-_, _<_, _≤_}
+use Prim.Native.Nat.{ℕ, zero, suc, _+_, _-_, _<_, _≤_}
 use native.Mathlib.Omega.{arith}
 use native.Mathlib.Numerals.{add-one}
 use lib.ListN.{getD, length, drop}
 use lib.Seq.{drop-cons, drop-length}
-use Rattle.design.specs.Tree.{BoolExpr, constantB, InvalidCell, Design}
+use Rattle.design.specs.Tree.{BoolExpr, constantB, Design}
 use Rattle.design.specs.Limits.{maxDepth}
 use Rattle.design.specs.State.{State, Layout, layout}
-use Rattle.design.specs.Reading.{Read, got, bad}
+use Rattle.design.specs.Reading.{got}
 use Rattle.design.specs.Expression.{Names, boolExpr}
 use Rattle.design.specs.DesignFile.{Entry, normal, invalid, c-matrix, c-status, c-event, c-kind, c-past}
-use Rattle.design.specs.Check.{invalids, namesOf, names, trailer, variableCount, matricesOffset, matrixCount, cellsOffset, cellCount, invariantOffset}
-use Rattle.design.specs.Places.{Accepted, pastCells}
-use Rattle.design.proofs.Sections.{Parts, Cells, eventIn}
-use Rattle.design.proofs.Positions.{CellRead, EntryRead, InvalidRead, invariant-stands}
-use Rattle.design.proofs.Places.{Read as Tree, read, cell-stands, Standing, CellFields, cell-fields}
+use Rattle.design.specs.Check.{invalids, namesOf, names, trailer, variableCount, matricesOffset, cellsOffset, cellCount, invariantOffset, eventIn}
+use Rattle.design.specs.Places.{pastCells}
+use Rattle.design.specs.Sections.{Parts, EntryRead, Standing, CellFields}
+use Rattle.design.proofs.Positions.{invariant-stands}
+use Rattle.design.proofs.Places.{Read as Tree, read, cell-stands, cell-fields}
 use Rattle.step.specs.Evaluation.{evalBool}
 use Rattle.step.specs.OneStep.{statusAndEvent, noInvalid, property}
 use Rattle.step.specs.Accepted.{isRead, layoutOf, boolValue}
@@ -75,14 +75,14 @@ module _ (file events′ : List ℕ) (nv nm : ℕ) (slots : State) (h : Ready fi
     entry : (d : Design) → Parts file d → Entry
     entry d w = getD (w .entries) i none
 
-    stands : (d : Design) (w : Parts file d) → Standing file (eventIn file (w .rows)) p (entry d w)
+    stands : (d : Design) (w : Parts file d) → Standing file (eventIn (w .rows)) p (entry d w)
     unfolding pastCells entry
     stands d w =
-        let (b, c) = cell-stands file (eventIn file (w .rows)) (w .entries) (cellsOffset file) (cellsOffset file) (invariantOffset file) (w .cell-run) i (omega (arith, w .cell-count)) none in
-        subst (λ (j : ℕ). Standing file (eventIn file (w .rows)) j (getD (w .entries) i none)) (sym (g .here)) (b, c)
+        let (b, c) = cell-stands file (eventIn (w .rows)) (w .entries) (cellsOffset file) (cellsOffset file) (invariantOffset file) (w .cell-run) i (omega (arith, w .cell-count)) none in
+        subst (λ (j : ℕ). Standing file (eventIn (w .rows)) j (getD (w .entries) i none)) (sym (g .here)) (b, c)
 
     pub scan-fields : CellFields file p
-    scan-fields = cell-fields file (eventIn file (tree .all .parts .rows)) p (entry (tree .tree) (tree .all .parts)) (stands (tree .tree) (tree .all .parts))
+    scan-fields = cell-fields file (eventIn (tree .all .parts .rows)) p (entry (tree .tree) (tree .all .parts)) (stands (tree .tree) (tree .all .parts))
 
     split : (d : Design) (w : Parts file d) → drop i (w .entries) ≡ entry d w ∷ drop (suc i) (w .entries)
     unfolding entry
@@ -102,12 +102,12 @@ module _ (file events′ : List ℕ) (nv nm : ℕ) (slots : State) (h : Ready fi
         ∙ ap (λ (b : BoolExpr). not (statusAndEvent l slots (c-matrix file p) (c-status file p) b) && noInvalid l slots (invalids es)) (r .1 .event)
 
     abbrev Sees : Bool → Type 0
-    Sees r = (d : Design) (w : Parts file d) → r ≡ statusAndEvent l slots (c-matrix file p) (c-status file p) (eventIn file (w .rows) (c-matrix file p) (c-event file p))
+    Sees r = (d : Design) (w : Parts file d) → r ≡ statusAndEvent l slots (c-matrix file p) (c-status file p) (eventIn (w .rows) (c-matrix file p) (c-event file p))
 
     -- an invalid cell at which both hold decides
     pub scan-found : (c-kind file p ≡ 0 → ⊥) → (r : Bool) → Sees r → r ≡ true → (d : Design) (w : Parts file d) → false ≡ noInvalid l slots (d .invalid)
     scan-found e r s q d w =
-        let t = is-invalid (eventIn file (w .rows)) (entry d w) (drop (suc i) (w .entries)) (stands d w .1 .entry) e in
+        let t = is-invalid (eventIn (w .rows)) (entry d w) (drop (suc i) (w .entries)) (stands d w .1 .entry) e in
         ap (λ (b : Bool). not b && noInvalid l slots (invalids (drop (suc i) (w .entries)))) (sym q ∙ s d w) ∙ sym t ∙ sym (ap (λ (es : List Entry). noInvalid l slots (invalids es)) (split d w)) ∙ g .same d w
 
     onward : (q : ℕ) → q ≡ c-past file p → ((d : Design) (w : Parts file d) → noInvalid l slots (invalids (drop (suc i) (w .entries))) ≡ noInvalid l slots (invalids (drop i (w .entries)))) → Scanning file nv slots q (i + 1)
@@ -119,11 +119,11 @@ module _ (file events′ : List ℕ) (nv nm : ℕ) (slots : State) (h : Ready fi
     }
 
     pub scan-normal : c-kind file p ≡ 0 → (q : ℕ) → q ≡ c-past file p → Scanning file nv slots q (i + 1)
-    scan-normal e q f = onward q f (λ d w. sym (is-normal (eventIn file (w .rows)) (entry d w) (drop (suc i) (w .entries)) (stands d w .1 .entry) e) ∙ sym (ap (λ (es : List Entry). noInvalid l slots (invalids es)) (split d w)))
+    scan-normal e q f = onward q f (λ d w. sym (is-normal (eventIn (w .rows)) (entry d w) (drop (suc i) (w .entries)) (stands d w .1 .entry) e) ∙ sym (ap (λ (es : List Entry). noInvalid l slots (invalids es)) (split d w)))
 
     pub scan-invalid : (c-kind file p ≡ 0 → ⊥) → (r : Bool) → Sees r → r ≡ false → (q : ℕ) → q ≡ c-past file p → Scanning file nv slots q (i + 1)
     scan-invalid e r s z q f = onward q f (λ d w.
-        ap (λ (b : Bool). not b && noInvalid l slots (invalids (drop (suc i) (w .entries)))) (sym z ∙ s d w) ∙ sym (is-invalid (eventIn file (w .rows)) (entry d w) (drop (suc i) (w .entries)) (stands d w .1 .entry) e) ∙ sym (ap (λ (es : List Entry). noInvalid l slots (invalids es)) (split d w)))
+        ap (λ (b : Bool). not b && noInvalid l slots (invalids (drop (suc i) (w .entries)))) (sym z ∙ s d w) ∙ sym (is-invalid (eventIn (w .rows)) (entry d w) (drop (suc i) (w .entries)) (stands d w .1 .entry) e) ∙ sym (ap (λ (es : List Entry). noInvalid l slots (invalids es)) (split d w)))
 
   pub scanning-end : (p i : ℕ) → cellCount file ≤ i → Scanning file nv slots p i → (d : Design) (w : Parts file d) → true ≡ noInvalid l slots (d .invalid)
   scanning-end p i k g d w =

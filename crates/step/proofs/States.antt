@@ -1,26 +1,27 @@
 -- The answers of START, STEP and HOLDS, by the tests that led to them. Assumes nothing.
-use mathlib.Core.Path.{_≡_, refl, sym, ap, ap₂, subst, _∙_}
+use mathlib.Core.Path.{_≡_, refl, sym, ap, ap₂, _∙_}
 use mathlib.Core.Bool.{Bool, true, false}
-use mathlib.Core.List.{List, [], _∷_, _++_, map}
-use Prim.Native.Nat.{ℕ, zero, suc, _+_, _-_, _<_, _≤_}
+use mathlib.Core.List.{List, [], _++_, map}
+use Prim.Native.Nat.{ℕ, _+_, _-_, _<_, _≤_}
 use native.Mathlib.Omega.{arith}
 use lib.IntN.{ℤ, pos}
-use lib.ListN.{getD, length, take, drop, replicate, length-append, length-map}
+use lib.ListN.{length, take, drop, replicate, length-append, length-map}
 use lib.Seq.{paste, length-paste, take-paste, drop-length}
-use lib.Dec.{ltb, leb, eqb}
+use lib.Dec.{ltb, leb}
 use borrow.Author.Tests.{lt-ltb, le-ltb, le-leb, lt-leb, eq-eqb, ne-eqb}
-use Rattle.design.specs.Tree.{Variable, Design, movers}
+use Rattle.design.specs.Tree.{Design, movers}
 use Rattle.design.specs.State.{State, start}
-use Rattle.design.specs.Check.{Checked, refused, accepted, check, variableCount, matrixCount}
+use Rattle.design.specs.Check.{Checked, accepted, check, variableCount, matrixCount}
 use Rattle.design.specs.Answers.{refusal}
 use Rattle.design.specs.Places.{Accepted}
 use Rattle.design.specs.declared.Refusal.{Refusal}
-use Rattle.design.proofs.Sections.{Parts, whole}
+use Rattle.design.specs.Sections.{Parts}
+use Rattle.design.proofs.Sections.{whole}
 use Rattle.design.proofs.Places.{read}
 use Rattle.step.specs.Pattern.{signed, wrap}
 use Rattle.step.specs.OneStep.{step, idle, property}
 use Rattle.step.specs.Interface.{valuesRight, statusesRight, firstWrong, entriesRight, slotsOf, valuesOf, statusesOf}
-use Rattle.step.specs.Operations.{refusedAt, unless, allRight, refuseStart, answerStart, started, START, refuseStep, answerStep, stepped, STEP, refuseHolds, answerHolds, held, HOLDS}
+use Rattle.step.specs.Operations.{refusedAt, unless, allRight, refuseStart, started, START, refuseStep, answerStep, stepped, STEP, refuseHolds, answerHolds, held, HOLDS}
 use Rattle.step.specs.declared.Started.{Started}
 use Rattle.step.specs.declared.Stepped.{Stepped}
 use Rattle.step.specs.declared.Held.{Held}

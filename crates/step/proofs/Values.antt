@@ -8,16 +8,16 @@ use native.Mathlib.Omega.{arith}
 use native.Mathlib.Nat.{eq-or-lt-of-le}
 use lib.ListN.{getD}
 use lib.Dec.{ltb, leb, eqb}
-use borrow.Author.Tests.{ltb-true, leb-true, eqb-true, lt-ltb}
+use borrow.Author.Tests.{ltb-true, leb-true, lt-ltb}
 use Rattle.design.specs.Tree.{IntExpr, BoolExpr, constant, variable, status, sum, difference, constantB, variableB, notB, andB, orB, equal, less, truth}
 use Rattle.design.specs.State.{State, Layout}
-use Rattle.design.specs.Reading.{Read, got, bad, bind, when}
+use Rattle.design.specs.Reading.{Read, got, bind}
 use Rattle.design.specs.Expression.{Names, IntOp, BoolOp, intOp, boolOp, intOf, boolOf, intExpr, boolExpr}
 use Rattle.design.proofs.Readers.{int-step, int-none, bool-step, bool-none}
 use Rattle.step.specs.Pattern.{plus, minus, below}
 use Rattle.step.specs.Evaluation.{evalInt, evalBool}
 use Rattle.step.specs.Accepted.{isRead, past, valueOf, intValue, boolValue}
-use Rattle.step.proofs.Accepted.{when-read, bind-read, one-first, one-past, one-value, two, two-first, two-second, two-past, two-value}
+use Rattle.step.proofs.Accepted.{provided-read, bind-read, one-first, one-past, one-value, two, two-first, two-second, two-past, two-value}
 
 one-of-two : (b k : ℕ) → k ≤ b → b < k + 2 → (b ≡ k) ⊎ (b ≡ k + 1)
 one-of-two b k p q = ⊎-elim (λ e. inl (sym e)) (λ l. inr (omega arith)) (eq-or-lt-of-le p)
@@ -112,9 +112,9 @@ module _ (text : List ℕ) (N : Names) (end : ℕ) where
         let q = i-step IntOp.op-variable (ap intOp e) in
         let p = bind-read (ltb (at + 1) end) _ _ (sym (ap isRead q) ∙ h) in
         let a = sym (ap isRead (q ∙ p .1)) ∙ h in
-        let p₁ = when-read (ltb (getD text (at + 1) 0) (N .variables)) _ a in
+        let p₁ = provided-read (ltb (getD text (at + 1) 0) (N .variables)) _ a in
         let a₁ = sym (ap isRead (p₁ .1)) ∙ a in
-        let p₂ = when-read (eqb (N .kindOf (getD text (at + 1) 0)) 1) _ a₁ in
+        let p₂ = provided-read (eqb (N .kindOf (getD text (at + 1) 0)) 1) _ a₁ in
         (ltb-true _ _ (p .0), ltb-true _ _ (p₁ .0), q ∙ p .1 ∙ p₁ .1 ∙ p₂ .1)
 
     pub int-status : getD text at 0 ≡ 0x03 → (at + 1 < end) × (getD text (at + 1) 0 < N .matrices) × (I d at ≡ got (status (getD text (at + 1) 0)) (at + 1 + 1))
@@ -123,7 +123,7 @@ module _ (text : List ℕ) (N : Names) (end : ℕ) where
         let q = i-step IntOp.op-status (ap intOp e) in
         let p = bind-read (ltb (at + 1) end) _ _ (sym (ap isRead q) ∙ h) in
         let a = sym (ap isRead (q ∙ p .1)) ∙ h in
-        let p₁ = when-read (ltb (getD text (at + 1) 0) (N .matrices)) _ a in
+        let p₁ = provided-read (ltb (getD text (at + 1) 0) (N .matrices)) _ a in
         (ltb-true _ _ (p .0), ltb-true _ _ (p₁ .0), q ∙ p .1 ∙ p₁ .1)
 
     pub int-unknown : (getD text at 0 < 1) ⊎ (6 ≤ getD text at 0) → ⊥
@@ -146,8 +146,8 @@ module _ (text : List ℕ) (N : Names) (end : ℕ) where
       pub int-pair : (l : Layout) (s : State) (r₁ n₁ r₂ n₂ : ℕ) → r₁ ≡ intValue l s (I (d - 1) (at + 1)) → n₁ ≡ past (I (d - 1) (at + 1)) → r₂ ≡ intValue l s (I (d - 1) n₁) → n₂ ≡ past (I (d - 1) n₁) → (cond (eqb (getD text at 0) 0x04) (plus r₁ r₂) (minus r₁ r₂) ≡ intValue l s (I d at)) × (n₂ ≡ past (I d at))
       int-pair l s r₁ n₁ r₂ n₂ p₁ q₁ p₂ q₂ = (
         ap₂ (λ x y. cond (eqb (getD text at 0) 0x04) (plus x y) (minus x y)) p₁ (p₂ ∙ ap (λ (j : ℕ). intValue l s (I (d - 1) j)) q₁)
-        ∙ sym (two-value (arithmeticOf (getD text at 0)) (evalInt l s) 0 (evalInt l s) 0 (evalInt l s) 0 (λ x y. cond (eqb (getD text at 0) 0x04) (plus x y) (minus x y)) (arithmetic-value (getD text at 0) l s) (I (d - 1) (at + 1)) (I (d - 1)) i-both)
-        ∙ sym (ap (intValue l s) i-two),
+            ∙ sym (two-value (arithmeticOf (getD text at 0)) (evalInt l s) 0 (evalInt l s) 0 (evalInt l s) 0 (λ x y. cond (eqb (getD text at 0) 0x04) (plus x y) (minus x y)) (arithmetic-value (getD text at 0) l s) (I (d - 1) (at + 1)) (I (d - 1)) i-both)
+            ∙ sym (ap (intValue l s) i-two),
         q₂ ∙ ap (λ (j : ℕ). past (I (d - 1) j)) q₁ ∙ sym (two-past (arithmeticOf (getD text at 0)) (I (d - 1) (at + 1)) (I (d - 1)) i-both) ∙ sym (ap past i-two),
       )
 
@@ -161,7 +161,7 @@ module _ (text : List ℕ) (N : Names) (end : ℕ) where
         let q = b-step BoolOp.op-constant (ap boolOp e) in
         let p = bind-read (ltb (at + 1) end) _ _ (sym (ap isRead q) ∙ h) in
         let a = sym (ap isRead (q ∙ p .1)) ∙ h in
-        let p₁ = when-read (leb (getD text (at + 1) 0) 1) _ a in
+        let p₁ = provided-read (leb (getD text (at + 1) 0) 1) _ a in
         (ltb-true _ _ (p .0), q ∙ p .1 ∙ p₁ .1)
 
     pub bool-variable : getD text at 0 ≡ 0x11 → (at + 1 < end) × (getD text (at + 1) 0 < N .variables) × (B d at ≡ got (variableB (getD text (at + 1) 0)) (at + 1 + 1))
@@ -170,9 +170,9 @@ module _ (text : List ℕ) (N : Names) (end : ℕ) where
         let q = b-step BoolOp.op-variable (ap boolOp e) in
         let p = bind-read (ltb (at + 1) end) _ _ (sym (ap isRead q) ∙ h) in
         let a = sym (ap isRead (q ∙ p .1)) ∙ h in
-        let p₁ = when-read (ltb (getD text (at + 1) 0) (N .variables)) _ a in
+        let p₁ = provided-read (ltb (getD text (at + 1) 0) (N .variables)) _ a in
         let a₁ = sym (ap isRead (p₁ .1)) ∙ a in
-        let p₂ = when-read (not (eqb (N .kindOf (getD text (at + 1) 0)) 1)) _ a₁ in
+        let p₂ = provided-read (not (eqb (N .kindOf (getD text (at + 1) 0)) 1)) _ a₁ in
         (ltb-true _ _ (p .0), ltb-true _ _ (p₁ .0), q ∙ p .1 ∙ p₁ .1 ∙ p₂ .1)
 
     pub bool-unknown : (getD text at 0 < 0x10) ⊎ (0x17 ≤ getD text at 0) → ⊥

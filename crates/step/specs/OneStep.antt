@@ -1,11 +1,11 @@
 -- What one step does, what a list of choices does, and what it breaks (document 01, "One step").
-use mathlib.Core.Bool.{Bool, true, false, not, _&&_, _||_, cond}
+use mathlib.Core.Bool.{Bool, true, not, _&&_, _||_, cond}
 use mathlib.Core.List.{List, [], _∷_}
 use mathlib.Core.Option.{Option, none, some}
 use Prim.Native.Nat.{ℕ, zero, suc}
 use lib.Dec.{leb, eqb}
 use lib.ListN.{length, getD, set, take, getElem?}
-use Rattle.design.specs.Tree.{BoolExpr, Stmt, Stmts, assign, assignB, ifElse, done, then, Cell, InvalidCell, Design, Mover, cell, raise, movers, truth, bit}
+use Rattle.design.specs.Tree.{BoolExpr, Stmt, Stmts, assign, assignB, ifElse, done, then, InvalidCell, Design, Mover, cell, raise, movers, truth, bit}
 use Rattle.design.specs.State.{State, Layout, layout, statusSlot, start}
 use Rattle.step.specs.Evaluation.{evalInt, evalBool}
 

@@ -8,10 +8,9 @@ use lib.Dec.{eqb}
 use Rattle.design.specs.Tree.{Cell, Design}
 use Rattle.design.specs.State.{State}
 use Rattle.design.specs.DesignFile.{normal}
-use Rattle.design.specs.Check.{variableCount, matrixCount}
+use Rattle.design.specs.Check.{variableCount, matrixCount, eventIn}
 use Rattle.design.specs.Places.{Accepted, EventsIndexed}
-use Rattle.design.proofs.Sections.{Parts, eventIn}
-use Rattle.design.proofs.Places.{Standing}
+use Rattle.design.specs.Sections.{Parts, Standing}
 
 pub record Ready (file table : List ℕ) (nv nm : ℕ) (slots : State) : Type 0 where
   pub accepted : Accepted file
@@ -25,7 +24,7 @@ pub record NormalCell (file : List ℕ) (p : ℕ) : Type 0 where
   pub tree : Design
   pub parts : Parts file tree
   pub cell : Cell
-  pub stands : Standing file (eventIn file (parts .rows)) p (normal cell)
+  pub stands : Standing file (eventIn (parts .rows)) p (normal cell)
 
 -- the externals among n variables from v on, by their kind bytes
 unfoldable pub externalsFrom : List ℕ → ℕ → ℕ → List ℕ

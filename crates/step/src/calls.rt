@@ -6,17 +6,10 @@ ghost use lib.ListN.{length, take, replicate};
 ghost use Rattle.design.specs.Tree.{Design};
 ghost use Rattle.design.specs.Check.{check, accepted, variableCount, matrixCount};
 ghost use Rattle.design.specs.Places.{Accepted, CellsIndexed};
-ghost use Rattle.design.proofs.Sections.{Parts};
+ghost use Rattle.design.specs.Sections.{Parts};
 ghost use Rattle.step.specs.OneStep.{property as propertyOf};
 ghost use Rattle.step.specs.Operations.{refuseStart, START, refuseStep, answerStep, STEP, refuseHolds, HOLDS};
 ghost use Rattle.step.specs.Ready.{Ready, externalsFrom};
-use design::Refusal;
-use design::bytes::wide;
-use design::index::MATRICES;
-use design::index::VARIABLES;
-use design::index::index_cells;
-use design::index::index_events;
-use design::index::trailer_word;
 use super::Held;
 use super::Started;
 use super::Stepped;
@@ -25,10 +18,17 @@ use super::interface::give_statuses;
 use super::interface::give_values;
 use super::interface::patterns;
 use super::interface::wrong_entry;
+use super::limits::LAST_PROPERTY;
 use super::mover::external_count;
 use super::mover::move_chosen;
 use super::property::property_true;
 use super::replaying::load_start;
+use design::Refusal;
+use design::index::MATRICES;
+use design::index::VARIABLES;
+use design::index::index_cells;
+use design::index::index_events;
+use design::index::trailer_word;
 
 pub fn refuse_start(number: u8, place: usize) -> Started
     ensures { λ r. ⌜ r ≡ refuseStart number place ⌝ }
@@ -129,7 +129,7 @@ pub fn step_slots(
     }
 }
 
-pub fn step_accepted(file: &[u8], values: [i16; 32], statuses: [u16; 8], choice: u8) -> Stepped
+pub fn step_accepted(file: &[u8], values: [i16; 32], statuses: [u16; 8], choice: u64) -> Stepped
     requires { ⌜ Accepted (now file) ⌝ }
     ensures { λ r. ⌜ r ≡ STEP (now (file .entry)) values statuses choice ⌝ }
 {
@@ -142,7 +142,7 @@ pub fn step_accepted(file: &[u8], values: [i16; 32], statuses: [u16; 8], choice:
     }
     let mut cells = [0u16; 64];
     let normals = index_cells(file, &mut cells);
-    let c = wide(choice);
+    let c = choice as usize;
     if normals + external_count(file, nv) <= c {
         return refuse_step(12, 0);
     }
@@ -182,12 +182,26 @@ pub fn holds_slots(
     property_true(file, events, nv, nm, property, slots)
 }
 
-pub fn holds_accepted(
+// Whether the property is true in the state that right entries give.
+pub fn holds_right(
     file: &[u8],
-    values: [i16; 32],
-    statuses: [u16; 8],
+    nv: usize,
+    nm: usize,
     property: u8,
-) -> Held
+    ps: [u16; 32],
+    ss: [u16; 8],
+) -> bool
+    requires { ⌜ Accepted (now file) × (nv ≡ variableCount (now file)) × (nm ≡ matrixCount (now file)) ⌝ }
+    ensures { λ r. ⌜ ((d : Design) (w : Parts (now (file .entry)) d) → r ≡ propertyOf d property (take nv ps ++ take nm ss)) ⌝ }
+{
+    let mut events = [0u16; 128];
+    index_events(file, &mut events);
+    let mut all = [0u16; 40];
+    let n = nv + nm;
+    holds_slots(file, &events, nv, nm, property, ps, ss, &mut all[..n])
+}
+
+pub fn holds_accepted(file: &[u8], values: [i16; 32], statuses: [u16; 8], property: u8) -> Held
     requires { ⌜ Accepted (now file) ⌝ }
     ensures { λ r. ⌜ r ≡ HOLDS (now (file .entry)) values statuses property ⌝ }
 {
@@ -198,23 +212,10 @@ pub fn holds_accepted(
     if wrong < 40 {
         return refuse_holds(11, wrong);
     }
-    if 1 < property {
+    if LAST_PROPERTY < property {
         return refuse_holds(13, 0);
     }
-    let mut events = [0u16; 128];
-    index_events(file, &mut events);
-    let mut all = [0u16; 40];
-    let n = nv + nm;
-    let holds = holds_slots(
-        file,
-        &events,
-        nv,
-        nm,
-        property,
-        ps,
-        statuses,
-        &mut all[..n],
-    );
+    let holds = holds_right(file, nv, nm, property, ps, statuses);
     Held {
         refusal: Refusal {
             number: 0,

@@ -10,11 +10,11 @@ ghost use Rattle.design.specs.Expression.{intExpr, boolExpr};
 ghost use Rattle.design.specs.Check.{namesOf};
 ghost use Rattle.step.specs.Pattern.{plus, minus, below};
 ghost use Rattle.step.specs.Accepted.{isRead, past, layoutOf, intValue, boolValue};
-use design::bytes::wide;
-use design::bytes::word;
 use super::number::below16;
 use super::number::minus16;
 use super::number::plus16;
+use design::bytes::wide;
+use design::bytes::word;
 
 // A value, and the position past its expression.
 pub struct IntAt {
@@ -25,6 +25,18 @@ pub struct IntAt {
 pub struct BoolAt {
     pub value: bool,
     pub next: usize,
+}
+
+fn int_at(value: u16, next: usize) -> IntAt
+    ensures { λ r. ⌜ (r .value ≡ value) × (r .next ≡ next) ⌝ }
+{
+    IntAt { value, next }
+}
+
+fn bool_at(value: bool, next: usize) -> BoolAt
+    ensures { λ r. ⌜ (r .value ≡ value) × (r .next ≡ next) ⌝ }
+{
+    BoolAt { value, next }
 }
 
 // Sum, difference.
@@ -73,36 +85,21 @@ pub fn eval_int(
     let op = text[at];
     let p = at + 1;
     match op {
-        0x01 => IntAt {
-            value: word(text, p) as u16,
-            next: p + 2,
-        },
+        0x01 => int_at(word(text, p) as u16, p + 2),
         0x02 => {
             let v = wide(text[p]);
-            IntAt {
-                value: slots[v],
-                next: p + 1,
-            }
+            int_at(slots[v], p + 1)
         }
         0x03 => {
             let m = wide(text[p]);
-            IntAt {
-                value: slots[nv + m],
-                next: p + 1,
-            }
+            int_at(slots[nv + m], p + 1)
         }
         0x04..=0x05 => {
             let a = eval_int(text, file, p, end, nv, nm, depth - 1, slots);
             let b = eval_int(text, file, a.next, end, nv, nm, depth - 1, slots);
-            IntAt {
-                value: arithmetic(op, a.value, b.value),
-                next: b.next,
-            }
+            int_at(arithmetic(op, a.value, b.value), b.next)
         }
-        _ => IntAt {
-            value: 0,
-            next: at,
-        },
+        _ => int_at(0, at),
     }
 }
 
@@ -123,43 +120,25 @@ pub fn eval_bool(
     let op = text[at];
     let p = at + 1;
     match op {
-        0x10 => BoolAt {
-            value: 0 < text[p],
-            next: p + 1,
-        },
+        0x10 => bool_at(0 < text[p], p + 1),
         0x11 => {
             let v = wide(text[p]);
-            BoolAt {
-                value: 0 < slots[v],
-                next: p + 1,
-            }
+            bool_at(0 < slots[v], p + 1)
         }
         0x12 => {
             let a = eval_bool(text, file, p, end, nv, nm, depth - 1, slots);
-            BoolAt {
-                value: !a.value,
-                next: a.next,
-            }
+            bool_at(!a.value, a.next)
         }
         0x13..=0x14 => {
             let a = eval_bool(text, file, p, end, nv, nm, depth - 1, slots);
             let b = eval_bool(text, file, a.next, end, nv, nm, depth - 1, slots);
-            BoolAt {
-                value: logic(op, a.value, b.value),
-                next: b.next,
-            }
+            bool_at(logic(op, a.value, b.value), b.next)
         }
         0x15..=0x16 => {
             let a = eval_int(text, file, p, end, nv, nm, depth - 1, slots);
             let b = eval_int(text, file, a.next, end, nv, nm, depth - 1, slots);
-            BoolAt {
-                value: compare(op, a.value, b.value),
-                next: b.next,
-            }
+            bool_at(compare(op, a.value, b.value), b.next)
         }
-        _ => BoolAt {
-            value: false,
-            next: at,
-        },
+        _ => bool_at(false, at),
     }
 }

@@ -8,12 +8,12 @@ ghost use Rattle.design.specs.Action.{assignment, statement, list};
 ghost use Rattle.design.specs.Check.{namesOf};
 ghost use Rattle.design.specs.Tree.{bit};
 ghost use Rattle.step.specs.Accepted.{isRead, past, layoutOf, afterStmt, afterList};
+use super::evaluate::eval_bool;
+use super::evaluate::eval_int;
 use design::action::check_list;
 use design::bytes::wide;
 use design::expression::Found;
 use design::limits::MAX_DEPTH;
-use super::evaluate::eval_bool;
-use super::evaluate::eval_int;
 
 pub fn bit_of(b: bool) -> u16
     ensures { λ r. ⌜ r ≡ bit b ⌝ }
@@ -82,8 +82,10 @@ pub fn run_stmt(
 {
     let op = text[at];
     match op {
-        0x20 => run_assign(text, file, at + 1, end, nv, nm, slots),
-        _ => {
+        0x20..=0x21 => {
+            if op == 0x20 {
+                return run_assign(text, file, at + 1, end, nv, nm, slots);
+            }
             let c = eval_bool(text, file, at + 1, end, nv, nm, MAX_DEPTH, slots);
             if c.value {
                 let m = run_list(text, file, c.next, end, nv, nm, nest - 1, slots);
@@ -93,6 +95,7 @@ pub fn run_stmt(
                 run_list(text, file, m, end, nv, nm, nest - 1, slots)
             }
         }
+        _ => at,
     }
 }
 

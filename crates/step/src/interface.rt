@@ -6,15 +6,15 @@ ghost use lib.ListN.{length, take, drop, replicate};
 ghost use lib.Seq.{paste};
 ghost use lib.IntN.{pos};
 ghost use Rattle.design.specs.Tree.{Design};
-ghost use Rattle.design.specs.Check.{check, accepted, variableCount, matrixCount, matricesOffset};
+ghost use Rattle.design.specs.Check.{check, accepted, variableCount, matrixCount};
 ghost use Rattle.design.specs.Places.{Accepted};
 ghost use Rattle.step.specs.Pattern.{signed, wrap};
 ghost use Rattle.step.specs.Interface.{firstWrong, valuesRight, statusesRight};
 ghost use Rattle.step.specs.Entries.{valueRight, statusRight};
-use design::index::MATRICES_AT;
-use design::index::trailer_word;
 use super::number::integer;
 use super::number::pattern;
+use design::index::MATRICES_AT;
+use design::index::trailer_word;
 
 // The patterns of the values.
 pub fn patterns(values: [i16; 32]) -> [u16; 32]

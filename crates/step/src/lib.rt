@@ -3,6 +3,7 @@ pub mod calls;
 pub mod evaluate;
 pub mod execute;
 pub mod interface;
+pub mod limits;
 pub mod mover;
 pub mod number;
 pub mod property;
@@ -17,6 +18,8 @@ use calls::refuse_step;
 use calls::start_accepted;
 use calls::step_accepted;
 use design::Refusal;
+use limits::LAST_PROPERTY;
+use limits::MAX_CHOICES;
 use replaying::refuse_replay;
 use replaying::replay_accepted;
 
@@ -58,7 +61,7 @@ pub fn start(file: &[u8]) -> Started
 }
 
 // STEP
-pub fn step(file: &[u8], values: [i16; 32], statuses: [u16; 8], choice: u8) -> Stepped
+pub fn step(file: &[u8], values: [i16; 32], statuses: [u16; 8], choice: u64) -> Stepped
     ensures { λ r. ⌜ r ≡ STEP (now (file .entry)) values statuses choice ⌝ }
 {
     let checked = design::check(file);
@@ -87,10 +90,10 @@ pub fn replay(file: &[u8], property: u8, choices: &[u8]) -> Replayed
     if checked.number != 0 {
         return refuse_replay(checked.number, checked.place);
     }
-    if 1 < property {
+    if LAST_PROPERTY < property {
         return refuse_replay(13, 0);
     }
-    if 100 < choices.len() {
+    if MAX_CHOICES < choices.len() {
         return refuse_replay(14, 0);
     }
     replay_accepted(file, property, choices)

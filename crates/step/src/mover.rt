@@ -2,24 +2,23 @@
 // matrices; `p` is where a cell stands.
 ghost use mathlib.Core.Path.{_≡_};
 ghost use mathlib.Core.Bool.{not};
-ghost use Prim.Native.Nat.{ℕ, _+_, _*_, _≤_, _<_};
+ghost use Prim.Native.Nat.{_+_, _*_, _≤_, _<_};
 ghost use lib.ListN.{length, getD};
 ghost use Rattle.design.specs.Tree.{Design, cell, raise};
 ghost use Rattle.design.specs.DesignFile.{c-matrix, c-status, c-event, events as eventCount};
-ghost use Rattle.design.specs.Check.{matricesOffset, check, accepted};
+ghost use Rattle.design.specs.Check.{matricesOffset, check, accepted, eventIn};
 ghost use Rattle.design.specs.Places.{CellsIndexed};
-ghost use Rattle.design.proofs.Sections.{Parts, eventIn};
-ghost use Rattle.design.proofs.Places.{CellFields};
+ghost use Rattle.design.specs.Sections.{Parts, CellFields};
 ghost use Rattle.step.specs.Evaluation.{evalBool};
 ghost use Rattle.step.specs.OneStep.{statusAndEvent, enabled, move as moves, step, idle};
 ghost use Rattle.step.specs.Accepted.{layoutOf};
 ghost use Rattle.step.specs.Ready.{Ready, NormalCell, externalsFrom};
+use super::evaluate::eval_bool;
+use super::execute::run_list;
 use design::bytes::wide;
 use design::bytes::word;
 use design::limits::MAX_DEPTH;
 use design::limits::MAX_NEST;
-use super::evaluate::eval_bool;
-use super::execute::run_list;
 
 // Whether event e of matrix m is true.
 pub fn event_true(
@@ -32,7 +31,7 @@ pub fn event_true(
     slots: &[u16],
 ) -> bool
     requires { ⌜ Ready (now file) (now events) nv nm (now slots) × (m < nm) × (e < eventCount (now file) (matricesOffset (now file)) m) ⌝ }
-    ensures { λ r. ⌜ ((d : Design) (w : Parts (now (file .entry)) d) → r ≡ evalBool (layoutOf nv) (now (slots .entry)) (eventIn (now (file .entry)) (w .rows) m e)) ⌝ }
+    ensures { λ r. ⌜ ((d : Design) (w : Parts (now (file .entry)) d) → r ≡ evalBool (layoutOf nv) (now (slots .entry)) (eventIn (w .rows) m e)) ⌝ }
 {
     let at = events[16 * m + e] as usize;
     let past = at + 1 + wide(file[at]);
@@ -50,7 +49,7 @@ pub fn status_and_event(
     slots: &[u16],
 ) -> bool
     requires { ⌜ Ready (now file) (now events) nv nm (now slots) × CellFields (now file) p ⌝ }
-    ensures { λ r. ⌜ ((d : Design) (w : Parts (now (file .entry)) d) → r ≡ statusAndEvent (layoutOf nv) (now (slots .entry)) (c-matrix (now (file .entry)) p) (c-status (now (file .entry)) p) (eventIn (now (file .entry)) (w .rows) (c-matrix (now (file .entry)) p) (c-event (now (file .entry)) p))) ⌝ }
+    ensures { λ r. ⌜ ((d : Design) (w : Parts (now (file .entry)) d) → r ≡ statusAndEvent (layoutOf nv) (now (slots .entry)) (c-matrix (now (file .entry)) p) (c-status (now (file .entry)) p) (eventIn (w .rows) (c-matrix (now (file .entry)) p) (c-event (now (file .entry)) p))) ⌝ }
 {
     let m = wide(file[p]);
     let status = wide(file[p + 1]);

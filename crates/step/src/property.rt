@@ -1,12 +1,13 @@
 // The properties. Parameters are those of movers.
 ghost use mathlib.Core.Path.{_≡_};
-ghost use Prim.Native.Nat.{_≤_};
 ghost use Rattle.design.specs.Tree.{Design};
-ghost use Rattle.design.proofs.Sections.{Parts};
+ghost use Rattle.design.specs.Sections.{Parts};
 ghost use Rattle.step.specs.Evaluation.{evalBool};
 ghost use Rattle.step.specs.OneStep.{noInvalid, property as propertyOf};
 ghost use Rattle.step.specs.Accepted.{layoutOf};
 ghost use Rattle.step.specs.Ready.{Ready};
+use super::evaluate::eval_bool;
+use super::mover::status_and_event;
 use design::bytes::wide;
 use design::bytes::word;
 use design::index::CELLS;
@@ -15,17 +16,9 @@ use design::index::INVARIANT_AT;
 use design::index::trailer_word;
 use design::limits::MAX_DEPTH;
 use design::limits::TRAILER;
-use super::evaluate::eval_bool;
-use super::mover::status_and_event;
 
 // Whether the invariant is true.
-pub fn invariant_true(
-    file: &[u8],
-    events: &[u16; 128],
-    nv: usize,
-    nm: usize,
-    slots: &[u16],
-) -> bool
+pub fn invariant_true(file: &[u8], events: &[u16; 128], nv: usize, nm: usize, slots: &[u16]) -> bool
     requires { ⌜ Ready (now file) (now events) nv nm (now slots) ⌝ }
     ensures { λ r. ⌜ ((d : Design) (w : Parts (now (file .entry)) d) → r ≡ evalBool (layoutOf nv) (now (slots .entry)) (d .invariant)) ⌝ }
 {

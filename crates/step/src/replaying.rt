@@ -12,6 +12,10 @@ ghost use Rattle.design.specs.Places.{Accepted, CellsIndexed};
 ghost use Rattle.step.specs.Interface.{firstWrong};
 ghost use Rattle.step.specs.Operations.{firstBreak, breaksAnswer, refuseReplay, REPLAY};
 ghost use Rattle.step.specs.Ready.{Ready, externalsFrom};
+use super::Replayed;
+use super::mover::external_count;
+use super::mover::move_chosen;
+use super::property::property_true;
 use design::Refusal;
 use design::bytes::wide;
 use design::bytes::word;
@@ -20,10 +24,6 @@ use design::index::VARIABLES;
 use design::index::index_cells;
 use design::index::index_events;
 use design::index::trailer_word;
-use super::Replayed;
-use super::mover::external_count;
-use super::mover::move_chosen;
-use super::property::property_true;
 
 // The place of the first choice that is not below w; the length where all are.
 pub fn first_over(choices: &[u8], w: usize) -> usize

@@ -10,23 +10,18 @@ use Rattle.design.proofs.check.Reads as check-reads
 use Rattle.step.proofs.calls.holds_accepted.Reads as holds-accepted-reads
 use Rattle.step.proofs.calls.refuse_holds.Reads as refuse-holds-reads
 
--- src/lib.rt:75:9
 check-requires : tie.Need-check-requires
 check-requires c κs = search needs
 
--- src/lib.rt:77:9
 refuse-holds-requires : tie.Need-refuse-holds-requires
 refuse-holds-requires c κs = search needs
 
--- src/lib.rt:77:9
 returns : tie.Need-returns
 returns c = c .refuse-holds .ensures ∙ holds-refused _ _ _ _ _ (c .before .before .before .check .ensures) (c .before .if1 .taken)
 
--- src/lib.rt:79:5
 holds-accepted-requires : tie.Need-holds-accepted-requires
 holds-accepted-requires c κs = sym (ap (λ (y : Refusal). y .number) (c .before .before .check .ensures)) ∙ c .if1 .left
 
--- src/lib.rt:72:1
 returns-2 : tie.Need-returns-2
 returns-2 c = search needs
 

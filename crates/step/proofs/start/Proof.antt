@@ -10,23 +10,18 @@ use Rattle.design.proofs.check.Reads as check-reads
 use Rattle.step.proofs.calls.refuse_start.Reads as refuse-start-reads
 use Rattle.step.proofs.calls.start_accepted.Reads as start-accepted-reads
 
--- src/lib.rt:53:9
 check-requires : tie.Need-check-requires
 check-requires c κs = search needs
 
--- src/lib.rt:55:9
 refuse-start-requires : tie.Need-refuse-start-requires
 refuse-start-requires c κs = search needs
 
--- src/lib.rt:55:9
 returns : tie.Need-returns
 returns c = c .refuse-start .ensures ∙ start-refused _ _ (c .before .before .before .check .ensures) (c .before .if1 .taken)
 
--- src/lib.rt:57:5
 start-accepted-requires : tie.Need-start-accepted-requires
 start-accepted-requires c κs = sym (ap (λ (y : Refusal). y .number) (c .before .before .check .ensures)) ∙ c .if1 .left
 
--- src/lib.rt:50:1
 returns-2 : tie.Need-returns-2
 returns-2 c = search needs
 

@@ -10,23 +10,18 @@ use Rattle.design.proofs.check.Reads as check-reads
 use Rattle.step.proofs.calls.refuse_step.Reads as refuse-step-reads
 use Rattle.step.proofs.calls.step_accepted.Reads as step-accepted-reads
 
--- src/lib.rt:64:9
 check-requires : tie.Need-check-requires
 check-requires c κs = search needs
 
--- src/lib.rt:66:9
 refuse-step-requires : tie.Need-refuse-step-requires
 refuse-step-requires c κs = search needs
 
--- src/lib.rt:66:9
 returns : tie.Need-returns
 returns c = c .refuse-step .ensures ∙ step-refused _ _ _ _ _ (c .before .before .before .check .ensures) (c .before .if1 .taken)
 
--- src/lib.rt:68:5
 step-accepted-requires : tie.Need-step-accepted-requires
 step-accepted-requires c κs = sym (ap (λ (y : Refusal). y .number) (c .before .before .check .ensures)) ∙ c .if1 .left
 
--- src/lib.rt:61:1
 returns-2 : tie.Need-returns-2
 returns-2 c = search needs
 

@@ -11,19 +11,15 @@ use Rattle.step.proofs.calls.holds_slots.Lts as lts
 use Rattle.step.proofs.calls.load_entries.Reads as load-entries-reads
 use Rattle.step.proofs.property.property_true.Reads as property-true-reads
 
--- src/calls.rt:181:5
 load-entries-requires : tie.Need-load-entries-requires
 load-entries-requires c κs = (sizes _ _ _ _ _ (c .before .before .before .pre) .3, sizes _ _ _ _ _ (c .before .before .before .pre) .2, c .before .before .before .pre .size)
 
--- src/calls.rt:182:5
 property-true-requires : tie.Need-property-true-requires
 property-true-requires c κs = ready-same _ _ _ _ _ _ (omega (arith, c .before .before .slots .given)) (c .before .before .before .before .before .before .before .pre)
 
--- src/calls.rt:168:1
 same-length : tie.Need-same-length
 same-length c = search needs
 
--- src/calls.rt:168:1
 returns : tie.Need-returns
 returns c = λ d w. c .property-true .ensures d w ∙ ap (property d (c .before .before .before .before .before .before .before .before .args .property)) (c .before .before .before .before .load-entries .ensures)
 

@@ -7,27 +7,21 @@ use Rattle.step.proofs.calls.load_entries.Reads as reads
 use Rattle.step.proofs.calls.load_entries.Lts as lts
 use Rattle.step.proofs.interface.copy_slots.Reads as copy-slots-reads
 
--- src/calls.rt:97:16
 slice-aggregate-copy-slots : tie.Need-slice-aggregate-copy-slots
 slice-aggregate-copy-slots c = search needs
 
--- src/calls.rt:97:5
 copy-slots-requires : tie.Need-copy-slots-requires
 copy-slots-requires c κs = search needs
 
--- src/calls.rt:98:16
 slice-aggregate-copy-slots-2 : tie.Need-slice-aggregate-copy-slots-2
 slice-aggregate-copy-slots-2 c = search needs
 
--- src/calls.rt:98:5
 copy-slots-requires-2 : tie.Need-copy-slots-requires-2
 copy-slots-requires-2 c κs = search needs
 
--- src/calls.rt:93:1
 same-length : tie.Need-same-length
 same-length c = search needs
 
--- src/calls.rt:93:1
 returns : tie.Need-returns
 returns c = copied-both _ _ _ _ _ _ _ (c .before .before .before .before .before .before .before .before .before .before .before .pre .2) (omega (arith, c .before .before .before .before .before .before .before .before .before .before .before .good .1 .1 .0 .1 .0 .1)) (omega (arith, c .before .before .before .before .before .before .before .before .before .before .before .good .1 .1 .1 .0 .1 .0 .1)) (c .before .before .before .before .before .before .before .copy-slots .ensures) (c .before .before .copy-slots2 .ensures)
 

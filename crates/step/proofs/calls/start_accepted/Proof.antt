@@ -1,7 +1,6 @@
 use native.Mathlib.Omega.{arith}
-use mathlib.Core.Path.{_≡_, refl, sym, ap, _∙_}
-use Prim.Native.Nat.{ℕ, _≤_, _+_}
-use lib.ListN.{length, replicate}
+use mathlib.Core.Path.{sym}
+use Prim.Native.Nat.{_≤_, _+_}
 use lib.Seq.{length-take-le}
 use Rattle.design.proofs.Places.{read}
 use Rattle.step.proofs.Replays.{take-replicate}
@@ -13,31 +12,24 @@ use Rattle.step.proofs.calls.start_accepted.Lts as lts
 use Rattle.design.proofs.index.trailer_word.Reads as trailer-word-reads
 use Rattle.step.proofs.calls.start_slots.Reads as start-slots-reads
 
--- src/calls.rt:85:9
 trailer-word-requires : tie.Need-trailer-word-requires
 trailer-word-requires c κs = omega (arith, read _ (c .before .pre) .all .long)
 
--- src/calls.rt:86:9
 trailer-word-requires-2 : tie.Need-trailer-word-requires-2
 trailer-word-requires-2 c κs = omega (arith, read _ (c .before .before .pre) .all .long)
 
--- src/calls.rt:88:13
 add-n : tie.Need-add-n
 add-n c = search needs
 
--- src/calls.rt:89:31
 array-borrow-prefix-all : tie.Need-array-borrow-prefix-all
 array-borrow-prefix-all c = omega (arith, c .before .trailer-word .ensures .0, c .trailer-word2 .ensures .0, read _ (c .before .before .before .pre) .all .variables, read _ (c .before .before .before .pre) .all .matrices)
 
--- src/calls.rt:89:31
 slice-aggregate-start-slots : tie.Need-slice-aggregate-start-slots
 slice-aggregate-start-slots c = let b : c .before .before .trailer-word .result + c .before .trailer-word2 .result ≤ 40 = omega (arith, c .before .before .trailer-word .ensures .0, c .before .trailer-word2 .ensures .0, read _ (c .before .before .before .before .pre) .all .variables, read _ (c .before .before .before .before .pre) .all .matrices) in sym (length-take-le _ _ b)
 
--- src/calls.rt:89:5
 start-slots-requires : tie.Need-start-slots-requires
 start-slots-requires c κs = let b : c .before .before .trailer-word .result + c .before .trailer-word2 .result ≤ 40 = omega (arith, c .before .before .trailer-word .ensures .0, c .before .trailer-word2 .ensures .0, read _ (c .before .before .before .before .pre) .all .variables, read _ (c .before .before .before .before .pre) .all .matrices) in (c .before .before .before .before .pre, c .before .before .trailer-word .ensures .0, c .before .trailer-word2 .ensures .0, take-replicate _ 40 0 b)
 
--- src/calls.rt:81:1
 returns : tie.Need-returns
 returns c = search needs
 

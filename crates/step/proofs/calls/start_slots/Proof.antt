@@ -13,23 +13,18 @@ use Rattle.step.proofs.interface.give_statuses.Reads as give-statuses-r
 use Rattle.step.proofs.interface.give_values.Reads as give-values-reads
 use Rattle.step.proofs.replaying.load_start.Reads as load-start-reads
 
--- src/calls.rt:68:5
 load-start-requires : tie.Need-load-start-requires
 load-start-requires c κs = search needs
 
--- src/calls.rt:69:9
 give-values-requires : tie.Need-give-values-requires
 give-values-requires c κs = let n : length (c .before .before .before .before .before .before .before .args .slots .now) ≡ c .before .before .before .before .before .before .before .args .nv + c .before .before .before .before .before .before .before .args .nm = ap length (c .before .before .before .before .before .before .before .pre .3) ∙ length-replicate _ _ in omega (arith, c .before .before .slots .given, c .before .before .before .before .before .before .before .pre .1, read _ (c .before .before .before .before .before .before .before .pre .0) .all .variables)
 
--- src/calls.rt:70:9
 give-statuses-requires : tie.Need-give-statuses-requires
 give-statuses-requires c κs = let n : length (c .before .before .before .before .before .before .before .before .before .args .slots .now) ≡ c .before .before .before .before .before .before .before .before .before .args .nv + c .before .before .before .before .before .before .before .before .before .args .nm = ap length (c .before .before .before .before .before .before .before .before .before .pre .3) ∙ length-replicate _ _ in omega (arith, c .before .before .before .before .slots .given, c .before .before .before .before .before .before .before .before .before .pre .2, read _ (c .before .before .before .before .before .before .before .before .before .pre .0) .all .matrices)
 
--- src/calls.rt:64:1
 same-length : tie.Need-same-length
 same-length c = search needs
 
--- src/calls.rt:64:1
 returns : tie.Need-returns
 returns c = let n : length (c .before .before .before .before .before .before .before .before .before .before .args .slots .now) ≡ c .before .before .before .before .before .before .before .before .before .before .args .nv + c .before .before .before .before .before .before .before .before .before .before .args .nm = ap length (c .before .before .before .before .before .before .before .before .before .before .pre .3) ∙ length-replicate _ _ in start-answer _ (c .before .before .before .before .before .before .before .before .before .before .pre .0) _ _ (c .before .before .before .before .before .before .before .before .before .before .pre .1) (c .before .before .before .before .before .before .before .before .before .before .pre .2) _ _ _ (omega (arith, c .before .before .before .before .before .slots .given)) (c .before .before .before .before .before .before .load-start .ensures) (c .before .before .give-values .ensures) (c .give-statuses .ensures)
 

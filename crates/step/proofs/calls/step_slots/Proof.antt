@@ -15,27 +15,21 @@ use Rattle.step.proofs.interface.give_statuses.Reads as give-statuses-r
 use Rattle.step.proofs.interface.give_values.Reads as give-values-reads
 use Rattle.step.proofs.mover.move_chosen.Reads as move-chosen-reads
 
--- src/calls.rt:117:5
 load-entries-requires : tie.Need-load-entries-requires
 load-entries-requires c κs = (sizes _ _ _ _ _ (c .before .before .before .pre .0) .3, sizes _ _ _ _ _ (c .before .before .before .pre .0) .2, c .before .before .before .pre .0 .size)
 
--- src/calls.rt:118:9
 move-chosen-requires : tie.Need-move-chosen-requires
 move-chosen-requires c κs = (ready-same _ _ _ _ _ _ (omega (arith, c .before .before .slots .given)) (c .before .before .before .before .before .before .before .pre .0), c .before .before .before .before .before .before .before .pre .1, c .before .before .before .before .before .before .before .pre .2)
 
--- src/calls.rt:119:9
 give-values-requires : tie.Need-give-values-requires
 give-values-requires c κs = omega (arith, sizes _ _ _ _ _ (c .before .before .before .before .before .before .before .before .before .before .before .pre .0), c .before .before .before .before .before .before .before .before .before .before .before .pre .0 .size, c .before .before .before .before .before .before .slots .given, c .before .before .slots2 .given)
 
--- src/calls.rt:120:9
 give-statuses-requires : tie.Need-give-statuses-requires
 give-statuses-requires c κs = omega (arith, sizes _ _ _ _ _ (c .before .before .before .before .before .before .before .before .before .before .before .before .before .pre .0), c .before .before .before .before .before .before .before .before .before .before .before .before .before .pre .0 .size, c .before .before .before .before .before .before .before .before .slots .given, c .before .before .before .before .slots2 .given)
 
--- src/calls.rt:102:1
 same-length : tie.Need-same-length
 same-length c = search needs
 
--- src/calls.rt:102:1
 returns : tie.Need-returns
 returns c = λ d e. step-answer _ d e _ _ (c .before .before .before .before .before .before .before .before .before .before .before .before .before .before .pre .0 .variables) (c .before .before .before .before .before .before .before .before .before .before .before .before .before .before .pre .0 .matrices) _ _ _ _ _ _ (omega (arith, c .before .before .before .before .before .before .before .before .before .before .before .before .before .before .pre .0 .size, c .before .before .before .before .before .before .before .before .before .slots .given, c .before .before .before .before .before .slots2 .given)) (c .before .before .before .before .before .before .move-chosen .ensures d e) (c .before .before .give-values .ensures) (c .give-statuses .ensures) ∙ ap (λ (s : State). answerStep d s (c .before .before .before .before .before .before .before .before .before .before .before .before .before .before .args .choice)) (c .before .before .before .before .before .before .before .before .before .before .load-entries .ensures)
 

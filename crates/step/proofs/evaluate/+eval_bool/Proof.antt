@@ -1,6 +1,7 @@
+-- `step::evaluate::eval_bool` meets its contract. Assumes nothing.
 use native.Mathlib.Omega.{arith}
 use mathlib.Core.Path.{sym, ap, _∙_}
-use mathlib.Core.Logic.{inl, inr}
+use mathlib.Core.Logic.{inl, inr, ⊎-elim}
 use lib.ListN.{getD}
 use lib.Dec.{ltb}
 use Prim.Native.Nat.{ℕ, _<_, _+_}
@@ -13,6 +14,7 @@ use Rattle.step.proofs.evaluate.eval_bool.Reads as eval-bool
 use Rattle.step.proofs.evaluate.eval_bool.Kinds as eval-bool-kinds
 use Rattle.step.proofs.evaluate.+eval_bool.Lts-eval_bool as eval-bool-lts
 use Rattle.design.proofs.bytes.wide.Reads as wide-reads
+use Rattle.step.proofs.evaluate.bool_at.Reads as bool-at-reads
 use Rattle.step.proofs.evaluate.compare.Reads as compare-reads
 use Rattle.step.proofs.evaluate.eval_int.Reads as eval-int-reads
 use Rattle.step.proofs.evaluate.logic.Reads as logic-reads
@@ -30,7 +32,7 @@ eval-bool-below t =
     and 3 eval-bool-kinds.ps (falls 3 eval-bool-kinds.ps _<_ μ-eval-bool t) eval-bool.Pre
 
 abbrev eval-bool-claims : ℕ → eval-bool-lts.Claims
-eval-bool-claims t = (wide-reads.Asked, wide-reads.Learnt, eval-bool-below t, eval-bool.Post, logic-reads.Asked, logic-reads.Learnt, eval-int-reads.Asked, eval-int-reads.Learnt, compare-reads.Asked, compare-reads.Learnt)
+eval-bool-claims t = (bool-at-reads.Asked, bool-at-reads.Learnt, wide-reads.Asked, wide-reads.Learnt, eval-bool-below t, eval-bool.Post, logic-reads.Asked, logic-reads.Learnt, eval-int-reads.Asked, eval-int-reads.Learnt, compare-reads.Asked, compare-reads.Learnt)
 
 eval-bool-shared-slice-read-op : (t : ℕ) → eval-bool-lts.Need-shared-slice-read-op (eval-bool-claims t) (eval-bool-at t) eval-bool.Post
 eval-bool-shared-slice-read-op t c = omega (arith, bool-live _ _ _ _ _ (c .before .before .before .before .pre .1 .0) .inside)
@@ -38,11 +40,14 @@ eval-bool-shared-slice-read-op t c = omega (arith, bool-live _ _ _ _ _ (c .befor
 eval-bool-add-p : (t : ℕ) → eval-bool-lts.Need-add-p (eval-bool-claims t) (eval-bool-at t) eval-bool.Post
 eval-bool-add-p t c = omega (arith, bool-live _ _ _ _ _ (c .before .before .before .before .pre .1 .0) .inside)
 
-eval-bool-shared-slice-read-t21 : (t : ℕ) → eval-bool-lts.Need-shared-slice-read-t21 (eval-bool-claims t) (eval-bool-at t) eval-bool.Post
-eval-bool-shared-slice-read-t21 t c = omega (arith, bool-constant _ _ _ _ _ (c .before .before .before .before .before .before .pre .1 .0) (c .before .match .keys1) .0)
+eval-bool-shared-slice-read-bool-at : (t : ℕ) → eval-bool-lts.Need-shared-slice-read-bool-at (eval-bool-claims t) (eval-bool-at t) eval-bool.Post
+eval-bool-shared-slice-read-bool-at t c = omega (arith, bool-constant _ _ _ _ _ (c .before .before .before .before .before .before .pre .1 .0) (c .before .match .keys1) .0)
 
-eval-bool-add-t23 : (t : ℕ) → eval-bool-lts.Need-add-t23 (eval-bool-claims t) (eval-bool-at t) eval-bool.Post
-eval-bool-add-t23 t c = omega (arith, bool-constant _ _ _ _ _ (c .before .before .before .before .before .before .pre .1 .0) (c .before .match .keys1) .0)
+eval-bool-add-bool-at : (t : ℕ) → eval-bool-lts.Need-add-bool-at (eval-bool-claims t) (eval-bool-at t) eval-bool.Post
+eval-bool-add-bool-at t c = omega (arith, bool-constant _ _ _ _ _ (c .before .before .before .before .before .before .pre .1 .0) (c .before .match .keys1) .0)
+
+eval-bool-bool-at-requires : (t : ℕ) → eval-bool-lts.Need-bool-at-requires (eval-bool-claims t) (eval-bool-at t) eval-bool.Post
+eval-bool-bool-at-requires t c κs = tt
 
 eval-bool-shared-slice-read-wide : (t : ℕ) → eval-bool-lts.Need-shared-slice-read-wide (eval-bool-claims t) (eval-bool-at t) eval-bool.Post
 eval-bool-shared-slice-read-wide t c = omega (arith, bool-variable _ _ _ _ _ (c .before .before .before .before .before .before .pre .1 .0) (c .before .match .keys2) .0)
@@ -50,20 +55,26 @@ eval-bool-shared-slice-read-wide t c = omega (arith, bool-variable _ _ _ _ _ (c 
 eval-bool-wide-requires : (t : ℕ) → eval-bool-lts.Need-wide-requires (eval-bool-claims t) (eval-bool-at t) eval-bool.Post
 eval-bool-wide-requires t c κs = tt
 
-eval-bool-mul-t26 : (t : ℕ) → eval-bool-lts.Need-mul-t26 (eval-bool-claims t) (eval-bool-at t) eval-bool.Post
-eval-bool-mul-t26 t c = omega (arith, c .wide .ensures .1)
+eval-bool-mul-bool-at : (t : ℕ) → eval-bool-lts.Need-mul-bool-at (eval-bool-claims t) (eval-bool-at t) eval-bool.Post
+eval-bool-mul-bool-at t c = omega (arith, c .wide .ensures .1)
 
-eval-bool-shared-slice-read-t28 : (t : ℕ) → eval-bool-lts.Need-shared-slice-read-t28 (eval-bool-claims t) (eval-bool-at t) eval-bool.Post
-eval-bool-shared-slice-read-t28 t c = omega (arith, c .before .wide .ensures .0, bool-variable _ _ _ _ _ (c .before .before .before .before .before .before .before .before .pre .1 .0) (c .before .before .before .match .keys2) .1)
+eval-bool-shared-slice-read-bool-at-2 : (t : ℕ) → eval-bool-lts.Need-shared-slice-read-bool-at-2 (eval-bool-claims t) (eval-bool-at t) eval-bool.Post
+eval-bool-shared-slice-read-bool-at-2 t c = omega (arith, c .before .wide .ensures .0, bool-variable _ _ _ _ _ (c .before .before .before .before .before .before .before .before .pre .1 .0) (c .before .before .before .match .keys2) .1)
 
-eval-bool-add-t30 : (t : ℕ) → eval-bool-lts.Need-add-t30 (eval-bool-claims t) (eval-bool-at t) eval-bool.Post
-eval-bool-add-t30 t c = omega (arith, bool-variable _ _ _ _ _ (c .before .before .before .before .before .before .before .before .pre .1 .0) (c .before .before .before .match .keys2) .0)
+eval-bool-add-bool-at-2 : (t : ℕ) → eval-bool-lts.Need-add-bool-at-2 (eval-bool-claims t) (eval-bool-at t) eval-bool.Post
+eval-bool-add-bool-at-2 t c = omega (arith, bool-variable _ _ _ _ _ (c .before .before .before .before .before .before .before .before .pre .1 .0) (c .before .before .before .match .keys2) .0)
+
+eval-bool-bool-at-requires-2 : (t : ℕ) → eval-bool-lts.Need-bool-at-requires-2 (eval-bool-claims t) (eval-bool-at t) eval-bool.Post
+eval-bool-bool-at-requires-2 t c κs = tt
 
 eval-bool-sub-eval-bool : (t : ℕ) → eval-bool-lts.Need-sub-eval-bool (eval-bool-claims t) (eval-bool-at t) eval-bool.Post
 eval-bool-sub-eval-bool t c = omega (arith, bool-live _ _ _ _ _ (c .before .before .before .before .before .pre .1 .0) .deep)
 
 eval-bool-eval-bool-requires : (t : ℕ) → eval-bool-lts.Need-eval-bool-requires (eval-bool-claims t) (eval-bool-at t) eval-bool.Post
 eval-bool-eval-bool-requires t c κs = (omega (arith, bool-live _ _ _ _ _ (c .before .before .before .before .before .pre .1 .0) .deep), (not-first _ _ _ _ _ (c .before .before .before .before .before .pre .1 .0) (c .match .keys3), omega arith, omega arith))
+
+eval-bool-bool-at-requires-3 : (t : ℕ) → eval-bool-lts.Need-bool-at-requires-3 (eval-bool-claims t) (eval-bool-at t) eval-bool.Post
+eval-bool-bool-at-requires-3 t c κs = tt
 
 eval-bool-sub-eval-bool-2 : (t : ℕ) → eval-bool-lts.Need-sub-eval-bool-2 (eval-bool-claims t) (eval-bool-at t) eval-bool.Post
 eval-bool-sub-eval-bool-2 t c = omega (arith, bool-live _ _ _ _ _ (c .before .before .before .before .before .before .before .pre .1 .0) .deep)
@@ -80,6 +91,9 @@ eval-bool-eval-bool-requires-3 t c κs = (omega (arith, bool-live _ _ _ _ _ (c .
 eval-bool-logic-requires : (t : ℕ) → eval-bool-lts.Need-logic-requires (eval-bool-claims t) (eval-bool-at t) eval-bool.Post
 eval-bool-logic-requires t c κs = tt
 
+eval-bool-bool-at-requires-4 : (t : ℕ) → eval-bool-lts.Need-bool-at-requires-4 (eval-bool-claims t) (eval-bool-at t) eval-bool.Post
+eval-bool-bool-at-requires-4 t c κs = tt
+
 eval-bool-sub-eval-int : (t : ℕ) → eval-bool-lts.Need-sub-eval-int (eval-bool-claims t) (eval-bool-at t) eval-bool.Post
 eval-bool-sub-eval-int t c = omega (arith, bool-live _ _ _ _ _ (c .before .before .before .before .before .before .before .before .pre .1 .0) .deep)
 
@@ -95,58 +109,79 @@ eval-bool-eval-int-requires-2 t c κs = (compare-second _ _ _ _ _ (c .before .be
 eval-bool-compare-requires : (t : ℕ) → eval-bool-lts.Need-compare-requires (eval-bool-claims t) (eval-bool-at t) eval-bool.Post
 eval-bool-compare-requires t c κs = tt
 
+eval-bool-bool-at-requires-5 : (t : ℕ) → eval-bool-lts.Need-bool-at-requires-5 (eval-bool-claims t) (eval-bool-at t) eval-bool.Post
+eval-bool-bool-at-requires-5 t c κs = tt
+
+eval-bool-bool-at-requires-6 : (t : ℕ) → eval-bool-lts.Need-bool-at-requires-6 (eval-bool-claims t) (eval-bool-at t) eval-bool.Post
+eval-bool-bool-at-requires-6 t c κs = tt
+
 eval-bool-returns : (t : ℕ) → eval-bool-lts.Need-returns (eval-bool-claims t) (eval-bool-at t) eval-bool.Post
 unfolding evalBool
-eval-bool-returns t c = let k = bool-constant _ _ _ _ _ (c .before .before .before .before .before .before .pre .1 .0) (c .before .match .keys1) in (truth-test (getD (c .before .before .before .before .before .before .args .text .now) (c .before .before .before .before .before .before .args .at + 1) 0) ∙ sym (ap (boolValue _ _) (k .1)), sym (ap past (k .1)))
+eval-bool-returns t c = let k = bool-constant _ _ _ _ _ (c .before .before .before .before .before .before .before .pre .1 .0) (c .before .before .match .keys1) in (c .bool-at .ensures .0 ∙ truth-test (getD (c .before .before .before .before .before .before .before .args .text .now) (c .before .before .before .before .before .before .before .args .at + 1) 0) ∙ sym (ap (boolValue _ _) (k .1)), c .bool-at .ensures .1 ∙ sym (ap past (k .1)))
 
 eval-bool-returns-2 : (t : ℕ) → eval-bool-lts.Need-returns-2 (eval-bool-claims t) (eval-bool-at t) eval-bool.Post
 unfolding evalBool
-eval-bool-returns-2 t c = let k = bool-variable _ _ _ _ _ (c .before .before .before .before .before .before .before .before .pre .1 .0) (c .before .before .before .match .keys2) in (ap (λ (v : ℕ). ltb 0 (getD (c .before .before .before .before .before .before .before .before .args .slots .now) v 0)) (c .before .wide .ensures .0) ∙ truth-test (getD (c .before .before .before .before .before .before .before .before .args .slots .now) (getD (c .before .before .before .before .before .before .before .before .args .text .now) (c .before .before .before .before .before .before .before .before .args .at + 1) 0) 0) ∙ sym (ap (boolValue _ _) (k .2)), sym (ap past (k .2)))
+eval-bool-returns-2 t c = let k = bool-variable _ _ _ _ _ (c .before .before .before .before .before .before .before .before .before .pre .1 .0) (c .before .before .before .before .match .keys2) in (c .bool-at2 .ensures .0 ∙ ap (λ (v : ℕ). ltb 0 (getD (c .before .before .before .before .before .before .before .before .before .args .slots .now) v 0)) (c .before .before .wide .ensures .0) ∙ truth-test (getD (c .before .before .before .before .before .before .before .before .before .args .slots .now) (getD (c .before .before .before .before .before .before .before .before .before .args .text .now) (c .before .before .before .before .before .before .before .before .before .args .at + 1) 0) 0) ∙ sym (ap (boolValue _ _) (k .2)), c .bool-at2 .ensures .1 ∙ sym (ap past (k .2)))
 
 eval-bool-returns-3 : (t : ℕ) → eval-bool-lts.Need-returns-3 (eval-bool-claims t) (eval-bool-at t) eval-bool.Post
-eval-bool-returns-3 t c = not-value _ _ _ _ _ (c .before .before .before .before .before .before .before .pre .1 .0) (c .before .before .match .keys3) _ _ _ _ (c .before .eval-bool .ensures .0) (c .before .eval-bool .ensures .1)
+eval-bool-returns-3 t c = let k = not-value _ _ _ _ _ (c .before .before .before .before .before .before .before .before .pre .1 .0) (c .before .before .before .match .keys3) _ _ _ _ (c .before .before .eval-bool .ensures .0) (c .before .before .eval-bool .ensures .1) in (c .bool-at3 .ensures .0 ∙ k .0, c .bool-at3 .ensures .1 ∙ k .1)
 
 eval-bool-returns-4 : (t : ℕ) → eval-bool-lts.Need-returns-4 (eval-bool-claims t) (eval-bool-at t) eval-bool.Post
-eval-bool-returns-4 t c = let k = logic-pair _ _ _ _ _ (c .before .before .before .before .before .before .before .before .before .before .pre .1 .0) (omega arith) (c .before .before .before .if2 .taken) _ _ _ _ _ _ (c .before .before .eval-bool2 .ensures .0) (c .before .before .eval-bool2 .ensures .1) (c .before .eval-bool3 .ensures .0) (c .before .eval-bool3 .ensures .1) in (c .logic .ensures ∙ k .0, k .1)
+eval-bool-returns-4 t c = let k = logic-pair _ _ _ _ _ (c .before .before .before .before .before .before .before .before .before .before .before .pre .1 .0) (omega arith) (c .before .before .before .before .if2 .taken) _ _ _ _ _ _ (c .before .before .before .eval-bool2 .ensures .0) (c .before .before .before .eval-bool2 .ensures .1) (c .before .before .eval-bool3 .ensures .0) (c .before .before .eval-bool3 .ensures .1) in (c .bool-at4 .ensures .0 ∙ c .before .logic .ensures ∙ k .0, c .bool-at4 .ensures .1 ∙ k .1)
 
 eval-bool-returns-5 : (t : ℕ) → eval-bool-lts.Need-returns-5 (eval-bool-claims t) (eval-bool-at t) eval-bool.Post
-eval-bool-returns-5 t c = let k = compare-pair _ _ _ _ _ (c .before .before .before .before .before .before .before .before .before .before .before .pre .1 .0) (omega arith) (c .before .before .before .if3 .taken) _ _ _ _ _ _ (c .before .before .eval-int .ensures .0) (c .before .before .eval-int .ensures .1) (c .before .eval-int2 .ensures .0) (c .before .eval-int2 .ensures .1) in (c .compare .ensures ∙ k .0, k .1)
+eval-bool-returns-5 t c = let k = compare-pair _ _ _ _ _ (c .before .before .before .before .before .before .before .before .before .before .before .before .pre .1 .0) (omega arith) (c .before .before .before .before .if3 .taken) _ _ _ _ _ _ (c .before .before .before .eval-int .ensures .0) (c .before .before .before .eval-int .ensures .1) (c .before .before .eval-int2 .ensures .0) (c .before .before .eval-int2 .ensures .1) in (c .bool-at5 .ensures .0 ∙ c .before .compare .ensures ∙ k .0, c .bool-at5 .ensures .1 ∙ k .1)
 
 eval-bool-returns-6 : (t : ℕ) → eval-bool-lts.Need-returns-6 (eval-bool-claims t) (eval-bool-at t) eval-bool.Post
-eval-bool-returns-6 t c = absurd (bool-unknown _ _ _ _ _ (c .before .before .before .before .before .before .pre .1 .0) (inl (c .if1 .taken)))
-
-eval-bool-returns-7 : (t : ℕ) → eval-bool-lts.Need-returns-7 (eval-bool-claims t) (eval-bool-at t) eval-bool.Post
-eval-bool-returns-7 t c = absurd (bool-unknown _ _ _ _ _ (c .before .before .before .before .before .before .before .before .pre .1 .0) (inr (c .if3 .left)))
+eval-bool-returns-6 t c = absurd (⊎-elim (λ w. bool-unknown _ _ _ _ _ (c .before .before .before .before .before .before .before .pre .1 .0) (inl (w .taken))) (λ w. bool-unknown _ _ _ _ _ (c .before .before .before .before .before .before .before .pre .1 .0) (inr (w .2 .left))) (c .before .if1 .came))
 
 pub +eval-bool-spec : {M : Type 1} → statement M
-+eval-bool-spec = close μ-eval-bool λ t. eval-bool-lts.spec (eval-bool-claims t)
++eval-bool-spec = close μ-eval-bool λ t. eval-bool-lts.spec (
+  bool-at-reads.Asked,
+  bool-at-reads.Learnt,
+  wide-reads.Asked,
+  wide-reads.Learnt,
+  eval-bool-below t,
+  eval-bool.Post,
+  logic-reads.Asked,
+  logic-reads.Learnt,
+  eval-int-reads.Asked,
+  eval-int-reads.Learnt,
+  compare-reads.Asked,
+  compare-reads.Learnt,
+)
     (eval-bool-at t)
     eval-bool.Post
     (eval-bool-shared-slice-read-op t)
     (eval-bool-add-p t)
-    (eval-bool-shared-slice-read-t21 t)
-    (eval-bool-add-t23 t)
+    (eval-bool-shared-slice-read-bool-at t)
+    (eval-bool-add-bool-at t)
+    (eval-bool-bool-at-requires t)
     (eval-bool-shared-slice-read-wide t)
     (eval-bool-wide-requires t)
-    (eval-bool-mul-t26 t)
-    (eval-bool-shared-slice-read-t28 t)
-    (eval-bool-add-t30 t)
+    (eval-bool-mul-bool-at t)
+    (eval-bool-shared-slice-read-bool-at-2 t)
+    (eval-bool-add-bool-at-2 t)
+    (eval-bool-bool-at-requires-2 t)
     (eval-bool-sub-eval-bool t)
     (eval-bool-eval-bool-requires t)
+    (eval-bool-bool-at-requires-3 t)
     (eval-bool-sub-eval-bool-2 t)
     (eval-bool-eval-bool-requires-2 t)
     (eval-bool-sub-eval-bool-3 t)
     (eval-bool-eval-bool-requires-3 t)
     (eval-bool-logic-requires t)
+    (eval-bool-bool-at-requires-4 t)
     (eval-bool-sub-eval-int t)
     (eval-bool-eval-int-requires t)
     (eval-bool-sub-eval-int-2 t)
     (eval-bool-eval-int-requires-2 t)
     (eval-bool-compare-requires t)
+    (eval-bool-bool-at-requires-5 t)
+    (eval-bool-bool-at-requires-6 t)
     (eval-bool-returns t)
     (eval-bool-returns-2 t)
     (eval-bool-returns-3 t)
     (eval-bool-returns-4 t)
     (eval-bool-returns-5 t)
     (eval-bool-returns-6 t)
-    (eval-bool-returns-7 t)

@@ -1,8 +1,10 @@
 use native.Mathlib.Omega.{arith}
+use mathlib.Core.Logic.{inl, inr}
 use Prim.Native.Nat.{ℕ, _<_, _-_}
 use Rattle.design.specs.Check.{namesOf}
 use Rattle.step.specs.Accepted.{layoutOf}
-use Rattle.step.proofs.Runs.{bool-forward, list-forward, list-live, seq-first, Going, going-start, going-on, going-end, stmt-live, assign-live, assign-runs, if-deep, if-test, if-then, if-else, runs-then, runs-else}
+use Rattle.step.proofs.Runs.{stmt-unknown, bool-forward, list-forward, list-live, seq-first, Going, going-start, going-on, going-end, stmt-live, assign-live, assign-runs, if-deep, if-test, if-then, if-else, runs-then, runs-else}
+use Prim.Native.Nat.{ℕ, _<_}
 use borrow.Fn.Kinds.{In}
 use borrow.Fn.PlainCycle.{Measures, is, falls, and}
 use Rattle.step.proofs.execute.run_list.Reads as run-list
@@ -84,61 +86,72 @@ run-stmt-shared-slice-read-op : (t : ℕ) → run-stmt-lts.Need-shared-slice-rea
 run-stmt-shared-slice-read-op t c = omega (arith, stmt-live _ _ _ _ _ (c .before .before .before .before .pre .1 .0))
 
 run-stmt-add-run-assign : (t : ℕ) → run-stmt-lts.Need-add-run-assign (run-stmt-claims t) (run-stmt-at t) run-stmt.Post
-run-stmt-add-run-assign t c = omega (arith, stmt-live _ _ _ _ _ (c .before .before .before .before .before .pre .1 .0))
+run-stmt-add-run-assign t c = omega (arith, stmt-live _ _ _ _ _ (c .before .before .before .before .before .before .before .pre .1 .0))
 
 run-stmt-run-assign-requires : (t : ℕ) → run-stmt-lts.Need-run-assign-requires (run-stmt-claims t) (run-stmt-at t) run-stmt.Post
-run-stmt-run-assign-requires t c κs = (assign-live _ _ _ _ _ (c .before .before .before .before .before .before .pre .1 .0) (c .before .match .keys1), omega arith, omega arith, omega arith)
-
-run-stmt-add-eval-bool : (t : ℕ) → run-stmt-lts.Need-add-eval-bool (run-stmt-claims t) (run-stmt-at t) run-stmt.Post
-run-stmt-add-eval-bool t c = omega (arith, stmt-live _ _ _ _ _ (c .before .before .before .before .before .pre .1 .0))
-
-run-stmt-eval-bool-requires : (t : ℕ) → run-stmt-lts.Need-eval-bool-requires (run-stmt-claims t) (run-stmt-at t) run-stmt.Post
-run-stmt-eval-bool-requires t c κs = (if-test _ _ _ _ _ (c .before .before .before .before .before .before .pre .1 .0) (c .before .match .rest .1), omega arith, omega arith)
-
-run-stmt-sub-run-list : (t : ℕ) → run-stmt-lts.Need-sub-run-list (run-stmt-claims t) (run-stmt-at t) run-stmt.Post
-run-stmt-sub-run-list t c = omega (arith, if-deep _ _ _ _ _ (c .before .before .before .before .before .before .before .before .pre .1 .0) (c .before .before .before .match .rest .1))
-
-run-stmt-run-list-requires : (t : ℕ) → run-stmt-lts.Need-run-list-requires (run-stmt-claims t) (run-stmt-at t) run-stmt.Post
-run-stmt-run-list-requires t c κs = (omega (arith, stmt-live _ _ _ _ _ (c .before .before .before .before .before .before .before .before .before .pre .1 .0), bool-forward _ _ _ _ _ (if-test _ _ _ _ _ (c .before .before .before .before .before .before .before .before .before .pre .1 .0) (c .before .before .before .before .match .rest .1)) (c .before .before .eval-bool .ensures .1), list-live _ _ _ _ _ (if-then _ _ _ _ _ (c .before .before .before .before .before .before .before .before .before .pre .1 .0) (c .before .before .before .before .match .rest .1) _ (c .before .before .eval-bool .ensures .1))), (if-then _ _ _ _ _ (c .before .before .before .before .before .before .before .before .before .pre .1 .0) (c .before .before .before .before .match .rest .1) _ (c .before .before .eval-bool .ensures .1), omega arith, omega arith, omega arith))
-
-run-stmt-sub-skip-list : (t : ℕ) → run-stmt-lts.Need-sub-skip-list (run-stmt-claims t) (run-stmt-at t) run-stmt.Post
-run-stmt-sub-skip-list t c = omega (arith, if-deep _ _ _ _ _ (c .before .before .before .before .before .before .before .before .before .before .before .before .pre .1 .0) (c .before .before .before .before .before .before .before .match .rest .1))
-
-run-stmt-skip-list-requires : (t : ℕ) → run-stmt-lts.Need-skip-list-requires (run-stmt-claims t) (run-stmt-at t) run-stmt.Post
-run-stmt-skip-list-requires t c κs = omega arith
-
-run-stmt-sub-skip-list-2 : (t : ℕ) → run-stmt-lts.Need-sub-skip-list-2 (run-stmt-claims t) (run-stmt-at t) run-stmt.Post
-run-stmt-sub-skip-list-2 t c = omega (arith, if-deep _ _ _ _ _ (c .before .before .before .before .before .before .before .before .pre .1 .0) (c .before .before .before .match .rest .1))
-
-run-stmt-skip-list-requires-2 : (t : ℕ) → run-stmt-lts.Need-skip-list-requires-2 (run-stmt-claims t) (run-stmt-at t) run-stmt.Post
-run-stmt-skip-list-requires-2 t c κs = omega arith
-
-run-stmt-sub-run-list-2 : (t : ℕ) → run-stmt-lts.Need-sub-run-list-2 (run-stmt-claims t) (run-stmt-at t) run-stmt.Post
-run-stmt-sub-run-list-2 t c = omega (arith, if-deep _ _ _ _ _ (c .before .before .before .before .before .before .before .before .before .pre .1 .0) (c .before .before .before .before .match .rest .1))
-
-run-stmt-run-list-requires-2 : (t : ℕ) → run-stmt-lts.Need-run-list-requires-2 (run-stmt-claims t) (run-stmt-at t) run-stmt.Post
-run-stmt-run-list-requires-2 t c κs = (omega (arith, stmt-live _ _ _ _ _ (c .before .before .before .before .before .before .before .before .before .before .pre .1 .0), bool-forward _ _ _ _ _ (if-test _ _ _ _ _ (c .before .before .before .before .before .before .before .before .before .before .pre .1 .0) (c .before .before .before .before .before .match .rest .1)) (c .before .before .before .eval-bool .ensures .1), list-forward _ _ _ _ _ _ (if-then _ _ _ _ _ (c .before .before .before .before .before .before .before .before .before .before .pre .1 .0) (c .before .before .before .before .before .match .rest .1) _ (c .before .before .before .eval-bool .ensures .1)) (c .before .skip-list2 .ensures), list-live _ _ _ _ _ (if-else _ _ _ _ _ (c .before .before .before .before .before .before .before .before .before .before .pre .1 .0) (c .before .before .before .before .before .match .rest .1) _ (c .before .before .before .eval-bool .ensures .1) _ (c .before .skip-list2 .ensures))), (if-else _ _ _ _ _ (c .before .before .before .before .before .before .before .before .before .before .pre .1 .0) (c .before .before .before .before .before .match .rest .1) _ (c .before .before .before .eval-bool .ensures .1) _ (c .before .skip-list2 .ensures), omega arith, omega arith, omega arith))
+run-stmt-run-assign-requires t c κs = (assign-live _ _ _ _ _ (c .before .before .before .before .before .before .before .before .pre .1 .0) (c .before .if3 .taken), omega arith, omega arith, omega arith)
 
 run-stmt-same-length : (t : ℕ) → run-stmt-lts.Need-same-length (run-stmt-claims t) (run-stmt-at t) run-stmt.Post
 run-stmt-same-length t c = omega (arith, c .before .slots .given)
 
 run-stmt-returns : (t : ℕ) → run-stmt-lts.Need-returns (run-stmt-claims t) (run-stmt-at t) run-stmt.Post
-run-stmt-returns t c = assign-runs _ _ _ _ _ (c .before .before .before .before .before .before .before .before .before .pre .1 .0) (c .before .before .before .before .match .keys1) _ _ _ _ (c .before .before .run-assign .ensures)
+run-stmt-returns t c = assign-runs _ _ _ _ _ (c .before .before .before .before .before .before .before .before .before .before .before .pre .1 .0) (c .before .before .before .before .if3 .taken) _ _ _ _ (c .before .before .run-assign .ensures)
+
+run-stmt-add-eval-bool : (t : ℕ) → run-stmt-lts.Need-add-eval-bool (run-stmt-claims t) (run-stmt-at t) run-stmt.Post
+run-stmt-add-eval-bool t c = omega (arith, stmt-live _ _ _ _ _ (c .before .before .before .before .before .before .before .pre .1 .0))
+
+run-stmt-eval-bool-requires : (t : ℕ) → run-stmt-lts.Need-eval-bool-requires (run-stmt-claims t) (run-stmt-at t) run-stmt.Post
+run-stmt-eval-bool-requires t c κs = (if-test _ _ _ _ _ (c .before .before .before .before .before .before .before .before .pre .1 .0) (c .before .if3 .left), omega arith, omega arith)
+
+run-stmt-sub-run-list : (t : ℕ) → run-stmt-lts.Need-sub-run-list (run-stmt-claims t) (run-stmt-at t) run-stmt.Post
+run-stmt-sub-run-list t c = omega (arith, if-deep _ _ _ _ _ (c .before .before .before .before .before .before .before .before .before .before .pre .1 .0) (c .before .before .before .if3 .left))
+
+run-stmt-run-list-requires : (t : ℕ) → run-stmt-lts.Need-run-list-requires (run-stmt-claims t) (run-stmt-at t) run-stmt.Post
+run-stmt-run-list-requires t c κs = (omega (arith, stmt-live _ _ _ _ _ (c .before .before .before .before .before .before .before .before .before .before .before .pre .1 .0), bool-forward _ _ _ _ _ (if-test _ _ _ _ _ (c .before .before .before .before .before .before .before .before .before .before .before .pre .1 .0) (c .before .before .before .before .if3 .left)) (c .before .before .eval-bool .ensures .1), list-live _ _ _ _ _ (if-then _ _ _ _ _ (c .before .before .before .before .before .before .before .before .before .before .before .pre .1 .0) (c .before .before .before .before .if3 .left) _ (c .before .before .eval-bool .ensures .1))), (if-then _ _ _ _ _ (c .before .before .before .before .before .before .before .before .before .before .before .pre .1 .0) (c .before .before .before .before .if3 .left) _ (c .before .before .eval-bool .ensures .1), omega arith, omega arith, omega arith))
+
+run-stmt-sub-skip-list : (t : ℕ) → run-stmt-lts.Need-sub-skip-list (run-stmt-claims t) (run-stmt-at t) run-stmt.Post
+run-stmt-sub-skip-list t c = omega (arith, if-deep _ _ _ _ _ (c .before .before .before .before .before .before .before .before .before .before .before .before .before .before .pre .1 .0) (c .before .before .before .before .before .before .before .if3 .left))
+
+run-stmt-skip-list-requires : (t : ℕ) → run-stmt-lts.Need-skip-list-requires (run-stmt-claims t) (run-stmt-at t) run-stmt.Post
+run-stmt-skip-list-requires t c κs = omega arith
+
+run-stmt-sub-skip-list-2 : (t : ℕ) → run-stmt-lts.Need-sub-skip-list-2 (run-stmt-claims t) (run-stmt-at t) run-stmt.Post
+run-stmt-sub-skip-list-2 t c = omega (arith, if-deep _ _ _ _ _ (c .before .before .before .before .before .before .before .before .before .before .pre .1 .0) (c .before .before .before .if3 .left))
+
+run-stmt-skip-list-requires-2 : (t : ℕ) → run-stmt-lts.Need-skip-list-requires-2 (run-stmt-claims t) (run-stmt-at t) run-stmt.Post
+run-stmt-skip-list-requires-2 t c κs = omega arith
+
+run-stmt-sub-run-list-2 : (t : ℕ) → run-stmt-lts.Need-sub-run-list-2 (run-stmt-claims t) (run-stmt-at t) run-stmt.Post
+run-stmt-sub-run-list-2 t c = omega (arith, if-deep _ _ _ _ _ (c .before .before .before .before .before .before .before .before .before .before .before .pre .1 .0) (c .before .before .before .before .if3 .left))
+
+run-stmt-run-list-requires-2 : (t : ℕ) → run-stmt-lts.Need-run-list-requires-2 (run-stmt-claims t) (run-stmt-at t) run-stmt.Post
+run-stmt-run-list-requires-2 t c κs = (omega (arith, stmt-live _ _ _ _ _ (c .before .before .before .before .before .before .before .before .before .before .before .before .pre .1 .0), bool-forward _ _ _ _ _ (if-test _ _ _ _ _ (c .before .before .before .before .before .before .before .before .before .before .before .before .pre .1 .0) (c .before .before .before .before .before .if3 .left)) (c .before .before .before .eval-bool .ensures .1), list-forward _ _ _ _ _ _ (if-then _ _ _ _ _ (c .before .before .before .before .before .before .before .before .before .before .before .before .pre .1 .0) (c .before .before .before .before .before .if3 .left) _ (c .before .before .before .eval-bool .ensures .1)) (c .before .skip-list2 .ensures), list-live _ _ _ _ _ (if-else _ _ _ _ _ (c .before .before .before .before .before .before .before .before .before .before .before .before .pre .1 .0) (c .before .before .before .before .before .if3 .left) _ (c .before .before .before .eval-bool .ensures .1) _ (c .before .skip-list2 .ensures))), (if-else _ _ _ _ _ (c .before .before .before .before .before .before .before .before .before .before .before .before .pre .1 .0) (c .before .before .before .before .before .if3 .left) _ (c .before .before .before .eval-bool .ensures .1) _ (c .before .skip-list2 .ensures), omega arith, omega arith, omega arith))
 
 run-stmt-same-length-2 : (t : ℕ) → run-stmt-lts.Need-same-length-2 (run-stmt-claims t) (run-stmt-at t) run-stmt.Post
 run-stmt-same-length-2 t c = omega (arith, c .before .before .slots2 .given)
 
 run-stmt-returns-2 : (t : ℕ) → run-stmt-lts.Need-returns-2 (run-stmt-claims t) (run-stmt-at t) run-stmt.Post
-run-stmt-returns-2 t c = runs-then _ _ _ _ _ (c .before .before .before .before .before .before .before .before .before .before .before .before .before .pre .1 .0) (c .before .before .before .before .before .before .before .before .match .rest .1) _ (c .before .before .before .before .before .before .eval-bool .ensures .1) _ _ _ _ _ _ (c .before .before .before .before .before .before .eval-bool .ensures .0) (c .before .before .before .before .before .if1 .taken) (c .before .before .before .run-list .ensures) (c .skip-list .ensures)
+run-stmt-returns-2 t c = runs-then _ _ _ _ _ (c .before .before .before .before .before .before .before .before .before .before .before .before .before .before .before .pre .1 .0) (c .before .before .before .before .before .before .before .before .if3 .left) _ (c .before .before .before .before .before .before .eval-bool .ensures .1) _ _ _ _ _ _ (c .before .before .before .before .before .before .eval-bool .ensures .0) (c .before .before .before .before .before .if4 .taken) (c .before .before .before .run-list .ensures) (c .skip-list .ensures)
 
 run-stmt-same-length-3 : (t : ℕ) → run-stmt-lts.Need-same-length-3 (run-stmt-claims t) (run-stmt-at t) run-stmt.Post
 run-stmt-same-length-3 t c = omega (arith, c .before .slots3 .given)
 
 run-stmt-returns-3 : (t : ℕ) → run-stmt-lts.Need-returns-3 (run-stmt-claims t) (run-stmt-at t) run-stmt.Post
-run-stmt-returns-3 t c = runs-else _ _ _ _ _ (c .before .before .before .before .before .before .before .before .before .before .before .before .before .pre .1 .0) (c .before .before .before .before .before .before .before .before .match .rest .1) _ (c .before .before .before .before .before .before .eval-bool .ensures .1) _ _ _ _ _ _ (c .before .before .before .before .before .before .eval-bool .ensures .0) (c .before .before .before .before .before .if1 .left) (c .before .before .before .before .skip-list2 .ensures) (c .before .before .run-list2 .ensures)
+run-stmt-returns-3 t c = runs-else _ _ _ _ _ (c .before .before .before .before .before .before .before .before .before .before .before .before .before .before .before .pre .1 .0) (c .before .before .before .before .before .before .before .before .if3 .left) _ (c .before .before .before .before .before .before .eval-bool .ensures .1) _ _ _ _ _ _ (c .before .before .before .before .before .before .eval-bool .ensures .0) (c .before .before .before .before .before .if4 .left) (c .before .before .before .before .skip-list2 .ensures) (c .before .before .run-list2 .ensures)
+
+run-stmt-returns-4 : (t : ℕ) → run-stmt-lts.Need-returns-4 (run-stmt-claims t) (run-stmt-at t) run-stmt.Post
+run-stmt-returns-4 t c = absurd (stmt-unknown _ _ _ _ _ (c .before .before .before .before .before .pre .1 .0) (inl (c .if1 .taken)))
+
+run-stmt-returns-5 : (t : ℕ) → run-stmt-lts.Need-returns-5 (run-stmt-claims t) (run-stmt-at t) run-stmt.Post
+run-stmt-returns-5 t c = absurd (stmt-unknown _ _ _ _ _ (c .before .before .before .before .before .before .pre .1 .0) (inr (c .if2 .left)))
 
 pub +run-list+run-stmt-spec : {M : Type 1} → statement M
-+run-list+run-stmt-spec = close μ-run-list μ-run-stmt (λ t. run-list-lts.spec (run-list-claims t)
++run-list+run-stmt-spec = close μ-run-list μ-run-stmt (λ t. run-list-lts.spec (
+  wide-reads.Asked,
+  wide-reads.Learnt,
+  run-stmt-below t,
+  run-stmt.Post,
+)
     (run-list-at t)
     run-list.Post
     run-list-Inv-loop
@@ -168,6 +181,8 @@ pub +run-list+run-stmt-spec : {M : Type 1} → statement M
     (run-stmt-shared-slice-read-op t)
     (run-stmt-add-run-assign t)
     (run-stmt-run-assign-requires t)
+    (run-stmt-same-length t)
+    (run-stmt-returns t)
     (run-stmt-add-eval-bool t)
     (run-stmt-eval-bool-requires t)
     (run-stmt-sub-run-list t)
@@ -178,9 +193,9 @@ pub +run-list+run-stmt-spec : {M : Type 1} → statement M
     (run-stmt-skip-list-requires-2 t)
     (run-stmt-sub-run-list-2 t)
     (run-stmt-run-list-requires-2 t)
-    (run-stmt-same-length t)
-    (run-stmt-returns t)
     (run-stmt-same-length-2 t)
     (run-stmt-returns-2 t)
     (run-stmt-same-length-3 t)
     (run-stmt-returns-3 t)
+    (run-stmt-returns-4 t)
+    (run-stmt-returns-5 t)
