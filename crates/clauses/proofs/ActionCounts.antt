@@ -5,25 +5,25 @@ use mathlib.Core.List.{List}
 use Prim.Native.Nat.{ℕ, _+_, _-_, _<_, _≤_}
 use native.Mathlib.Omega.{arith}
 use lib.ListN.{getD}
-use Rattle.design.specs.Tree.{IntExpr, BoolExpr, Stmt, Stmts, assign, assignB, ifElse, done, then}
+use Rattle.design.specs.Tree.{BoolExpr, Stmt, Stmts, assign, assignB, ifElse, then}
 use Rattle.design.specs.Limits.{maxBytes, maxDepth}
-use Rattle.design.specs.Reading.{Read, got}
+use Rattle.design.specs.Reading.{Read}
 use Rattle.design.specs.Expression.{Names, intExpr, boolExpr}
 use Rattle.design.specs.Action.{assignment, statements, statement, list}
 use Rattle.step.specs.Accepted.{isRead, past}
-use Rattle.step.proofs.Accepted.{two, two-second, two-past}
+use Rattle.step.proofs.Accepted.{two, two-second}
 use Rattle.step.proofs.Runs.{list-in, list-live, seq-none, seq-step, seq-first, stmt-forward, stmt-assign, bool-forward, list-forward, if-test, if-then, if-else, as-if, as-int, as-bool}
-use Rattle.clauses.specs.Cost.{Cost, cost, plus, intCost, boolCost, statementCost, statementsCost}
+use Rattle.clauses.specs.Cost.{cost, addCosts, intCost, boolCost, statementCost, statementsCost}
 use Rattle.clauses.specs.FrameSizes.{gatesAt, both, stmtGates, listGates}
 use Rattle.clauses.specs.declared.cost.GatesAt.{GatesAt}
 use Rattle.clauses.proofs.Inside.{list-few}
 use Rattle.clauses.proofs.GateCounts.{gates, gates-past, one-gates, two-gates, three-gates}
 
-if-cost : (bits : ℕ) (c : BoolExpr) (a b : Stmts) → statementCost (ifElse c a b) bits ≡ plus (plus (plus (boolCost c) (statementsCost a bits)) (statementsCost b bits)) (cost 0 bits)
+if-cost : (bits : ℕ) (c : BoolExpr) (a b : Stmts) → statementCost (ifElse c a b) bits ≡ addCosts (addCosts (addCosts (boolCost c) (statementsCost a bits)) (statementsCost b bits)) (cost 0 bits)
 unfolding statementCost
 if-cost bits c a b = refl
 
-then-cost : (bits : ℕ) (x : Stmt) (xs : Stmts) → statementsCost (then x xs) bits ≡ plus (plus (statementCost x bits) (statementsCost xs bits)) (cost 0 0)
+then-cost : (bits : ℕ) (x : Stmt) (xs : Stmts) → statementsCost (then x xs) bits ≡ addCosts (addCosts (statementCost x bits) (statementsCost xs bits)) (cost 0 0)
 unfolding statementsCost
 then-cost bits x xs =
     let p : statementCost x bits .ands + statementsCost xs bits .ands ≡ statementCost x bits .ands + statementsCost xs bits .ands + 0 = omega arith in

@@ -11,7 +11,7 @@ use Rattle.design.specs.Tree.{BoolExpr, Stmt, Stmts, assign, assignB, ifElse, d
 use Rattle.design.specs.State.{State, Layout, layout, statusSlot, statusWidth, widths}
 use Rattle.design.specs.WellFormed.{BoolOk, StmtOk, StmtsOk, MoverOk, MoversOk, InvalidsOk, WellFormed}
 use Rattle.step.specs.OneStep.{execute, executeAll, statusAndEvent, enabled, effect, move, noInvalid, property}
-use Rattle.clauses.specs.Literal.{Literal, negate, yes! }
+use Rattle.clauses.specs.Literal.{Literal, negate, trueLiteral}
 use Rattle.clauses.specs.Meaning.{literalTrue}
 use Rattle.clauses.specs.Circuit.{Bits}
 use Rattle.clauses.specs.Expression.{Slots, constantBits, integerAt, booleanAt}
@@ -159,8 +159,8 @@ module _ (ws : List ℕ) (l : Layout) where
         map-set (number ρ) a v (constantBits statusWidth (c .target))
         ∙ ap₂ (λ x y. set x v y) ea (number-constant ρ one statusWidth (c .target) (k .target))
     effect-correct (raise v) n f k =
-        correct-give _ (set-fits n s v (yes! ∷ []) f (record { below = (omega (arith, f .known), tt); wide = sym k })) λ ρ one.
-        map-set (number ρ) s v (yes! ∷ []) ∙ rw one
+        correct-give _ (set-fits n s v (trueLiteral ∷ []) f (record { below = (omega (arith, f .known), tt); wide = sym k })) λ ρ one.
+        map-set (number ρ) s v (trueLiteral ∷ []) ∙ rw one
 
     mover-correct : (m : Mover) (n : ℕ) → Fits ws n s → MoverOk ws l m
         → Correct n (mover! l s m n) (Fits ws) (λ ρ r. stateOf ρ r ≡ move l (stateOf ρ s) m)
@@ -198,7 +198,7 @@ module _ (d : Design) (wf : WellFormed d) (s : Slots) (n : ℕ) (f : Fits (width
   unfolding property! property
   property-correct zero = bool-correct (widths d) (layout d) s (d .invariant) n f (wf .invariant)
   property-correct (suc p) =
-      correct-means (noInvalid-correct (widths d) (layout d) s (d .invalid) yes! n f (omega (arith, f .known)) (wf .invalid)) λ ρ r one e.
+      correct-means (noInvalid-correct (widths d) (layout d) s (d .invalid) trueLiteral n f (omega (arith, f .known)) (wf .invalid)) λ ρ r one e.
       e ∙ ap (λ b. b && noInvalid (layout d) (stateOf ρ s) (d .invalid)) one
 
   pub step-correct : Correct n (step! d s n) (λ k rs. AllFit (widths d) k rs × (length rs ≡ length (movers d)))

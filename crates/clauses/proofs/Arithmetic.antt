@@ -9,7 +9,7 @@ use lib.Dec.{ltb, eqb}
 use borrow.Author.Tests.{eqb-true, eqb-false, eq-eqb, ne-eqb, lt-ltb, le-ltb}
 use lib.ListN.{length}
 use Rattle.design.specs.Tree.{bit}
-use Rattle.clauses.specs.Literal.{Literal, negate, yes!, no! }
+use Rattle.clauses.specs.Literal.{Literal, negate, trueLiteral, falseLiteral}
 use Rattle.clauses.specs.Meaning.{Assignment, literalTrue}
 use Rattle.clauses.specs.Circuit.{Bits, Summed, sum!, difference!, negateTop, less!, xors!, chain!, equal! }
 use Rattle.clauses.proofs.Gates.{differ, negate-true, and-assoc}
@@ -123,11 +123,11 @@ SummedWord w k r = Word w k (r .bits)
 
 -- "sums and differences wrap"
 pub add-correct : (w : ℕ) (xs ys : Bits) (n : ℕ) → 1 < n → Word w n xs → Word w n ys
-    → Correct n (sum! xs ys no! n) (SummedWord w) (λ ρ r. number ρ (r .bits) ≡ (number ρ xs + number ρ ys) % 2 ^ w)
+    → Correct n (sum! xs ys falseLiteral n) (SummedWord w) (λ ρ r. number ρ (r .bits) ≡ (number ρ xs + number ρ ys) % 2 ^ w)
 add-correct w xs ys n h bx by =
-    correct-weaken (sum-correct xs ys no! n (bx .wide ∙ sym (by .wide)) (bx .below) (by .below) (omega arith)) λ r k l br. (
+    correct-weaken (sum-correct xs ys falseLiteral n (bx .wide ∙ sym (by .wide)) (bx .below) (by .below) (omega arith)) λ r k l br. (
       record { below = br .bits .below; wide = br .bits .wide ∙ bx .wide },
-      λ ρ one e. sum-mod w ρ xs ys no! r k (bx .wide) br e ∙ ap (λ x. x % 2 ^ w) (rw one (omega arith)),
+      λ ρ one e. sum-mod w ρ xs ys falseLiteral r k (bx .wide) br e ∙ ap (λ x. x % 2 ^ w) (rw one (omega arith)),
     )
 
 minus-negate : (x y f W : ℕ) → f + y + 1 ≡ W → x + f + 1 ≡ x + (W - y)
@@ -137,9 +137,9 @@ pub difference-correct : (w : ℕ) (xs ys : Bits) (n : ℕ) → 1 < n → Word w
     → Correct n (difference! xs ys n) (SummedWord w) (λ ρ r. number ρ (r .bits) ≡ (number ρ xs + (2 ^ w - number ρ ys)) % 2 ^ w)
 unfolding difference!
 difference-correct w xs ys n h bx by =
-    correct-weaken (sum-correct xs (map negate ys) yes! n (bx .wide ∙ sym (length-negate ys ∙ by .wide)) (bx .below) (bits-negate n ys (by .below)) (omega arith)) λ r k l br. (
+    correct-weaken (sum-correct xs (map negate ys) trueLiteral n (bx .wide ∙ sym (length-negate ys ∙ by .wide)) (bx .below) (bits-negate n ys (by .below)) (omega arith)) λ r k l br. (
       record { below = br .bits .below; wide = br .bits .wide ∙ bx .wide },
-      λ ρ one e. sum-mod w ρ xs (map negate ys) yes! r k (bx .wide) br e
+      λ ρ one e. sum-mod w ρ xs (map negate ys) trueLiteral r k (bx .wide) br e
           ∙ ap (λ x. x % 2 ^ w) (rw one (minus-negate (number ρ xs) (number ρ ys) (number ρ (map negate ys)) (2 ^ w) (rw (by .wide) at (number-negate ρ ys)))),
     )
 
@@ -188,7 +188,7 @@ unfolding less! difference!
 less-correct v xs ys n h bx by =
     let ex = length-negateTop xs ∙ bx .wide in
     let ey = length-negateTop ys ∙ by .wide in
-    correct-bind _ _ (sum-correct (negateTop xs) (map negate (negateTop ys)) yes! n (ex ∙ sym (length-negate (negateTop ys) ∙ ey))
+    correct-bind _ _ (sum-correct (negateTop xs) (map negate (negateTop ys)) trueLiteral n (ex ∙ sym (length-negate (negateTop ys) ∙ ey))
     (bits-negateTop n xs (bx .below)) (bits-negate n (negateTop ys) (bits-negateTop n ys (by .below))) (omega arith)) λ r k l br.
     correct-give _ (negate-below k (r .carry) (br .carry)) λ ρ one e.
     let X = number ρ (negateTop xs) in
@@ -253,5 +253,5 @@ pub equal-correct : (w : ℕ) (xs ys : Bits) (n : ℕ) → 1 < n → Word w n xs
 unfolding equal!
 equal-correct w xs ys n h bx by =
     correct-bind _ _ (xors-correct xs ys n (bx .wide ∙ sym (by .wide)) (bx .below) (by .below)) λ r k l br.
-    correct-means (chain-correct yes! (map negate r) k (omega arith) (bits-negate k r br)) λ ρ a one e er.
+    correct-means (chain-correct trueLiteral (map negate r) k (omega arith) (bits-negate k r br)) λ ρ a one e er.
     e ∙ ap (λ b. b && every ρ (map negate r)) one ∙ er

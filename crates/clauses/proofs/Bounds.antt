@@ -13,9 +13,10 @@ use Rattle.design.specs.Limits.{maxDepth, maxNest}
 use Rattle.design.specs.Reading.{Read, got, bad}
 use Rattle.design.specs.Expression.{Names, boolExpr}
 use Rattle.design.specs.DesignFile.{item, Matrix, Entry, normal, invalid, eventAt, guard, filling, c-matrix, c-event, c-guard, c-middle, c-past, c-kind, cellAt}
-use Rattle.design.specs.Check.{Checked, check, trailer, normals, invalids, matricesOffset, eventsOffset, cellsOffset, invariantOffset, names}
-use Rattle.design.proofs.Sections.{need-inv, item-same, Run, Rows, Cells, eventIn, Whole, whole}
-use Rattle.design.proofs.Positions.{event-reads, EntryRead, cell-reads, invariant-stands}
+use Rattle.design.specs.Check.{Checked, check, trailer, normals, invalids, matricesOffset, eventsOffset, cellsOffset, invariantOffset, names, eventIn}
+use Rattle.design.specs.Sections.{Run, Rows, Cells, EntryRead}
+use Rattle.design.proofs.Sections.{need-inv, item-same, Whole, whole}
+use Rattle.design.proofs.Positions.{event-reads, cell-reads, invariant-stands}
 use Rattle.clauses.specs.Formula.{total, S, w}
 use Rattle.clauses.specs.Cost.{gatesIn, boolCost, enableCost, effectCost, moverCost, moversCost, invalidCost, propertyCost, stepCost}
 use Rattle.clauses.proofs.Bytes.{bool-bytes, list-bytes}
@@ -56,11 +57,11 @@ variables-total (x ∷ xs) = let h = variables-total xs in let k = narrow (x .ki
     narrow integer = omega arith
     narrow external = omega arith
 
-statuses-total : (m : ℕ) → total (replicate m statusWidth) ≡ 4 * m
+pub statuses-total : (m : ℕ) → total (replicate m statusWidth) ≡ 4 * m
 statuses-total zero = refl
 statuses-total (suc m) = let h = statuses-total m in omega arith
 
-total-append : (xs ys : List ℕ) → total (xs ++ ys) ≡ total xs + total ys
+pub total-append : (xs ys : List ℕ) → total (xs ++ ys) ≡ total xs + total ys
 total-append [] ys = omega arith
 total-append (x ∷ xs) ys = let h = total-append xs ys in omega arith
 
@@ -167,12 +168,12 @@ module _ (file : List ℕ) (bytes : (i : ℕ) → getD file i 0 < 256) (d : Desi
   unfolding w
   w-bound = h .movers
 
-  cheap : (m e : ℕ) → Cheap (eventIn file (h .parts .rows) m e)
+  cheap : (m e : ℕ) → Cheap (eventIn (h .parts .rows) m e)
   cheap m e = event-cheap (getD (h .parts .rows) m []) e (row-cheap (h .parts .rows) m (rows-cheap file bytes (h .parts .rows) 0 (eventsOffset file) (cellsOffset file) (h .parts .row-run)))
 
   cells-bound : gatesIn (moversCost (S d) (map cell (d .cells))) + gatesIn (invalidCost (d .invalid)) ≤ 544 * invariantOffset file + 5222400
   cells-bound =
-      let c = cells-bytes file bytes (S d) S-bound (eventIn file (h .parts .rows)) cheap (h .parts .entries) (cellsOffset file) (cellsOffset file) (invariantOffset file) (h .parts .cell-run) in
+      let c = cells-bytes file bytes (S d) S-bound (eventIn (h .parts .rows)) cheap (h .parts .entries) (cellsOffset file) (cellsOffset file) (invariantOffset file) (h .parts .cell-run) in
       let k : 20400 * length (h .parts .entries) ≤ 5222400 = omega (arith, h .parts .cell-count, h .cells) in
       let a = ap (λ (l : List Cell). gatesIn (moversCost (S d) (map cell l))) (h .parts .cells) in
       let b = ap (λ (l : List InvalidCell). gatesIn (invalidCost l)) (h .parts .invalid) in

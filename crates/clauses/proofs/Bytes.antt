@@ -8,7 +8,7 @@ use native.Mathlib.Omega.{arith}
 use lib.Dec.{ltb, leb, eqb}
 use Rattle.design.specs.Tree.{IntExpr, BoolExpr, Stmt, Stmts, variableB}
 use Rattle.design.specs.Limits.{maxDepth}
-use Rattle.design.specs.Reading.{Read, got, bad, Reader, bind, when, Line, lookup}
+use Rattle.design.specs.Reading.{Read, got, bad, Reader, bind, provided, Line, lookup}
 use Rattle.design.specs.Expression.{Names, IntOp, BoolOp, intOps, boolOps, intOp, boolOp, byte, word, intOf, boolOf, intExpr, boolExpr}
 use Rattle.design.specs.Action.{StmtOp, stmtOp, value, assignment, statements, listOf, conditional, stmtOf, statement, list}
 use Rattle.clauses.specs.Cost.{gatesIn, intCost, boolCost, statementCost, statementsCost}
@@ -29,9 +29,9 @@ module _ {A : Type 0} {I : A → ℕ → Type 0} where
   pub reads-bad : Reads I bad
   reads-bad = record { of = λ b m e. let z : _≡_ {A = ℕ} 0 1 = cc in absurd (omega arith) }
 
-  pub reads-when : (t : Bool) (r : Read A) → Reads I r → Reads I (when t r)
-  reads-when true r h = h
-  reads-when false r h = reads-bad
+  pub reads-provided : (t : Bool) (r : Read A) → Reads I r → Reads I (provided t r)
+  reads-provided true r h = h
+  reads-provided false r h = reads-bad
 
 pub reads-bind : {A B : Type 0} {I : A → ℕ → Type 0} {J : B → ℕ → Type 0} (x : Read A) (k : A → ℕ → Read B)
     → Reads I x → ((a : A) (n : ℕ) → I a n → Reads J (k a n)) → Reads J (bind x k)
@@ -87,10 +87,10 @@ BoolBytes at e n = gatesIn (boolCost e) + 80 * at ≤ 80 * n
 
 module _ (text : List ℕ) (names : Names) (end : ℕ) where
   reads-byte : (at : ℕ) → Reads (λ b n. n ≡ at + 1) (byte text names end at)
-  reads-byte at = reads-when (ltb at end) _ (reads-got _ _ refl)
+  reads-byte at = reads-provided (ltb at end) _ (reads-got _ _ refl)
 
   reads-word : (at : ℕ) → Reads (λ b n. n ≡ at + 2) (word text names end at)
-  reads-word at = reads-when (leb (at + 2) end) _ (reads-got _ _ refl)
+  reads-word at = reads-provided (leb (at + 2) end) _ (reads-got _ _ refl)
 
   -- what follows an operator that stands at `at`
   intOf-bytes : (operand : Reader IntExpr) → ((at : ℕ) → Reads (IntBytes at) (operand at)) → (o : IntOp) → IntAdds o → (at n : ℕ) → n ≡ at + 1
@@ -99,9 +99,9 @@ module _ (text : List ℕ) (names : Names) (end : ℕ) where
   intOf-bytes operand h IntOp.op-constant k at n e = reads-bind (word text names end n) _ (reads-word n) λ c m q. reads-got _ _ (omega arith)
   intOf-bytes operand h IntOp.op-variable k at n e =
       reads-bind (byte text names end n) _ (reads-byte n) λ v m q.
-      reads-when (ltb v (names .variables)) _ (reads-when (eqb (names .kindOf v) 1) _ (reads-got _ _ (omega arith)))
+      reads-provided (ltb v (names .variables)) _ (reads-provided (eqb (names .kindOf v) 1) _ (reads-got _ _ (omega arith)))
   intOf-bytes operand h IntOp.op-status k at n e =
-      reads-bind (byte text names end n) _ (reads-byte n) λ v m q. reads-when (ltb v (names .matrices)) _ (reads-got _ _ (omega arith))
+      reads-bind (byte text names end n) _ (reads-byte n) λ v m q. reads-provided (ltb v (names .matrices)) _ (reads-got _ _ (omega arith))
   intOf-bytes operand h IntOp.op-unknown k at n e = reads-bad
   intOf-bytes operand h (IntOp.op-ints f) k at n e =
       reads-bind (operand n) _ (h n) λ a m q.
@@ -119,10 +119,10 @@ module _ (text : List ℕ) (names : Names) (end : ℕ) where
       → (o : BoolOp) → BoolAdds o → (at n : ℕ) → n ≡ at + 1 → Reads (BoolBytes at) (boolOf text names end int operand o n)
   unfolding boolCost
   boolOf-bytes int i operand h BoolOp.op-constant k at n e =
-      reads-bind (byte text names end n) _ (reads-byte n) λ v m q. reads-when (leb v 1) _ (reads-got _ _ (omega arith))
+      reads-bind (byte text names end n) _ (reads-byte n) λ v m q. reads-provided (leb v 1) _ (reads-got _ _ (omega arith))
   boolOf-bytes int i operand h BoolOp.op-variable k at n e =
       reads-bind (byte text names end n) _ (reads-byte n) λ v m q.
-      reads-when (ltb v (names .variables)) _ (reads-when (not (eqb (names .kindOf v) 1)) _ (reads-got (variableB v) _ (omega arith)))
+      reads-provided (ltb v (names .variables)) _ (reads-provided (not (eqb (names .kindOf v) 1)) _ (reads-got (variableB v) _ (omega arith)))
   boolOf-bytes int i operand h BoolOp.op-not k at n e = reads-bind (operand n) _ (h n) λ a m q. reads-got _ _ (omega arith)
   boolOf-bytes int i operand h BoolOp.op-unknown k at n e = reads-bad
   boolOf-bytes int i operand h (BoolOp.op-bools f) k at n e =
@@ -161,7 +161,7 @@ module _ (text : List ℕ) (names : Names) (end : ℕ) where
     unfolding assignment
     assignment-bytes at =
         reads-bind (byte text names end at) _ (reads-byte at) λ v n e.
-        reads-when (ltb v (names .variables)) _ (weaken at n _ (omega arith) (value-bytes v (eqb (names .kindOf v) 1) n))
+        reads-provided (ltb v (names .variables)) _ (weaken at n _ (omega arith) (value-bytes v (eqb (names .kindOf v) 1) n))
 
     module _ (one : Reader Stmt) (h : (at : ℕ) → Reads (StmtBytes at) (one at)) where
       statements-bytes : (c at : ℕ) → Reads (StmtsBytes at) (statements text names end one c at)

@@ -1,30 +1,31 @@
 -- Gates of the cells of an accepted file, over the bytes.
-use mathlib.Core.Path.{_≡_, refl, sym, ap, ap₂, subst, _∙_}
+use mathlib.Core.Path.{_≡_, refl, sym, ap, subst, _∙_}
 use mathlib.Core.Bool.{Bool, true, false}
 use mathlib.Core.List.{List, [], _∷_}
-use Prim.Native.Nat.{ℕ, zero, suc, _+_, _*_, _-_, _<_, _≤_}
+use Prim.Native.Nat.{ℕ, _+_, _*_, _-_, _<_, _≤_}
 use native.Mathlib.Omega.{arith}
 use lib.ListN.{getD, length, replicate, length-replicate}
-use Rattle.design.specs.Tree.{BoolExpr, constantB, Stmts, Cell, InvalidCell, Design, cell}
+use Rattle.design.specs.Tree.{Stmts, Design, cell}
 use Rattle.design.specs.Limits.{maxDepth, maxNest}
 use Rattle.design.specs.State.{State}
 use Rattle.design.specs.Reading.{Read, got}
 use Rattle.design.specs.Expression.{Names, boolExpr}
 use Rattle.design.specs.Action.{list}
 use Rattle.design.specs.DesignFile.{Entry, normal, invalid, c-matrix, c-event, c-kind, c-guard, c-middle, c-past, events}
-use Rattle.design.specs.Check.{trailer, names, namesOf, matricesOffset, matrixCount, cellsOffset, cellCount, invariantOffset}
-use Rattle.design.proofs.Sections.{Parts, Cells, eventIn}
-use Rattle.design.proofs.Positions.{CellRead, EntryRead, NormalRead, InvalidRead, cell-reads}
-use Rattle.design.proofs.Places.{Read as Tree, read, Standing, CellFields, cell-fields}
+use Rattle.design.specs.Check.{trailer, names, namesOf, matricesOffset, cellsOffset, cellCount, invariantOffset, eventIn}
+use Rattle.design.specs.Sections.{Parts, Cells, CellRead, NormalRead, Standing, CellFields}
+use Rattle.design.proofs.Positions.{cell-reads}
+use Rattle.design.proofs.Places.{Read as Tree, read, cell-fields}
 use Rattle.step.specs.Accepted.{isRead}
 use Rattle.step.specs.Ready.{Ready, NormalCell}
 use Rattle.step.proofs.Cells as cells
-use Rattle.clauses.specs.Cost.{Cost, cost, plus, boolCost, statementsCost, statusAndEventCost, enableCost, effectCost, moverCost}
+use Rattle.step.proofs.Scanning as scanning
+use Rattle.clauses.specs.Cost.{Cost, cost, boolCost, statementsCost, statusAndEventCost, enableCost, effectCost, moverCost, propertyCost}
 use Rattle.clauses.specs.FrameSizes.{gatesAt, both, listGates, entryCost, entriesCost, HasGates, FewGates, Prepared, CellHere}
 use Rattle.clauses.specs.declared.cost.GatesAt.{GatesAt}
 use Rattle.clauses.proofs.Bounds.{bounded}
-use Rattle.clauses.proofs.FrameCounts.{entries-few}
-use Rattle.clauses.proofs.Inside.{Few, bool-few, list-few}
+use Rattle.clauses.proofs.FrameCounts.{entries-few, property-cells, property-invariant}
+use Rattle.clauses.proofs.Inside.{Few, bool-few}
 
 -- the gates of what is known to be read
 known-gates : {A : Type 0} (f : A → Cost) (x : Read A) (a : A) (n : ℕ) (r : GatesAt) → x ≡ got a n → r ≡ gatesAt f x → HasGates r (f a)
@@ -71,7 +72,7 @@ module _ (file table : List ℕ) (nv nm bits : ℕ) (h : Prepared file table nv 
       pub event-reads : isRead (boolExpr file N (place + 1 + k) maxDepth (place + 1)) ≡ true
       event-reads = cells.event-reads file table nv nm slots ready m e a b (place + 1 + k) (place + 1) past-is refl
 
-      pub event-gates : (r : GatesAt) → r ≡ gatesAt boolCost (boolExpr file N (place + 1 + k) maxDepth (place + 1)) → (r .ands ≤ 8912896) × (r .wides ≤ 8912896) × ((d : Design) (w : Parts file d) → HasGates r (boolCost (eventIn file (w .rows) m e)))
+      pub event-gates : (r : GatesAt) → r ≡ gatesAt boolCost (boolExpr file N (place + 1 + k) maxDepth (place + 1)) → (r .ands ≤ 8912896) × (r .wides ≤ 8912896) × ((d : Design) (w : Parts file d) → HasGates r (boolCost (eventIn (w .rows) m e)))
       event-gates r z =
         let f = bool-few file N (place + 1 + k) (omega (arith, past-is, event-inside, sizes .1)) maxDepth (place + 1) r z in (
         f .ands,
@@ -86,11 +87,25 @@ module _ (file table : List ℕ) (nv nm bits : ℕ) (h : Prepared file table nv 
         let q = g .matrix in
         (omega (arith, h .matrices), subst (λ (j : ℕ). e < events file (matricesOffset file) j) (sym a) (subst (λ (j : ℕ). j < events file (matricesOffset file) (c-matrix file p)) (sym b) (g .event)))
 
-    pub place-gates : (x r : GatesAt) → ((d : Design) (w : Parts file d) → HasGates x (boolCost (eventIn file (w .rows) m e)))
-        → r .ands ≡ x .ands + 17 → r .wides ≡ x .wides + 16 → (d : Design) (w : Parts file d) → HasGates r (statusAndEventCost (eventIn file (w .rows) (c-matrix file p) (c-event file p)))
+    pub place-gates : (x r : GatesAt) → ((d : Design) (w : Parts file d) → HasGates x (boolCost (eventIn (w .rows) m e)))
+        → r .ands ≡ x .ands + 17 → r .wides ≡ x .wides + 16 → (d : Design) (w : Parts file d) → HasGates r (statusAndEventCost (eventIn (w .rows) (c-matrix file p) (c-event file p)))
     place-gates x r k u v d w =
-        let s = subst (λ (i : ℕ). HasGates x (boolCost (eventIn file (w .rows) i (c-event file p)))) a (subst (λ (j : ℕ). HasGates x (boolCost (eventIn file (w .rows) m j))) b (k d w)) in
+        let s = subst (λ (i : ℕ). HasGates x (boolCost (eventIn (w .rows) i (c-event file p)))) a (subst (λ (j : ℕ). HasGates x (boolCost (eventIn (w .rows) m j))) b (k d w)) in
         record { ands = omega (arith, s .ands); wides = omega (arith, s .wides) }
+
+  -- the property: the invariant, or the invalid cells
+  module _ (at end : ℕ) (a : at ≡ invariantOffset file) (b : end ≡ trailer file) where
+    pub invariant-reads : isRead (boolExpr file N end maxDepth at) ≡ true
+    invariant-reads = scanning.invariant-reads file table nv nm slots ready at end a b
+
+    pub invariant-gates : (p : ℕ) → p ≡ 0 → (r : GatesAt) → r ≡ gatesAt boolCost (boolExpr file N end maxDepth at) → FewGates r × ((d : Design) → Parts file d → HasGates r (propertyCost d p))
+    invariant-gates p z r e = (
+      few-gates r (bool-few file N end (omega (arith, sizes .1)) maxDepth at r e),
+      λ d w. subst (HasGates r) (sym (property-invariant file d w bits (h .state d w) p z)) (known-gates boolCost _ _ _ r (scanning.invariant-got file table nv nm slots ready d w at end a b) e),
+    )
+
+  pub property-gates : (p : ℕ) → (p ≡ 0 → ⊥) → (r : GatesAt) → ((d : Design) (w : Parts file d) → HasGates r (entriesCost bits true (w .entries))) → (d : Design) → Parts file d → HasGates r (propertyCost d p)
+  property-gates p z r k d w = subst (HasGates r) (sym (property-cells file d w bits (h .state d w) p z)) (k d w)
 
   -- a normal cell
   module _ (p : ℕ) (x : NormalCell file p) where
@@ -119,11 +134,11 @@ module _ (file table : List ℕ) (nv nm bits : ℕ) (h : Prepared file table nv 
       action-reads = cells.action-reads file table nv nm slots ready p x m n a b
 
       -- enable, the action, and the muxes
-      pub normal-gates : (e g s t r : GatesAt) → ((d : Design) (w : Parts file d) → HasGates e (statusAndEventCost (eventIn file (w .rows) (c-matrix file p) (c-event file p))))
+      pub normal-gates : (e g s t r : GatesAt) → ((d : Design) (w : Parts file d) → HasGates e (statusAndEventCost (eventIn (w .rows) (c-matrix file p) (c-event file p))))
           → HasGates g (boolCost (x .cell .guard)) → s ≡ listGates bits (list file N n maxNest m) → t ≡ both e g 1 0 → r ≡ both t s 0 bits → HasGates r (moverCost bits (cell (x .cell)))
       unfolding moverCost enableCost effectCost
       normal-gates e g s t r f k q u v =
-          let is : NormalRead file (trailer file) (names file) (matricesOffset file) (eventIn file (x .parts .rows)) p (x .cell) = x .stands .1 .entry .1 in
+          let is : NormalRead file (trailer file) (names file) (matricesOffset file) (eventIn (x .parts .rows)) p (x .cell) = x .stands .1 .entry .1 in
           let ev = ap statusAndEventCost (is .event) in
           let i = f (x .tree) (x .parts) in
           let j = known-gates (λ (y : Stmts). statementsCost y bits) _ _ _ s (cells.action-got file table nv nm slots ready p x m n a b) q in
@@ -135,17 +150,17 @@ module _ (file table : List ℕ) (nv nm bits : ℕ) (h : Prepared file table nv 
   -- the cell at p by its kind
   module _ (p : ℕ) where
     pub here-fields : CellHere file p → CellFields file p
-    here-fields x = cell-fields file (eventIn file (x .parts .rows)) p (x .entry) (x .stands)
+    here-fields x = cell-fields file (eventIn (x .parts .rows)) p (x .entry) (x .stands)
 
     pub here-normal : CellHere file p → c-kind file p ≡ 0 → NormalCell file p
     here-normal x z = go (x .entry) (x .stands)
       where
-        go : (y : Entry) → Standing file (eventIn file (x .parts .rows)) p y → NormalCell file p
+        go : (y : Entry) → Standing file (eventIn (x .parts .rows)) p y → NormalCell file p
         go (normal c) s = record { tree = x .tree; parts = x .parts; cell = c; stands = s }
         go (invalid i) s = absurd (s .1 .entry .0 z)
 
     abbrev Right : Bool → GatesAt → Type 0
-    Right t r = (d : Design) (w : Parts file d) (x : Entry) → Standing file (eventIn file (w .rows)) p x → HasGates r (entryCost bits t x)
+    Right t r = (d : Design) (w : Parts file d) (x : Entry) → Standing file (eventIn (w .rows)) p x → HasGates r (entryCost bits t x)
 
     no-gates : (r : GatesAt) → r .ands ≡ 0 → r .wides ≡ 0 → HasGates r (cost 0 0)
     no-gates r a b = record { ands = a; wides = b }
@@ -153,29 +168,29 @@ module _ (file table : List ℕ) (nv nm bits : ℕ) (h : Prepared file table nv 
     pub normal-passed : c-kind file p ≡ 0 → (t : Bool) → t ≡ true → (r : GatesAt) → r .ands ≡ 0 → r .wides ≡ 0 → Right t r
     normal-passed z t e r a b d w x s = subst (λ (k : Bool). HasGates r (entryCost bits k x)) (sym e) (go x s)
       where
-        go : (y : Entry) → Standing file (eventIn file (w .rows)) p y → HasGates r (entryCost bits true y)
+        go : (y : Entry) → Standing file (eventIn (w .rows)) p y → HasGates r (entryCost bits true y)
         go (normal c) u = no-gates r a b
         go (invalid i) u = absurd (u .1 .entry .0 z)
 
     pub invalid-passed : (c-kind file p ≡ 0 → ⊥) → (t : Bool) → t ≡ false → (r : GatesAt) → r .ands ≡ 0 → r .wides ≡ 0 → Right t r
     invalid-passed z t e r a b d w x s = subst (λ (k : Bool). HasGates r (entryCost bits k x)) (sym e) (go x s)
       where
-        go : (y : Entry) → Standing file (eventIn file (w .rows)) p y → HasGates r (entryCost bits false y)
+        go : (y : Entry) → Standing file (eventIn (w .rows)) p y → HasGates r (entryCost bits false y)
         go (normal c) u = absurd (z (u .1 .entry .0))
         go (invalid i) u = no-gates r a b
 
     pub normal-counted : c-kind file p ≡ 0 → (t : Bool) → t ≡ false → (r y : GatesAt) → ((x : NormalCell file p) → HasGates y (moverCost bits (cell (x .cell)))) → r .ands ≡ y .ands → r .wides ≡ y .wides → Right t r
     normal-counted z t e r y k a b d w x s = subst (λ (i : Bool). HasGates r (entryCost bits i x)) (sym e) (go x s)
       where
-        go : (v : Entry) → Standing file (eventIn file (w .rows)) p v → HasGates r (entryCost bits false v)
+        go : (v : Entry) → Standing file (eventIn (w .rows)) p v → HasGates r (entryCost bits false v)
         go (normal c) u = let g = k (record { tree = d; parts = w; cell = c; stands = u }) in record { ands = a ∙ g .ands; wides = b ∙ g .wides }
         go (invalid i) u = absurd (u .1 .entry .0 z)
 
-    pub invalid-counted : (c-kind file p ≡ 0 → ⊥) → (t : Bool) → t ≡ true → (r y : GatesAt) → ((d : Design) (w : Parts file d) → HasGates y (statusAndEventCost (eventIn file (w .rows) (c-matrix file p) (c-event file p))))
+    pub invalid-counted : (c-kind file p ≡ 0 → ⊥) → (t : Bool) → t ≡ true → (r y : GatesAt) → ((d : Design) (w : Parts file d) → HasGates y (statusAndEventCost (eventIn (w .rows) (c-matrix file p) (c-event file p))))
         → r .ands ≡ y .ands + 1 → r .wides ≡ y .wides → Right t r
     invalid-counted z t e r y k a b d w x s = subst (λ (i : Bool). HasGates r (entryCost bits i x)) (sym e) (go x s)
       where
-        go : (v : Entry) → Standing file (eventIn file (w .rows)) p v → HasGates r (entryCost bits true v)
+        go : (v : Entry) → Standing file (eventIn (w .rows)) p v → HasGates r (entryCost bits true v)
         go (normal c) u = absurd (z (u .1 .entry .0))
         go (invalid i) u =
             let g = k d w in
@@ -186,7 +201,7 @@ module _ (file table : List ℕ) (nv nm bits : ℕ) (h : Prepared file table nv 
 pub record CellsLeft (file : List ℕ) (d : Design) (w : Parts file d) (bits : ℕ) (t : Bool) (left : ℕ) (g : GatesAt) : Type 0 where
   pub rest : List Entry
   pub before : ℕ
-  pub run : Cells file (eventIn file (w .rows)) before (g .next) rest (invariantOffset file)
+  pub run : Cells file (eventIn (w .rows)) before (g .next) rest (invariantOffset file)
   pub count : length rest ≡ left
   pub ands : g .ands + entriesCost bits t rest .ands ≡ entriesCost bits t (w .entries) .ands
   pub wides : g .wides + entriesCost bits t rest .wides ≡ entriesCost bits t (w .entries) .wides
@@ -200,7 +215,7 @@ module _ (file : List ℕ) (bits : ℕ) (t : Bool) where
     of = λ d w. record {
       rest = w .entries;
       before = cellsOffset file;
-      run = subst (λ (p : ℕ). Cells file (eventIn file (w .rows)) (cellsOffset file) p (w .entries) (invariantOffset file)) (sym n) (w .cell-run);
+      run = subst (λ (p : ℕ). Cells file (eventIn (w .rows)) (cellsOffset file) p (w .entries) (invariantOffset file)) (sym n) (w .cell-run);
       count = w .cell-count ∙ sym e;
       ands = omega arith;
       wides = omega arith;
@@ -212,8 +227,8 @@ module _ (file : List ℕ) (bits : ℕ) (t : Bool) where
     pub record First (d : Design) (w : Parts file d) : Type 0 where
       pub entry : Entry
       pub more : List Entry
-      pub stands : Standing file (eventIn file (w .rows)) (g .next) entry
-      pub run : Cells file (eventIn file (w .rows)) (g .next) (c-past file (g .next)) more (invariantOffset file)
+      pub stands : Standing file (eventIn (w .rows)) (g .next) entry
+      pub run : Cells file (eventIn (w .rows)) (g .next) (c-past file (g .next)) more (invariantOffset file)
       pub count : length more ≡ left - 1
       pub ands : g .ands + (entryCost bits t entry .ands + entriesCost bits t more .ands) ≡ entriesCost bits t (w .entries) .ands
       pub wides : g .wides + (entryCost bits t entry .wides + entriesCost bits t more .wides) ≡ entriesCost bits t (w .entries) .wides
@@ -222,16 +237,16 @@ module _ (file : List ℕ) (bits : ℕ) (t : Bool) where
     unfolding entriesCost
     first d w = let c = k .of d w in go (c .rest) (c .before) (c .run) (c .count) (c .ands) (c .wides)
       where
-        go : (es : List Entry) (b : ℕ) → Cells file (eventIn file (w .rows)) b (g .next) es (invariantOffset file) → length es ≡ left
+        go : (es : List Entry) (b : ℕ) → Cells file (eventIn (w .rows)) b (g .next) es (invariantOffset file) → length es ≡ left
             → g .ands + entriesCost bits t es .ands ≡ entriesCost bits t (w .entries) .ands → g .wides + entriesCost bits t es .wides ≡ entriesCost bits t (w .entries) .wides → First d w
         go [] b r c a v = absurd (omega arith)
         go (x ∷ xs) b r c a v =
-            let q = cell-reads file (trailer file) (names file) (matricesOffset file) (eventIn file (w .rows)) b (g .next) x (r .0) (r .1) in
+            let q = cell-reads file (trailer file) (names file) (matricesOffset file) (eventIn (w .rows)) b (g .next) x (r .0) (r .1) in
             record {
               entry = x;
               more = xs;
-              stands = (b, subst (CellRead file (trailer file) (names file) (matricesOffset file) (eventIn file (w .rows)) b (g .next) x) (q .past) q);
-              run = subst (λ (p : ℕ). Cells file (eventIn file (w .rows)) (g .next) p xs (invariantOffset file)) (q .past) (r .2);
+              stands = (b, subst (CellRead file (trailer file) (names file) (matricesOffset file) (eventIn (w .rows)) b (g .next) x) (q .past) q);
+              run = subst (λ (p : ℕ). Cells file (eventIn (w .rows)) (g .next) p xs (invariantOffset file)) (q .past) (r .2);
               count = omega arith;
               ands = a;
               wides = v;
@@ -240,7 +255,7 @@ module _ (file : List ℕ) (bits : ℕ) (t : Bool) where
     pub walking-here : (d : Design) (w : Parts file d) → CellHere file (g .next)
     walking-here d w = let f = first d w in record { tree = d; parts = w; entry = f .entry; stands = f .stands }
 
-    module _ (x : GatesAt) (n : x .next ≡ c-past file (g .next)) (s : (d : Design) (w : Parts file d) (y : Entry) → Standing file (eventIn file (w .rows)) (g .next) y → HasGates x (entryCost bits t y)) where
+    module _ (x : GatesAt) (n : x .next ≡ c-past file (g .next)) (s : (d : Design) (w : Parts file d) (y : Entry) → Standing file (eventIn (w .rows)) (g .next) y → HasGates x (entryCost bits t y)) where
       pub walking-within : (d : Design) (w : Parts file d) → (g .ands + x .ands ≤ entriesCost bits t (w .entries) .ands) × (g .wides + x .wides ≤ entriesCost bits t (w .entries) .wides)
       walking-within d w =
           let f = first d w in
@@ -255,7 +270,7 @@ module _ (file : List ℕ) (bits : ℕ) (t : Bool) where
             record {
               rest = f .more;
               before = g .next;
-              run = subst (λ (p : ℕ). Cells file (eventIn file (w .rows)) (g .next) p (f .more) (invariantOffset file)) (sym n) (f .run);
+              run = subst (λ (p : ℕ). Cells file (eventIn (w .rows)) (g .next) p (f .more) (invariantOffset file)) (sym n) (f .run);
               count = f .count;
               ands = omega (arith, u .ands, f .ands);
               wides = omega (arith, u .wides, f .wides);
@@ -284,7 +299,7 @@ module _ (file table : List ℕ) (nv nm bits : ℕ) (h : Prepared file table nv 
     cell-here l k = walking-here file bits t left g l k (tree .tree) (tree .all .parts)
 
     pub sum-few : 0 < left → Walking file bits t left g → (x : GatesAt)
-        → (x .next ≡ c-past file (g .next)) × ((d : Design) (w : Parts file d) (y : Entry) → Standing file (eventIn file (w .rows)) (g .next) y → HasGates x (entryCost bits t y))
+        → (x .next ≡ c-past file (g .next)) × ((d : Design) (w : Parts file d) (y : Entry) → Standing file (eventIn (w .rows)) (g .next) y → HasGates x (entryCost bits t y))
         → (g .ands + x .ands ≤ 14144000) × (g .wides + x .wides ≤ 14144000)
     sum-few l k x s =
         let f = walking-within file bits t left g l k x (s .0) (s .1) (tree .tree) (tree .all .parts) in

@@ -8,14 +8,14 @@ use lib.Seq.{set-getD}
 use Rattle.design.specs.Tree.{IntExpr, BoolExpr, Stmt, Stmts, constant, variable, status, sum, difference, constantB, variableB, notB, andB, orB, equal, less, assign, assignB, ifElse, done, then, InvalidCell, Design, Mover, cell, raise, movers}
 use Rattle.design.specs.State.{Layout, layout, statusSlot, statusWidth, widths}
 use Rattle.design.specs.WellFormed.{StmtOk, StmtsOk, MoverOk, MoversOk, WellFormed}
-use Rattle.clauses.specs.Literal.{Literal, negate, yes!, no! }
+use Rattle.clauses.specs.Literal.{Literal, negate, trueLiteral, falseLiteral}
 use Rattle.clauses.specs.Words.{words}
 use Rattle.clauses.specs.Gate.{Gate, and, xor, mux, gatesClauses}
 use Rattle.clauses.specs.Circuit.{Built, Build, give, _>>=_, and!, xor!, mux!, or!, Bits, sum!, difference!, negateTop, less!, xors!, chain!, equal! }
 use Rattle.clauses.specs.Expression.{Slots, constantBits, integerAt, int!, bool! }
 use Rattle.clauses.specs.Action.{muxBits!, muxes!, statement!, statements!, statusAndEvent!, enable!, effect!, mover!, movers!, noInvalid! }
 use Rattle.clauses.specs.Formula.{total, property!, step!, S}
-use Rattle.clauses.specs.Cost.{Cost, cost, plus, gatesIn, clausesIn, wordsIn, intCost, boolCost, statementCost, statementsCost, statusAndEventCost, enableCost, effectCost, moverCost, moversCost, invalidCost, propertyCost, stepCost}
+use Rattle.clauses.specs.Cost.{Cost, cost, addCosts, gatesIn, clausesIn, wordsIn, intCost, boolCost, statementCost, statementsCost, statusAndEventCost, enableCost, effectCost, moverCost, moversCost, invalidCost, propertyCost, stepCost}
 use Rattle.clauses.proofs.Arithmetic.{length-negate, length-negateTop}
 use Rattle.clauses.proofs.Expressions.{length-pad, length-constant}
 use Rattle.clauses.proofs.Actions.{map-set, head-eq, tail-eq}
@@ -28,7 +28,7 @@ gateCost (mux g c a b) = cost 0 1
 
 abbrev pub costOf : List Gate → Cost
 costOf [] = cost 0 0
-costOf (g ∷ gs) = plus (gateCost g) (costOf gs)
+costOf (g ∷ gs) = addCosts (gateCost g) (costOf gs)
 
 ands-append : (xs ys : List Gate) → costOf (xs ++ ys) .ands ≡ costOf xs .ands + costOf ys .ands
 ands-append [] ys = omega arith
@@ -53,7 +53,7 @@ unfolding give
 costs-give a q = record { next = omega arith; ands = refl; wides = refl; shape = q }
 
 pub costs-bind : {A B : Type 0} {n : ℕ} (m : Build A) (f : A → Build B) {x y : Cost} {Q : A → Type 0} {Q′ : B → Type 0}
-    → Costs n (m n) x Q → ((a : A) (k : ℕ) → Q a → Costs k (f a k) y Q′) → Costs n ((m >>= f) n) (plus x y) Q′
+    → Costs n (m n) x Q → ((a : A) (k : ℕ) → Q a → Costs k (f a k) y Q′) → Costs n ((m >>= f) n) (addCosts x y) Q′
 unfolding _>>=_
 costs-bind {n = n} m f p h =
     let r = m n in
@@ -106,7 +106,7 @@ sum-costs (suc w) (x ∷ xs) (y ∷ ys) c n hx hy =
 pub difference-costs : (w : ℕ) (xs ys : Bits) (n : ℕ) → length xs ≡ w → length ys ≡ w
     → Costs n (difference! xs ys n) (cost (3 * w) (2 * w)) (λ r. length (r .bits) ≡ w)
 unfolding difference!
-difference-costs w xs ys n p q = sum-costs w xs (map negate ys) yes! n p (length-negate ys ∙ q)
+difference-costs w xs ys n p q = sum-costs w xs (map negate ys) trueLiteral n p (length-negate ys ∙ q)
 
 pub less-costs : (w : ℕ) (xs ys : Bits) (n : ℕ) → length xs ≡ w → length ys ≡ w → Costs n (less! xs ys n) (cost (3 * w) (2 * w)) Any
 unfolding less!
@@ -138,7 +138,7 @@ pub equal-costs : (w : ℕ) (xs ys : Bits) (n : ℕ) → length xs ≡ w → len
 unfolding equal!
 equal-costs w xs ys n p q =
     costs-same (omega arith) (omega arith) (
-    costs-bind _ _ (xors-costs w xs ys n p q) λ r k h. chain-costs w yes! (map negate r) k (length-negate r ∙ h))
+    costs-bind _ _ (xors-costs w xs ys n p q) λ r k h. chain-costs w trueLiteral (map negate r) k (length-negate r ∙ h))
 
 abbrev pub Wide16 : Bits → Type 0
 Wide16 r = length r ≡ 16
@@ -153,7 +153,7 @@ module _ (l : Layout) (s : Slots) where
       costs-same (omega arith) (omega arith) (
       costs-bind _ _ (int-costs a n) λ x k₁ h₁.
       costs-bind _ _ (int-costs b k₁) λ y k₂ h₂.
-      costs-bind _ _ (sum-costs 16 x y no! k₂ h₁ h₂) λ r k₃ h₃.
+      costs-bind _ _ (sum-costs 16 x y falseLiteral k₂ h₁ h₂) λ r k₃ h₃.
       costs-give _ h₃)
   int-costs (difference a b) n =
       costs-same (omega arith) (omega arith) (
@@ -275,7 +275,7 @@ module _ (ws : List ℕ) (l : Layout) where
         costs-same (omega arith) (omega arith) (
         costs-bind _ _ (statements-costs (c .action) s n f (k .action)) λ r k₁ h₁.
         costs-give _ (set-wide r (statusSlot l (c .matrix)) (constantBits statusWidth (c .target)) h₁ (length-constant statusWidth (c .target) ∙ sym (k .matrix))))
-    effect-costs (raise v) n k = costs-give _ (set-wide s v (yes! ∷ []) f (sym k))
+    effect-costs (raise v) n k = costs-give _ (set-wide s v (trueLiteral ∷ []) f (sym k))
 
     pub mover-costs : (m : Mover) (n : ℕ) → MoverOk ws l m → Costs n (mover! l s m n) (moverCost (total ws) m) Wide
     unfolding mover! moverCost
@@ -297,7 +297,7 @@ module _ (ws : List ℕ) (l : Layout) where
 pub property-costs : (d : Design) (p : ℕ) (s : Slots) (n : ℕ) → Costs n (property! d p s n) (propertyCost d p) Any
 unfolding property! propertyCost
 property-costs d zero s n = bool-costs (layout d) s (d .invariant) n
-property-costs d (suc p) s n = noInvalid-costs (layout d) s (d .invalid) yes! n
+property-costs d (suc p) s n = noInvalid-costs (layout d) s (d .invalid) trueLiteral n
 
 pub step-costs : (d : Design) → WellFormed d → (s : Slots) (n : ℕ) → map length s ≡ widths d → Costs n (step! d s n) (stepCost d) (λ rs. length rs ≡ length (movers d))
 unfolding step! stepCost S

@@ -1,8 +1,7 @@
 -- How many models a formula has: as many as there are breaking lists among all lists of k choices, which computes.
--- A model is the list of the values of variables 1..n.
 use mathlib.Core.Path.{_≡_, refl, sym, ap, _∙_}
 use mathlib.Core.Logic.{inl, inr}
-use mathlib.Core.Bool.{Bool, true, false}
+use mathlib.Core.Bool.{Bool, false}
 use mathlib.Core.List.{List, [], _∷_}
 use Prim.Native.Nat.{ℕ, zero, suc, _+_, _<_}
 use native.Mathlib.Omega.{arith}
@@ -13,17 +12,14 @@ use Rattle.design.specs.WellFormed.{WellFormed}
 use Rattle.step.specs.OneStep.{breaks}
 use Rattle.clauses.specs.Meaning.{Assignment, satisfies}
 use Rattle.clauses.specs.Formula.{w, n, formula, choices}
+use Rattle.clauses.specs.Theorem.{Breaking, assignmentOf, Model, In, Distinct, Exactly}
 use Rattle.clauses.proofs.Definitions.{Same}
 use Rattle.clauses.proofs.Within.{formula-within, satisfies-same}
 use Rattle.clauses.proofs.Decoding.{choices-same}
-use Rattle.clauses.proofs.Theorem.{Breaking, theorem}
-use Rattle.clauses.proofs.Lists.{In, Distinct, keep, in-keep, keep-in, distinct-keep, lists, lists-in, in-lists, distinct-lists}
+use Rattle.clauses.proofs.Theorem.{theorem}
+use Rattle.clauses.proofs.Lists.{keep, in-keep, keep-in, distinct-keep, lists, lists-in, in-lists, distinct-lists}
 
--- the assignment of a list of values, and the values of an assignment from variable v on
-abbrev pub assignmentOf : List Bool → Assignment
-assignmentOf bs zero = false
-assignmentOf bs (suc v) = getD bs v false
-
+-- the values of an assignment from variable v on
 abbrev valuesFrom : Assignment → ℕ → ℕ → List Bool
 valuesFrom ρ v zero = []
 valuesFrom ρ v (suc m) = ρ v ∷ valuesFrom ρ (suc v) m
@@ -41,20 +37,8 @@ values-same : (ρ : Assignment) (m : ℕ) → Same (suc m) (assignmentOf (values
 values-same ρ m zero p h = absurd (omega arith)
 values-same ρ m (suc v) p h = let q : 1 + v ≡ suc v = omega arith in values-at ρ 1 m v (omega arith) ∙ ap ρ q
 
-pub record Model (d : Design) (p k : ℕ) (bs : List Bool) : Type 0 where
-  pub long : length bs ≡ n d p k
-  pub satisfies : satisfies (assignmentOf bs) (formula d p k) ≡ true
-
 abbrev decoded : Design → ℕ → ℕ → List Bool → List ℕ
 decoded d p k bs = choices d p (assignmentOf bs) k
-
--- exactly m values have the property: a list of m different ones that holds them all
-pub record Exactly {A : Type 0} (Q : A → Type 0) (m : ℕ) : Type 0 where
-  pub list : List A
-  pub size : length list ≡ m
-  pub distinct : Distinct list
-  pub all : (a : A) → In a list → Q a
-  pub only : (a : A) → Q a → In a list
 
 unfoldable pub breakers : Design → ℕ → ℕ → List (List ℕ)
 breakers d p k = keep (breaks d p) (lists (w d) k)

@@ -10,7 +10,8 @@ use Rattle.step.specs.OneStep.{stepping}
 use Rattle.clauses.specs.Formula.{F, encoding}
 use Rattle.clauses.specs.Answer.{answer, onDesign}
 use Rattle.clauses.specs.Size.{Sizes, sizesOf, size}
-use Rattle.clauses.proofs.Counting.{Model, Exactly, breakers, models}
+use Rattle.clauses.specs.Theorem.{Model, Exactly}
+use Rattle.clauses.proofs.Counting.{breakers, models}
 
 -- "S=21, P=80, w=3, G=371, F=475."
 abbrev sizesA : ℕ → ℕ → ℕ → Sizes

@@ -1,32 +1,31 @@
 -- Gates of statements and lists of them, over the bytes. Assumes nothing.
-use Prim.Native.Nat.{ℕ, zero, suc, _+_, _-_, _*_, _<_, _≤_}
+use Prim.Native.Nat.{ℕ, zero, suc, _+_, _-_, _<_, _≤_}
 use mathlib.Core.Path.{_≡_, refl, sym, ap, ap₂, subst, _∙_}
 use mathlib.Core.Bool.{Bool, true, false, cond}
-use mathlib.Core.Logic.{⊎-elim}
 use mathlib.Core.List.{List, [], _∷_}
 use native.Mathlib.Omega.{arith}
 use native.Mathlib.Numerals.{sub-one}
 use lib.Dec.{eqb, ltb}
 use lib.ListN.{length, getD, set}
 use lib.IntN.{ℤ}
-use borrow.Author.Tests.{ltb-true, lt-ltb, eq-eqb, ne-eqb, eqb-true, eqb-false}
+use borrow.Author.Tests.{ltb-true, lt-ltb, eq-eqb, ne-eqb}
 use Rattle.design.specs.Tree.{IntExpr, BoolExpr, Stmt, Stmts, assign, assignB, ifElse, done, then}
 use Rattle.design.specs.Limits.{maxDepth}
-use Rattle.design.specs.Reading.{Read, got, bad, Reader, bind, when}
+use Rattle.design.specs.Reading.{got, bad, Reader, provided}
 use Rattle.design.specs.Expression.{Names, byte, intExpr, boolExpr}
-use Rattle.design.specs.Action.{StmtOp, stmtOp, value, assignment, statements, listOf, conditional, stmtOf, statement, list}
+use Rattle.design.specs.Action.{stmtOp, value, assignment, statements, listOf, conditional, statement, list}
 use Rattle.design.specs.State.{Layout}
 use Rattle.design.specs.Check.{namesOf}
 use Rattle.design.specs.Answers.{found}
 use Rattle.design.proofs.Forward.{bool-on, list-on, stmt-on}
 use Rattle.clauses.specs.Literal.{Literal}
-use Rattle.clauses.specs.Circuit.{Built, Build, give, _>>=_, Bits}
+use Rattle.clauses.specs.Circuit.{Build, give, _>>=_, Bits}
 use Rattle.clauses.specs.Expression.{Slots, int!, bool! }
 use Rattle.clauses.specs.Action.{muxes!, statement!, statements! }
 use Rattle.clauses.specs.Writing.{Emits}
 use Rattle.clauses.specs.FlatState.{slotsOf, layoutOf, Reads}
 use Rattle.clauses.proofs.EmitBuilds.{emits-same, emits-bind, Left, left-start, left-on, left-same, left-end}
-use Rattle.clauses.proofs.EmitReads.{when-got, Bound, bind-got, got-same, OneRead, one-read}
+use Rattle.clauses.proofs.EmitReads.{provided-got, Bound, bind-got, got-same, OneRead, one-read}
 use Rattle.clauses.proofs.EmitExpressions.{Wrote}
 
 bad-got : {A : Type 0} {a : A} {n : ℕ} → bad ≡ got a n → ⊥
@@ -65,19 +64,19 @@ module _ (text : List ℕ) (names : Names) (end : ℕ) where
 
   -- assignments
   module _ (at : ℕ) (t : Stmt) (n : ℕ) (h : assignment text names end at ≡ got t n) where
-    found-in : Bound (byte text names end at) (λ (v m : ℕ). when (ltb v (names .variables)) (value text names end v (eqb (names .kindOf v) 1) m)) t n
+    found-in : Bound (byte text names end at) (λ (v m : ℕ). provided (ltb v (names .variables)) (value text names end v (eqb (names .kindOf v) 1) m)) t n
     unfolding assignment
     found-in = bind-got (byte text names end at) _ t n h
 
     byte-in : (at < end) × (found-in .tree ≡ getD text at 0) × (found-in .past ≡ at + 1)
     byte-in =
-        let w = when-got (ltb at end) _ _ _ (found-in .reads) in
+        let w = provided-got (ltb at end) _ _ _ (found-in .reads) in
         let s = got-same _ _ _ _ (w .1) in
         (ltb-true at end (w .0), s .0, s .1)
 
     value-in : (getD text at 0 < names .variables) × (value text names end (getD text at 0) (eqb (names .kindOf (getD text at 0)) 1) (at + 1) ≡ got t n)
     value-in =
-        let x = when-got (ltb (found-in .tree) (names .variables)) _ _ _ (found-in .rest) in
+        let x = provided-got (ltb (found-in .tree) (names .variables)) _ _ _ (found-in .rest) in
         (
           subst (λ (v : ℕ). v < names .variables) (byte-in .1) (ltb-true _ _ (x .0)),
           sym (ap₂ (λ (v m : ℕ). value text names end v (eqb (names .kindOf v) 1) m) (byte-in .1) (byte-in .2)) ∙ x .1,
@@ -99,8 +98,8 @@ module _ (text : List ℕ) (names : Names) (end : ℕ) where
     stmt-live = go k h
       where
         go : (k : ℕ) → S k at ≡ got t n → at < end
-        go zero q = ltb-true at end (when-got (ltb at end) _ _ _ (bind-got (byte text names end at) _ t n q .reads) .0)
-        go (suc k) q = ltb-true at end (when-got (ltb at end) _ _ _ (bind-got (byte text names end at) _ t n q .reads) .0)
+        go zero q = ltb-true at end (provided-got (ltb at end) _ _ _ (bind-got (byte text names end at) _ t n q .reads) .0)
+        go (suc k) q = ltb-true at end (provided-got (ltb at end) _ _ _ (bind-got (byte text names end at) _ t n q .reads) .0)
 
     pub stmt-assign : getD text at 0 ≡ 0x20 → assignment text names end (at + 1) ≡ got t n
     unfolding statement stmtOp
@@ -132,7 +131,7 @@ module _ (text : List ℕ) (names : Names) (end : ℕ) where
   unfolding listOf
   list-in k at ts n h =
       let p = bind-got (byte text names end at) _ ts n h in
-      let w = when-got (ltb at end) _ _ _ (p .reads) in
+      let w = provided-got (ltb at end) _ _ _ (p .reads) in
       let s = got-same _ _ _ _ (w .1) in
       (ltb-true at end (w .0), sym (ap₂ (λ (j m : ℕ). Q k j m) (s .0) (s .1)) ∙ p .rest)
 

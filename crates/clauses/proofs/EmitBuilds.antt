@@ -1,16 +1,15 @@
 -- Laws of builders' gates written into a buffer, one builder after the other. Assumes nothing.
-use Prim.Native.Nat.{ℕ, zero, suc, _+_, _<_, _≤_}
+use Prim.Native.Nat.{ℕ, suc, _+_, _<_}
 use mathlib.Core.Path.{_≡_, refl, sym, ap, ap₂, subst, _∙_}
-use mathlib.Core.List.{List, [], _∷_, _++_}
+use mathlib.Core.List.{List, [], _∷_}
 use native.Mathlib.Omega.{arith}
 use lib.ListN.{length, length-append}
 use lib.IntN.{ℤ}
-use Rattle.clauses.specs.Literal.{Literal, positive, negative, negate}
+use Rattle.clauses.specs.Literal.{Literal, positive, negate}
 use Rattle.clauses.specs.Words.{clauseWords}
-use Rattle.clauses.specs.Gate.{Gate, and, xor, mux}
 use Rattle.clauses.specs.Circuit.{Built, Build, give, _>>=_, and!, xor!, mux!, or! }
-use Rattle.clauses.specs.Writing.{put, gateWords, variableLimit, Put, Puts, Room, Emitted, Emits}
-use Rattle.clauses.proofs.EmitWords.{put-append, puts-then, puts-same, gates-append, gates-length, append-nil}
+use Rattle.clauses.specs.Writing.{put, gateWords, variableLimit, Puts, Emits}
+use Rattle.clauses.proofs.EmitWords.{put-append, puts-then, puts-same, gates-append, gates-length}
 
 pub emits-same : {A : Type 0} {n : ℕ} {xs ys : List ℤ} {cur : ℕ} {out : A} {c v : ℕ} (b b′ : Built A) → b ≡ b′ → Emits n b xs ys cur out c v → Emits n b′ xs ys cur out c v
 emits-same {n = n} {xs = xs} {ys = ys} {cur = cur} {out = out} {c = c} {v = v} b b′ e w = subst (λ x. Emits n x xs ys cur out c v) e w

@@ -1,45 +1,43 @@
 -- What stands at the cells of an accepted file, and the gates of cells and externals. Assumes nothing.
 use mathlib.Core.Path.{_≡_, refl, sym, ap, ap₂, subst, _∙_}
-use mathlib.Core.Bool.{Bool, true, false}
-use mathlib.Core.List.{List, [], _∷_, _++_}
+use mathlib.Core.Bool.{true}
+use mathlib.Core.List.{List, [], _∷_}
 use Prim.Native.Nat.{ℕ, zero, suc, _+_, _*_, _-_, _/_, _%_, _<_, _≤_}
 use native.Mathlib.Omega.{arith}
-use lib.ListN.{getD, length, set, take, drop}
+use lib.ListN.{getD, length, set, take}
 use lib.Seq.{length-take-le}
 use lib.Dec.{eqb}
 use lib.IntN.{ℤ}
 use borrow.Author.Tests.{eqb-true}
-use Rattle.design.specs.Tree.{BoolExpr, Stmts, constantB, boolean, Cell, Design, Mover, cell, raise, truth}
+use Rattle.design.specs.Tree.{BoolExpr, constantB, boolean, Cell, Design, cell, raise, truth}
 use Rattle.design.specs.Limits.{maxDepth, maxNest}
 use Rattle.design.specs.State.{Layout, statusSlot, statusWidth}
 use Rattle.design.specs.Reading.{Read, got, bad}
 use Rattle.design.specs.Expression.{Names, boolExpr}
 use Rattle.design.specs.Action.{list}
-use Rattle.design.specs.DesignFile.{item, filling, guard, normal, c-matrix, c-status, c-event, c-target, c-guard, c-action, c-middle, c-past, events}
-use Rattle.design.specs.Check.{namesOf, names, trailer, variableCount, matricesOffset, matrixCount}
-use Rattle.design.specs.Places.{Accepted, pastEvents, eventsStart}
+use Rattle.design.specs.DesignFile.{item, filling, guard, normal, c-matrix, c-status, c-event, c-guard, c-middle, c-past, events}
+use Rattle.design.specs.Check.{namesOf, names, trailer, variableCount, matricesOffset, eventIn}
+use Rattle.design.specs.Places.{pastEvents, eventsStart}
 use Rattle.design.specs.Answers.{walked}
-use Rattle.design.proofs.Sections.{Parts, eventIn, need-inv, item-same}
+use Rattle.design.specs.Sections.{Parts, NormalRead, EventRead, CellFields}
+use Rattle.design.proofs.Sections.{need-inv, item-same}
 use Rattle.design.proofs.Items.{variable-ends}
-use Rattle.design.proofs.Positions.{NormalRead, EventRead, variable-stands}
-use Rattle.design.proofs.Places.{Read as Tree, read, event-stands, CellFields, cell-fields}
+use Rattle.design.proofs.Positions.{variable-stands}
+use Rattle.design.proofs.Places.{Read as Tree, read, event-stands, cell-fields}
 use Rattle.design.proofs.Tables.{few-events}
 use Rattle.step.specs.Ready.{NormalCell}
-use Rattle.clauses.specs.Literal.{Literal, positive, negate, yes!, literalOf}
-use Rattle.clauses.specs.Circuit.{Built, Build, give, _>>=_, and!, mux!, equal!, Bits}
+use Rattle.clauses.specs.Literal.{Literal, positive, negate, trueLiteral, literalOf}
+use Rattle.clauses.specs.Circuit.{Built, give, _>>=_, and!, mux!, equal!, Bits}
 use Rattle.clauses.specs.Expression.{Slots, constantBits, integerAt, booleanAt, bool! }
 use Rattle.clauses.specs.Action.{muxBits!, muxes!, statements!, statusAndEvent!, enable!, effect!, mover! }
 use Rattle.clauses.specs.Formula.{total, variablesFrom}
 use Rattle.clauses.specs.Writing.{fromCode, fromCodes, Emits}
-use Rattle.clauses.specs.FlatState.{widthsFrom, widthsOf, cut, slotsOf, layoutOf, over, Slotted, Reads}
+use Rattle.clauses.specs.FlatState.{widthsFrom, widthsOf, cut, slotsOf, over, Slotted, Reads}
 use Rattle.clauses.specs.Ready.{Ready, resultFrom}
-use Rattle.clauses.proofs.Costs.{muxBits-costs}
 use Rattle.clauses.proofs.EmitWords.{code-yes}
 use Rattle.clauses.proofs.EmitLists.{codes-length, codes-take}
 use Rattle.clauses.proofs.EmitBuilds.{emits-same, emits-result, emits-give, emits-bind, emits-map}
-use Rattle.clauses.proofs.EmitExpressions.{Wrote}
-use Rattle.clauses.proofs.EmitSlots.{boolean-width, status-room}
-use Rattle.clauses.proofs.EmitStates.{state-size, variables-small, muxes-flat, status-over, boolean-set, boolean-room}
+use Rattle.clauses.proofs.EmitStates.{state-size, variables-small, muxes-flat, status-over}
 
 module _ (file table : List ℕ) (nv nm : ℕ) (h : Ready file table nv nm) where
   abbrev E : ℕ
@@ -89,27 +87,27 @@ module _ (file table : List ℕ) (nv nm : ℕ) (h : Ready file table nv nm) wher
     event-slot = omega (arith, few-events file (h .accepted) m (omega (arith, h .matrices)), sizes)
 
     module _ (d : Design) (w : Parts file d) where
-      event-read : EventRead file E (names file) place (eventIn file (w .rows) m e) (pastEvents file (suc e) (eventsStart file m))
-      event-read = subst (λ (p : ℕ). EventRead file E (names file) p (eventIn file (w .rows) m e) (pastEvents file (suc e) (eventsStart file m))) (sym (h .events .entry m e (omega (arith, h .matrices)) b)) (event-stands file d w m e (omega (arith, h .matrices)) b)
+      event-read : EventRead file E (names file) place (eventIn (w .rows) m e) (pastEvents file (suc e) (eventsStart file m))
+      event-read = subst (λ (p : ℕ). EventRead file E (names file) p (eventIn (w .rows) m e) (pastEvents file (suc e) (eventsStart file m))) (sym (h .events .entry m e (omega (arith, h .matrices)) b)) (event-stands file d w m e (omega (arith, h .matrices)) b)
 
-      pub event-got : (n at : ℕ) → n ≡ place + 1 + getD file place 0 → at ≡ place + 1 → boolExpr file N n maxDepth at ≡ got (eventIn file (w .rows) m e) n
+      pub event-got : (n at : ℕ) → n ≡ place + 1 + getD file place 0 → at ≡ place + 1 → boolExpr file N n maxDepth at ≡ got (eventIn (w .rows) m e) n
       event-got n at p q =
           let t = event-read in
           let z : pastEvents file (suc e) (eventsStart file m) ≡ n = t .past ∙ sym p in
-          ap (λ (x : Names). boolExpr file x n maxDepth at) names-here ∙ ap (boolExpr file (names file) n maxDepth) q ∙ subst (λ (j : ℕ). boolExpr file (names file) j maxDepth (place + 1) ≡ got (eventIn file (w .rows) m e) j) z (t .reads)
+          ap (λ (x : Names). boolExpr file x n maxDepth at) names-here ∙ ap (boolExpr file (names file) n maxDepth) q ∙ subst (λ (j : ℕ). boolExpr file (names file) j maxDepth (place + 1) ≡ got (eventIn (w .rows) m e) j) z (t .reads)
 
     pub event-inside : place + 1 + getD file place 0 ≤ E
     event-inside = let t = event-read (tree .tree) (tree .all .parts) in omega (arith, t .past, t .inside)
 
     pub event-reads : (n at : ℕ) → n ≡ place + 1 + getD file place 0 → at ≡ place + 1 → Reads (boolExpr file N n maxDepth at)
-    event-reads n at p q = record { tree = eventIn file (tree .all .parts .rows) m e; past = n; reads = event-got (tree .tree) (tree .all .parts) n at p q }
+    event-reads n at p q = record { tree = eventIn (tree .all .parts .rows) m e; past = n; reads = event-got (tree .tree) (tree .all .parts) n at p q }
 
   -- a normal cell
   module _ (p : ℕ) (x : NormalCell file p) where
     pub normal-fields : CellFields file p
-    normal-fields = cell-fields file (eventIn file (x .parts .rows)) p (normal (x .cell)) (x .stands)
+    normal-fields = cell-fields file (eventIn (x .parts .rows)) p (normal (x .cell)) (x .stands)
 
-    pub is : NormalRead file E (names file) (matricesOffset file) (eventIn file (x .parts .rows)) p (x .cell)
+    pub is : NormalRead file E (names file) (matricesOffset file) (eventIn (x .parts .rows)) p (x .cell)
     is = x .stands .1 .entry .1
 
     pub guard-none : c-guard file p ≡ 0 → x .cell .guard ≡ constantB true
@@ -148,7 +146,7 @@ enable-emits l s c a g r w1 w2 w3 = emits-bind (statusAndEvent! l s (c .matrix) 
 
 pub guard-true : (l : Layout) (s : Slots) (g : BoolExpr) (n : ℕ) (xs : List ℤ) (cur : ℕ) → g ≡ constantB true → Emits n (bool! l s g n) xs xs cur (fromCode 2) cur n
 unfolding bool!
-guard-true l s g n xs cur e = emits-result _ (sym code-yes) (emits-same _ _ (sym (ap (λ (x : BoolExpr). bool! l s x n) e)) (emits-give n yes! xs cur))
+guard-true l s g n xs cur e = emits-result _ (sym code-yes) (emits-same _ _ (sym (ap (λ (x : BoolExpr). bool! l s x n) e)) (emits-give n trueLiteral xs cur))
 
 -- the result of muxes is consecutive variables
 bits-out : (c : Literal) (xs ys : Bits) (n : ℕ) → length xs ≡ length ys → (muxBits! c xs ys n) .out ≡ variablesFrom n (length xs)
@@ -202,17 +200,17 @@ cell-emits l s c {e = e} {v2 = v2} w1 w2 q w3 =
     (emits-bind (statements! (c .action) l s >>= (λ (r : Slots). give (set r (statusSlot l (c .matrix)) (constantBits statusWidth (c .target))))) (λ (r : Slots). muxes! e r s)
     (emits-result _ (sym q) (emits-map (statements! (c .action) l s) (λ (r : Slots). set r (statusSlot l (c .matrix)) (constantBits statusWidth (c .target))) w2)) w3)
 
-pub external-emits : (l : Layout) (s : Slots) (v : ℕ) (e : Literal) (r : Slots) {out : Slots} {n : ℕ} {x0 x1 : List ℤ} {c0 c1 v1 : ℕ} → e ≡ negate (booleanAt s v) → r ≡ set s v (yes! ∷ []) → Emits n (muxes! e r s n) x0 x1 c0 out c1 v1 → Emits n (mover! l s (raise v) n) x0 x1 c0 out c1 v1
+pub external-emits : (l : Layout) (s : Slots) (v : ℕ) (e : Literal) (r : Slots) {out : Slots} {n : ℕ} {x0 x1 : List ℤ} {c0 c1 v1 : ℕ} → e ≡ negate (booleanAt s v) → r ≡ set s v (trueLiteral ∷ []) → Emits n (muxes! e r s n) x0 x1 c0 out c1 v1 → Emits n (mover! l s (raise v) n) x0 x1 c0 out c1 v1
 unfolding mover! enable! effect!
 external-emits l s v e r {n = n} {x0 = x0} {c0 = c0} p q w =
     emits-bind (give (negate (booleanAt s v))) _ (emits-give n (negate (booleanAt s v)) x0 c0)
-    (emits-bind (give (set s v (yes! ∷ []))) (λ (r : Slots). muxes! (negate (booleanAt s v)) r s) (emits-give n (set s v (yes! ∷ [])) x0 c0)
+    (emits-bind (give (set s v (trueLiteral ∷ []))) (λ (r : Slots). muxes! (negate (booleanAt s v)) r s) (emits-give n (set s v (trueLiteral ∷ [])) x0 c0)
     (emits-same _ _ (ap₂ (λ (a : Literal) (b : Slots). muxes! a b s n) p q) w))
 
 -- what a cell's bytes name is what its tree has
 module _ (file table : List ℕ) (nv nm : ℕ) (h : Ready file table nv nm) (p : ℕ) (x : NormalCell file p) (l : Layout) (s : Slots) (n : ℕ) where
-  pub cell-event : statusAndEvent! l s (c-matrix file p) (c-status file p) (eventIn file (x .parts .rows) (c-matrix file p) (c-event file p)) n ≡ statusAndEvent! l s (x .cell .matrix) (x .cell .status) (x .cell .event) n
+  pub cell-event : statusAndEvent! l s (c-matrix file p) (c-status file p) (eventIn (x .parts .rows) (c-matrix file p) (c-event file p)) n ≡ statusAndEvent! l s (x .cell .matrix) (x .cell .status) (x .cell .event) n
   cell-event =
       let i = is file table nv nm h p x in
-      ap₂ (λ (a b : ℕ). statusAndEvent! l s a b (eventIn file (x .parts .rows) (c-matrix file p) (c-event file p)) n) (sym (i .matrix)) (sym (i .status))
+      ap₂ (λ (a b : ℕ). statusAndEvent! l s a b (eventIn (x .parts .rows) (c-matrix file p) (c-event file p)) n) (sym (i .matrix)) (sym (i .status))
       ∙ ap (λ (e : BoolExpr). statusAndEvent! l s (x .cell .matrix) (x .cell .status) e n) (sym (i .event))

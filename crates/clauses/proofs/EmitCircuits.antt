@@ -1,16 +1,16 @@
 -- Loops over words of sixteen literals. Assumes nothing.
 use Prim.Native.Nat.{ℕ, zero, suc, _+_, _<_, _≤_}
-use mathlib.Core.Path.{_≡_, refl, sym, ap, ap₂, subst, _∙_}
+use mathlib.Core.Path.{_≡_, refl, sym, ap, ap₂, _∙_}
 use mathlib.Core.List.{List, [], _∷_, _++_, map}
 use native.Mathlib.Omega.{arith}
 use lib.ListN.{length, getD, take, drop, set, length-set}
 use lib.IntN.{ℤ}
-use Rattle.clauses.specs.Literal.{Literal, negate, yes!, no! }
-use Rattle.clauses.specs.Circuit.{Built, Build, give, _>>=_, and!, xor!, or!, Bits, Summed, sum!, difference!, negateTop, less!, xors!, chain!, equal! }
+use Rattle.clauses.specs.Literal.{Literal, negate, trueLiteral}
+use Rattle.clauses.specs.Circuit.{Build, give, _>>=_, and!, xor!, or!, Bits, Summed, sum!, difference!, negateTop, less!, xors!, chain!, equal! }
 use Rattle.clauses.specs.Writing.{fromCode, fromCodes, Emits}
 use Rattle.clauses.specs.Piece.{SumBit, sumBit! }
 use Rattle.clauses.proofs.EmitWords.{append-nil}
-use Rattle.clauses.proofs.EmitLists.{drop-one, drop-all, take-all, codes-length, codes-more}
+use Rattle.clauses.proofs.EmitLists.{drop-one, drop-all, take-all, codes-more}
 use Rattle.clauses.proofs.EmitBuilds.{emits-same, emits-result, emits-bind, emits-map, Left, left-start, left-on, left-map, left-same, left-result, left-end}
 
 pub bit-emits : (n : ℕ) (a b c p s u t k : Literal) {xs x1 x2 x3 x4 x5 : List ℤ} {c0 c1 c2 c3 c4 c5 v1 v2 v3 v4 v5 : ℕ}
@@ -160,7 +160,7 @@ negate-top (x ∷ y ∷ b) zero s h e = absurd (omega arith)
 negate-top (x ∷ y ∷ b) (suc k) s h e = ap (λ (r : Bits). fromCode x ∷ r) (negate-top (y ∷ b) k s (omega arith) e) ∙ refl
 
 -- the circuits that use the sum
-pub difference-emits : (n : ℕ) (a b b′ : Bits) (c : Literal) {xs ys : List ℤ} {cur : ℕ} {r : Summed} {cur′ v : ℕ} → b′ ≡ map negate b → c ≡ yes! → Emits n (sum! a b′ c n) xs ys cur r cur′ v → Emits n (difference! a b n) xs ys cur r cur′ v
+pub difference-emits : (n : ℕ) (a b b′ : Bits) (c : Literal) {xs ys : List ℤ} {cur : ℕ} {r : Summed} {cur′ v : ℕ} → b′ ≡ map negate b → c ≡ trueLiteral → Emits n (sum! a b′ c n) xs ys cur r cur′ v → Emits n (difference! a b n) xs ys cur r cur′ v
 unfolding difference!
 difference-emits n a b b′ c eb e w = emits-same _ _ (ap₂ (λ (p : Bits) (q : Literal). sum! a p q n) eb e) w
 
@@ -169,6 +169,6 @@ unfolding less!
 less-emits n a a′ b b′ l r ea eb el w =
     emits-result l (sym el) (emits-map (difference! (negateTop a) (negateTop b)) (λ (x : Summed). negate (x .carry)) (emits-same _ _ (ap₂ (λ (p q : Bits). difference! p q n) ea eb) w))
 
-pub equal-emits : (n : ℕ) (a b x : Bits) (c l : Literal) {xs ys zs : List ℤ} {cur cur′ v cur″ v″ : ℕ} → c ≡ yes! → Emits n (xors! a b n) xs ys cur x cur′ v → Emits v (chain! c (map negate x) v) ys zs cur′ l cur″ v″ → Emits n (equal! a b n) xs zs cur l cur″ v″
+pub equal-emits : (n : ℕ) (a b x : Bits) (c l : Literal) {xs ys zs : List ℤ} {cur cur′ v cur″ v″ : ℕ} → c ≡ trueLiteral → Emits n (xors! a b n) xs ys cur x cur′ v → Emits v (chain! c (map negate x) v) ys zs cur′ l cur″ v″ → Emits n (equal! a b n) xs zs cur l cur″ v″
 unfolding equal!
-equal-emits n a b x c l {v = v} e w u = emits-bind (xors! a b) (λ (x : Bits). chain! yes! (map negate x)) w (emits-same _ _ (ap (λ (y : Literal). chain! y (map negate x) v) e) u)
+equal-emits n a b x c l {v = v} e w u = emits-bind (xors! a b) (λ (x : Bits). chain! trueLiteral (map negate x)) w (emits-same _ _ (ap (λ (y : Literal). chain! y (map negate x) v) e) u)

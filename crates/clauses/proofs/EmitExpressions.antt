@@ -1,16 +1,16 @@
 -- Gates of expressions: an operator after its operands, over the bytes. Assumes nothing.
-use Prim.Native.Nat.{ℕ, zero, suc, _+_, _-_, _*_, _<_, _≤_}
-use mathlib.Core.Path.{_≡_, refl, sym, ap, ap₂, subst, _∙_}
+use Prim.Native.Nat.{ℕ, _-_}
+use mathlib.Core.Path.{_≡_, refl, sym, ap, _∙_}
 use mathlib.Core.Bool.{Bool, true, false, cond}
-use mathlib.Core.List.{List, [], _∷_}
+use mathlib.Core.List.{List, []}
 use lib.Dec.{eqb}
 use borrow.Author.Tests.{eq-eqb, ne-eqb}
 use lib.IntN.{ℤ}
-use Rattle.design.specs.Tree.{IntExpr, BoolExpr, constant, variable, status, sum, difference, constantB, variableB, notB, andB, orB, equal, less, truth}
-use Rattle.design.specs.Reading.{Read, got, Reader}
+use Rattle.design.specs.Tree.{IntExpr, BoolExpr, constant, variable, status, sum, difference, constantB, variableB, notB, andB, orB, equal, less}
+use Rattle.design.specs.Reading.{got, Reader}
 use Rattle.design.specs.State.{Layout, statusSlot}
-use Rattle.clauses.specs.Literal.{Literal, negate, no!, literalOf}
-use Rattle.clauses.specs.Circuit.{Built, Build, give, _>>=_, and!, or!, Bits, Summed, sum!, difference!, equal!, less! }
+use Rattle.clauses.specs.Literal.{Literal, negate, falseLiteral, literalOf}
+use Rattle.clauses.specs.Circuit.{Build, give, _>>=_, and!, or!, Bits, Summed, sum!, difference!, equal!, less! }
 use Rattle.clauses.specs.Expression.{Slots, constantBits, integerAt, booleanAt, int!, bool! }
 use Rattle.clauses.specs.Writing.{Emits}
 use Rattle.clauses.specs.Piece.{arithmetic!, logic!, compare! }
@@ -19,17 +19,17 @@ use Rattle.clauses.proofs.EmitBuilds.{emits-same, emits-result, emits-g
 use Rattle.clauses.proofs.EmitReads.{OneRead, TwoRead, arithmeticOf, logicOf, compareOf}
 
 -- by the operator byte
-plus-is : (op : ℕ) (x y : Bits) → op ≡ 0x04 → arithmetic! op x y ≡ (sum! x y no! >>= (λ (r : Summed). give (r .bits)))
+plus-is : (op : ℕ) (x y : Bits) → op ≡ 0x04 → arithmetic! op x y ≡ (sum! x y falseLiteral >>= (λ (r : Summed). give (r .bits)))
 unfolding arithmetic!
-plus-is op x y e = ap (λ (t : Bool). cond t (sum! x y no!) (difference! x y) >>= (λ (r : Summed). give (r .bits))) (eq-eqb op 0x04 e)
+plus-is op x y e = ap (λ (t : Bool). cond t (sum! x y falseLiteral) (difference! x y) >>= (λ (r : Summed). give (r .bits))) (eq-eqb op 0x04 e)
 
 minus-is : (op : ℕ) (x y : Bits) → (op ≡ 0x04 → ⊥) → arithmetic! op x y ≡ (difference! x y >>= (λ (r : Summed). give (r .bits)))
 unfolding arithmetic!
-minus-is op x y e = ap (λ (t : Bool). cond t (sum! x y no!) (difference! x y) >>= (λ (r : Summed). give (r .bits))) (ne-eqb op 0x04 e)
+minus-is op x y e = ap (λ (t : Bool). cond t (sum! x y falseLiteral) (difference! x y) >>= (λ (r : Summed). give (r .bits))) (ne-eqb op 0x04 e)
 
-pub sum-emits : (n op : ℕ) (x y : Bits) (c : Literal) {xs ys : List ℤ} {cur : ℕ} {r : Summed} {cur′ v : ℕ} → op ≡ 0x04 → c ≡ no! → Emits n (sum! x y c n) xs ys cur r cur′ v → Emits n (arithmetic! op x y n) xs ys cur (r .bits) cur′ v
+pub sum-emits : (n op : ℕ) (x y : Bits) (c : Literal) {xs ys : List ℤ} {cur : ℕ} {r : Summed} {cur′ v : ℕ} → op ≡ 0x04 → c ≡ falseLiteral → Emits n (sum! x y c n) xs ys cur r cur′ v → Emits n (arithmetic! op x y n) xs ys cur (r .bits) cur′ v
 sum-emits n op x y c e q w =
-    emits-same _ _ (ap (λ (b : Build Bits). b n) (sym (plus-is op x y e))) (emits-map (sum! x y no!) (λ (r : Summed). r .bits) (emits-same _ _ (ap (λ (z : Literal). sum! x y z n) q) w))
+    emits-same _ _ (ap (λ (b : Build Bits). b n) (sym (plus-is op x y e))) (emits-map (sum! x y falseLiteral) (λ (r : Summed). r .bits) (emits-same _ _ (ap (λ (z : Literal). sum! x y z n) q) w))
 
 pub minus-emits : (n op : ℕ) (x y : Bits) {xs ys : List ℤ} {cur : ℕ} {r : Summed} {cur′ v : ℕ} → (op ≡ 0x04 → ⊥) → Emits n (difference! x y n) xs ys cur r cur′ v → Emits n (arithmetic! op x y n) xs ys cur (r .bits) cur′ v
 minus-emits n op x y e w = emits-same _ _ (ap (λ (b : Build Bits). b n) (sym (minus-is op x y e))) (emits-map (difference! x y) (λ (r : Summed). r .bits) w)
@@ -89,7 +89,7 @@ module _ (l : Layout) (s : Slots) where
   unfolding int! arithmetic!
   arithmetic-tree op a b = go (eqb op 0x04)
     where
-      go : (t : Bool) → int! l s (cond t (sum a b) (difference a b)) ≡ (int! l s a >>= (λ (x : Bits). int! l s b >>= (λ (y : Bits). cond t (sum! x y no!) (difference! x y) >>= (λ (r : Summed). give (r .bits)))))
+      go : (t : Bool) → int! l s (cond t (sum a b) (difference a b)) ≡ (int! l s a >>= (λ (x : Bits). int! l s b >>= (λ (y : Bits). cond t (sum! x y falseLiteral) (difference! x y) >>= (λ (r : Summed). give (r .bits)))))
       go true = refl
       go false = refl
 

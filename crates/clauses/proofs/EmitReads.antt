@@ -10,14 +10,13 @@ use lib.ListN.{getD}
 use lib.Dec.{ltb, leb, eqb}
 use borrow.Author.Tests.{ltb-true, ltb-false, leb-true, eqb-true, eqb-false, not-true, ne-eqb}
 use Rattle.design.specs.Tree.{IntExpr, BoolExpr, constant, variable, status, sum, difference, constantB, variableB, notB, andB, orB, equal, less, truth}
-use Rattle.design.specs.Reading.{Read, got, bad, Reader, bind, when}
+use Rattle.design.specs.Reading.{Read, got, bad, Reader, bind, provided}
 use Rattle.design.specs.Expression.{Names, IntOp, BoolOp, intOp, boolOp, byte, word, intOf, boolOf, intExpr, boolExpr}
-use Rattle.design.proofs.Readers.{int-step, bool-step, int-none, bool-none}
-use Rattle.clauses.specs.FlatState.{Reads}
+use Rattle.design.proofs.Readers.{int-step, bool-step, bool-none}
 
-pub when-got : {A : Type 0} (t : Bool) (r : Read A) (a : A) (n : ℕ) → when t r ≡ got a n → (t ≡ true) × (r ≡ got a n)
-when-got true r a n e = (refl, e)
-when-got false r a n e = let z : _≡_ {A = ℕ} 0 1 = cc in absurd (omega arith)
+pub provided-got : {A : Type 0} (t : Bool) (r : Read A) (a : A) (n : ℕ) → provided t r ≡ got a n → (t ≡ true) × (r ≡ got a n)
+provided-got true r a n e = (refl, e)
+provided-got false r a n e = let z : _≡_ {A = ℕ} 0 1 = cc in absurd (omega arith)
 
 pub record Bound {A B : Type 0} (x : Read A) (k : A → ℕ → Read B) (b : B) (n : ℕ) : Type 0 where
   pub tree : A
@@ -99,12 +98,12 @@ module _ (text : List ℕ) (names : Names) (end : ℕ) where
   pub int-live : (d at : ℕ) (e : IntExpr) (n : ℕ) → I d at ≡ got e n → (0 < d) × (at < end)
   unfolding intExpr
   int-live zero at e n h = absurd (bad-got h)
-  int-live (suc d) at e n h = let p = bind-got (byte text names end at) _ e n h in (omega arith, ltb-true at end (when-got (ltb at end) _ _ _ (p .reads) .0))
+  int-live (suc d) at e n h = let p = bind-got (byte text names end at) _ e n h in (omega arith, ltb-true at end (provided-got (ltb at end) _ _ _ (p .reads) .0))
 
   pub bool-live : (d at : ℕ) (e : BoolExpr) (n : ℕ) → B d at ≡ got e n → (0 < d) × (at < end)
   unfolding boolExpr
   bool-live zero at e n h = absurd (bad-got h)
-  bool-live (suc d) at e n h = let p = bind-got (byte text names end at) _ e n h in (omega arith, ltb-true at end (when-got (ltb at end) _ _ _ (p .reads) .0))
+  bool-live (suc d) at e n h = let p = bind-got (byte text names end at) _ e n h in (omega arith, ltb-true at end (provided-got (ltb at end) _ _ _ (p .reads) .0))
 
   module _ (d at : ℕ) (e : IntExpr) (n : ℕ) (h : I d at ≡ got e n) where
     int-as : (o : IntOp) → intOp (getD text at 0) ≡ o → intOf text names end (I (d - 1)) o (at + 1) ≡ got e n
@@ -114,7 +113,7 @@ module _ (text : List ℕ) (names : Names) (end : ℕ) where
     unfolding intOp
     read-constant q =
         let p = one-read (word text names end) constant (at + 1) e n (int-as IntOp.op-constant (ap intOp q)) in
-        let w = when-got (leb (at + 1 + 2) end) _ _ _ (p .reads) in
+        let w = provided-got (leb (at + 1 + 2) end) _ _ _ (p .reads) in
         let s = got-same _ _ _ _ (w .1) in
         (omega (arith, leb-true (at + 1 + 2) end (w .0)), p .tree ∙ ap constant (s .0), omega (arith, s .1))
 
@@ -122,10 +121,10 @@ module _ (text : List ℕ) (names : Names) (end : ℕ) where
     unfolding intOp
     read-variable q =
         let p = bind-got (byte text names end (at + 1)) _ e n (int-as IntOp.op-variable (ap intOp q)) in
-        let w = when-got (ltb (at + 1) end) _ _ _ (p .reads) in
+        let w = provided-got (ltb (at + 1) end) _ _ _ (p .reads) in
         let s = got-same _ _ _ _ (w .1) in
-        let x = when-got (ltb (p .tree) (names .variables)) _ _ _ (p .rest) in
-        let y = when-got (eqb (names .kindOf (p .tree)) 1) _ _ _ (x .1) in
+        let x = provided-got (ltb (p .tree) (names .variables)) _ _ _ (p .rest) in
+        let y = provided-got (eqb (names .kindOf (p .tree)) 1) _ _ _ (x .1) in
         let z = got-same _ _ _ _ (y .1) in
         (
           omega (arith, ltb-true (at + 1) end (w .0)),
@@ -139,9 +138,9 @@ module _ (text : List ℕ) (names : Names) (end : ℕ) where
     unfolding intOp
     read-status q =
         let p = bind-got (byte text names end (at + 1)) _ e n (int-as IntOp.op-status (ap intOp q)) in
-        let w = when-got (ltb (at + 1) end) _ _ _ (p .reads) in
+        let w = provided-got (ltb (at + 1) end) _ _ _ (p .reads) in
         let s = got-same _ _ _ _ (w .1) in
-        let x = when-got (ltb (p .tree) (names .matrices)) _ _ _ (p .rest) in
+        let x = provided-got (ltb (p .tree) (names .matrices)) _ _ _ (p .rest) in
         let z = got-same _ _ _ _ (x .1) in
         (omega (arith, ltb-true (at + 1) end (w .0)), subst (λ (v : ℕ). v < names .matrices) (s .0) (ltb-true _ _ (x .0)), z .0 ∙ ap status (s .0), omega (arith, z .1, s .1))
 
@@ -164,9 +163,9 @@ module _ (text : List ℕ) (names : Names) (end : ℕ) where
     unfolding boolOp
     read-truth q =
         let p = bind-got (byte text names end (at + 1)) _ e n (bool-as BoolOp.op-constant (ap boolOp q)) in
-        let w = when-got (ltb (at + 1) end) _ _ _ (p .reads) in
+        let w = provided-got (ltb (at + 1) end) _ _ _ (p .reads) in
         let s = got-same _ _ _ _ (w .1) in
-        let x = when-got (leb (p .tree) 1) _ _ _ (p .rest) in
+        let x = provided-got (leb (p .tree) 1) _ _ _ (p .rest) in
         let z = got-same _ _ _ _ (x .1) in
         (omega (arith, ltb-true (at + 1) end (w .0)), z .0 ∙ ap (λ (k : ℕ). constantB (truth k)) (s .0), omega (arith, z .1, s .1))
 
@@ -174,10 +173,10 @@ module _ (text : List ℕ) (names : Names) (end : ℕ) where
     unfolding boolOp
     read-flag q =
         let p = bind-got (byte text names end (at + 1)) _ e n (bool-as BoolOp.op-variable (ap boolOp q)) in
-        let w = when-got (ltb (at + 1) end) _ _ _ (p .reads) in
+        let w = provided-got (ltb (at + 1) end) _ _ _ (p .reads) in
         let s = got-same _ _ _ _ (w .1) in
-        let x = when-got (ltb (p .tree) (names .variables)) _ _ _ (p .rest) in
-        let y = when-got (not (eqb (names .kindOf (p .tree)) 1)) _ _ _ (x .1) in
+        let x = provided-got (ltb (p .tree) (names .variables)) _ _ _ (p .rest) in
+        let y = provided-got (not (eqb (names .kindOf (p .tree)) 1)) _ _ _ (x .1) in
         let z = got-same _ _ _ _ (y .1) in
         (
           omega (arith, ltb-true (at + 1) end (w .0)),

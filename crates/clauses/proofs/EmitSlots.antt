@@ -1,6 +1,6 @@
 -- The state's literals in a flat list: widths, offsets, slots. Assumes nothing.
 use Prim.Native.Nat.{ℕ, zero, suc, _+_, _-_, _*_, _/_, _%_, _<_, _≤_}
-use mathlib.Core.Path.{_≡_, refl, sym, ap, ap₂, subst, _∙_}
+use mathlib.Core.Path.{_≡_, refl, sym, ap, ap₂, _∙_}
 use mathlib.Core.Bool.{Bool, true, false, cond}
 use mathlib.Core.List.{List, [], _∷_, _++_, append-assoc}
 use native.Mathlib.Omega.{arith}
@@ -10,13 +10,13 @@ use borrow.Author.Tests.{eq-eqb, ne-eqb}
 use lib.ListN.{length, getD, take, drop, set, replicate, length-append, length-set, length-replicate, length-drop, getD-replicate, List·getD-append}
 use lib.Seq.{take-suc, drop-drop, getD-drop, take-append-le, take-append-add, getD-append-add, length-take-le}
 use Rattle.design.specs.Tree.{truth}
-use Rattle.clauses.specs.Literal.{Literal, yes!, no!, literalOf}
-use Rattle.clauses.specs.Expression.{Slots, pad, constantBits, lowest}
+use Rattle.clauses.specs.Literal.{Literal, literalOf}
+use Rattle.clauses.specs.Expression.{pad, constantBits, lowest}
 use Rattle.clauses.specs.Formula.{total}
 use Rattle.clauses.specs.Writing.{fromCode, fromCodes}
 use Rattle.clauses.specs.FlatState.{widthsFrom, widthsOf, cut, slotsOf}
 use Rattle.clauses.proofs.EmitWords.{code-no, code-yes, append-nil}
-use Rattle.clauses.proofs.EmitLists.{codes-append, codes-length, codes-take, codes-drop, codes-more, take-all, take-none, drop-none}
+use Rattle.clauses.proofs.EmitLists.{codes-take, codes-drop, codes-more, take-all, take-none, drop-none}
 
 abbrev wd : List ℕ → ℕ → ℕ
 wd file v = cond (eqb (getD file (3 * v) 0) 1) 16 1

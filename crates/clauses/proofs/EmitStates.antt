@@ -1,6 +1,6 @@
 -- The flat state: a slot set, and all bits muxed. Assumes nothing.
 use Prim.Native.Nat.{ℕ, zero, suc, _+_, _-_, _*_, _<_, _≤_}
-use mathlib.Core.Path.{_≡_, refl, sym, ap, ap₂, subst, _∙_}
+use mathlib.Core.Path.{_≡_, refl, sym, ap, ap₂, _∙_}
 use mathlib.Core.Bool.{Bool, true, false, cond}
 use mathlib.Core.List.{List, [], _∷_, _++_, append-assoc}
 use native.Mathlib.Omega.{arith}
@@ -11,14 +11,14 @@ use lib.Seq.{take-at, drop-at, drop-drop, take-add, length-take-le, set-split, t
 use lib.IntN.{ℤ}
 use Rattle.clauses.specs.Literal.{Literal, positive}
 use Rattle.clauses.specs.Gate.{Gate, mux}
-use Rattle.clauses.specs.Circuit.{Built, Build, give, _>>=_, mux!, Bits}
+use Rattle.clauses.specs.Circuit.{Built, give, _>>=_, mux!, Bits}
 use Rattle.clauses.specs.Expression.{Slots}
 use Rattle.clauses.specs.Action.{muxBits!, muxes! }
 use Rattle.clauses.specs.Formula.{total}
 use Rattle.clauses.specs.Writing.{fromCode, fromCodes, Emits}
 use Rattle.clauses.specs.FlatState.{widthsFrom, widthsOf, cut, slotsOf, over, Slotted}
 use Rattle.clauses.proofs.EmitWords.{append-nil}
-use Rattle.clauses.proofs.EmitLists.{codes-append, codes-length, codes-take, codes-drop, take-all, take-none, drop-none}
+use Rattle.clauses.proofs.EmitLists.{codes-append, codes-length, codes-take, codes-drop, take-all, take-none}
 use Rattle.clauses.proofs.EmitBuilds.{emits-same, emits-result, emits-map}
 use Rattle.clauses.proofs.EmitCircuits.{Row, Rowing, rowing-start, rowing-on, rowing-end}
 use Rattle.clauses.proofs.EmitSlots.{set-seam, variable-width, variable-start, variable-room, integer-width, boolean-width, status-width, status-start, widths-length}

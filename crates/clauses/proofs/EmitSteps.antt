@@ -2,39 +2,38 @@
 use mathlib.Core.Path.{_≡_, refl, sym, ap, ap₂, subst, _∙_}
 use mathlib.Core.Bool.{Bool, true, false, cond}
 use mathlib.Core.List.{List, [], _∷_, _++_, map, append-assoc}
-use mathlib.Core.Option.{Option, some}
-use mathlib.Core.Logic.{_⊎_, ⊎-elim}
+use mathlib.Core.Option.{some}
 use Prim.Native.Nat.{ℕ, zero, suc, _+_, _*_, _-_, _<_, _≤_}
 use native.Mathlib.Omega.{arith}
 use native.Mathlib.Numerals.{add-one}
-use lib.ListN.{getD, length, set, take, drop, getElem?, length-set, length-append, length-map}
+use lib.ListN.{getD, length, set, take, drop, getElem?, length-set}
 use lib.Seq.{drop-cons, take-suc-set, getD-take}
 use lib.Dec.{eqb}
 use lib.IntN.{ℤ}
 use borrow.Author.Tests.{eqb-true, eq-eqb, ne-eqb}
-use Rattle.design.specs.Tree.{BoolExpr, constantB, done, Cell, InvalidCell, Design, Mover, cell, raise, movers, Variable}
+use Rattle.design.specs.Tree.{BoolExpr, constantB, done, Cell, InvalidCell, Design, Mover, cell, raise, movers}
 use Rattle.design.specs.Limits.{maxDepth}
 use Rattle.design.specs.State.{Layout, layout}
 use Rattle.design.specs.Reading.{got}
 use Rattle.design.specs.Expression.{boolExpr}
 use Rattle.design.specs.DesignFile.{Entry, normal, invalid, c-matrix, c-status, c-event, c-kind, c-past}
-use Rattle.design.specs.Check.{namesOf, trailer, variableCount, matricesOffset, cellsOffset, cellCount, invariantOffset, normals, invalids, names}
-use Rattle.design.specs.Places.{Accepted, pastCells, normalPlaces, CellsIndexed}
-use Rattle.design.proofs.Sections.{Parts, Cells, eventIn}
-use Rattle.design.proofs.Positions.{CellRead, EntryRead, invariant-stands}
-use Rattle.design.proofs.Places.{Read as Tree, read, Standing, CellFields, cell-fields, cell-stands, cell-inside, normal-stands}
+use Rattle.design.specs.Check.{namesOf, trailer, variableCount, matricesOffset, cellsOffset, cellCount, invariantOffset, invalids, names, eventIn}
+use Rattle.design.specs.Places.{pastCells, normalPlaces, CellsIndexed}
+use Rattle.design.specs.Sections.{Parts, EntryRead, Standing, CellFields}
+use Rattle.design.proofs.Positions.{invariant-stands}
+use Rattle.design.proofs.Places.{Read as Tree, read, cell-fields, cell-stands, normal-stands}
 use Rattle.step.specs.Ready.{NormalCell, externalsFrom}
 use Rattle.step.proofs.Externals.{mover-count, cell-mover, raise-mover}
-use Rattle.clauses.specs.Literal.{Literal, negate, yes! }
-use Rattle.clauses.specs.Circuit.{Built, Build, give, _>>=_, and! }
+use Rattle.clauses.specs.Literal.{Literal, negate, trueLiteral}
+use Rattle.clauses.specs.Circuit.{Build, give, _>>=_, and! }
 use Rattle.clauses.specs.Expression.{Slots, bool! }
 use Rattle.clauses.specs.Action.{statusAndEvent!, mover!, movers!, noInvalid! }
 use Rattle.clauses.specs.Formula.{property! }
-use Rattle.clauses.specs.Writing.{fromCode, Emits}
+use Rattle.clauses.specs.Writing.{Emits}
 use Rattle.clauses.specs.Piece.{link! }
 use Rattle.clauses.specs.FlatState.{slotsOf, layoutOf}
 use Rattle.clauses.specs.Ready.{Ready, resultFrom}
-use Rattle.clauses.proofs.EmitWords.{append-nil, code-yes}
+use Rattle.clauses.proofs.EmitWords.{append-nil}
 use Rattle.clauses.proofs.EmitLists.{drop-all}
 use Rattle.clauses.proofs.EmitBuilds.{emits-same, emits-result, emits-give, emits-bind, Left, left-start, left-on, left-map, left-same, left-result, left-end}
 use Rattle.clauses.proofs.EmitStates.{built-same}
@@ -67,7 +66,7 @@ module _ (file table cells : List ℕ) (nv nm count : ℕ) (h : Ready file table
     tree = d;
     parts = w;
     cell = getD (d .cells) i c;
-    stands = subst (λ (p : ℕ). Standing file (eventIn file (w .rows)) p (normal (getD (d .cells) i c))) (sym (place-is i l)) (let n = normal-stands file d w in n .reads i (omega (arith, n .count, x .count)) c);
+    stands = subst (λ (p : ℕ). Standing file (eventIn (w .rows)) p (normal (getD (d .cells) i c))) (sym (place-is i l)) (let n = normal-stands file d w in n .reads i (omega (arith, n .count, x .count)) c);
   }
 
   abbrev anything : Cell
@@ -79,7 +78,7 @@ module _ (file table cells : List ℕ) (nv nm count : ℕ) (h : Ready file table
   pub place-small : (i : ℕ) → i < count → getD cells i 0 < 16384
   place-small i l =
       let c = cell-here i l in
-      let f = cell-fields file (eventIn file (c .parts .rows)) (getD cells i 0) (normal (c .cell)) (c .stands) in
+      let f = cell-fields file (eventIn (c .parts .rows)) (getD cells i 0) (normal (c .cell)) (c .stands) in
       omega (arith, f .header, sizes file table nv nm h)
 
   pub few-cells : count ≤ 64
@@ -212,14 +211,14 @@ module _ (file : List ℕ) (nv nm : ℕ) (codes : List ℕ) where
   pub record Scanning (n₀ : ℕ) (xs₀ : List ℤ) (cur₀ : ℕ) (p : ℕ) (xs : List ℤ) (part : Literal) (cur n i : ℕ) : Type 0 where
     pub within : i ≤ cellCount file
     pub place : p ≡ pastCells file i (cellsOffset file)
-    pub left : (d : Design) (w : Parts file d) → Left n₀ (noInvalid! (layoutOf nv) SL yes! (d .invalid) n₀) xs₀ cur₀ n (noInvalid! (layoutOf nv) SL part (invalids (drop i (w .entries))) n) xs cur (λ (l : Literal). l)
+    pub left : (d : Design) (w : Parts file d) → Left n₀ (noInvalid! (layoutOf nv) SL trueLiteral (d .invalid) n₀) xs₀ cur₀ n (noInvalid! (layoutOf nv) SL part (invalids (drop i (w .entries))) n) xs cur (λ (l : Literal). l)
 
-  pub scanning-start : (n : ℕ) (xs : List ℤ) (cur p : ℕ) (part : Literal) → p ≡ cellsOffset file → part ≡ yes! → Scanning n xs cur p xs part cur n 0
+  pub scanning-start : (n : ℕ) (xs : List ℤ) (cur p : ℕ) (part : Literal) → p ≡ cellsOffset file → part ≡ trueLiteral → Scanning n xs cur p xs part cur n 0
   unfolding pastCells
   scanning-start n xs cur p part e q = record {
     within = omega arith;
     place = e;
-    left = λ d w. left-same _ _ (ap₂ (λ (ps : List InvalidCell) (l : Literal). noInvalid! (layoutOf nv) SL l ps n) (w .invalid ∙ ap invalids (sym (whole (w .entries)))) (sym q)) (left-start n (noInvalid! (layoutOf nv) SL yes! (d .invalid) n) xs cur);
+    left = λ d w. left-same _ _ (ap₂ (λ (ps : List InvalidCell) (l : Literal). noInvalid! (layoutOf nv) SL l ps n) (w .invalid ∙ ap invalids (sym (whole (w .entries)))) (sym q)) (left-start n (noInvalid! (layoutOf nv) SL trueLiteral (d .invalid) n) xs cur);
   }
     where
       whole : (l : List Entry) → drop 0 l ≡ l
@@ -230,15 +229,15 @@ module _ (file : List ℕ) (nv nm : ℕ) (codes : List ℕ) where
   none = invalid (record { matrix = 0; status = 0; event = constantB false })
 
   module _ (d : Design) (w : Parts file d) (i : ℕ) (h : i < cellCount file) where
-    here : Standing file (eventIn file (w .rows)) (pastCells file i (cellsOffset file)) (getD (w .entries) i none)
+    here : Standing file (eventIn (w .rows)) (pastCells file i (cellsOffset file)) (getD (w .entries) i none)
     unfolding pastCells
-    here = cell-stands file (eventIn file (w .rows)) (w .entries) (cellsOffset file) (cellsOffset file) (invariantOffset file) (w .cell-run) i (omega (arith, w .cell-count)) none
+    here = cell-stands file (eventIn (w .rows)) (w .entries) (cellsOffset file) (cellsOffset file) (invariantOffset file) (w .cell-run) i (omega (arith, w .cell-count)) none
 
     cons : drop i (w .entries) ≡ getD (w .entries) i none ∷ drop (i + 1) (w .entries)
     cons = rw (add-one, drop-cons (w .entries) i none (omega (arith, w .cell-count)))
 
   pub scan-fields : (d : Design) (w : Parts file d) (p i : ℕ) → i < cellCount file → p ≡ pastCells file i (cellsOffset file) → CellFields file p
-  scan-fields d w p i h e = subst (CellFields file) (sym e) (cell-fields file (eventIn file (w .rows)) (pastCells file i (cellsOffset file)) (getD (w .entries) i none) (here d w i h))
+  scan-fields d w p i h e = subst (CellFields file) (sym e) (cell-fields file (eventIn (w .rows)) (pastCells file i (cellsOffset file)) (getD (w .entries) i none) (here d w i h))
 
   -- a cell and the cells after it
   link-is : (l : Layout) (s : Slots) (c : Literal) (f : ℕ → ℕ → BoolExpr) (p : ℕ) (x : Entry) (xs : List Entry) → EntryRead file (trailer file) (names file) (matricesOffset file) f p (c-kind file p) x → (n : ℕ)
@@ -258,12 +257,12 @@ module _ (file : List ℕ) (nv nm : ℕ) (codes : List ℕ) where
     next-place = e ∙ ap (c-past file) (k .place) ∙ ap (λ (j : ℕ). pastCells file j (cellsOffset file)) (sym (add-one i))
 
     pub scanning-on : {ys : List ℤ} (y : Literal) {c1 v1 : ℕ}
-        → ((d : Design) (w : Parts file d) → Emits n (link! (layoutOf nv) SL part (c-kind file p) (c-matrix file p) (c-status file p) (eventIn file (w .rows) (c-matrix file p) (c-event file p)) n) xs ys cur y c1 v1) → Scanning n₀ xs₀ cur₀ p′ ys y c1 v1 (i + 1)
+        → ((d : Design) (w : Parts file d) → Emits n (link! (layoutOf nv) SL part (c-kind file p) (c-matrix file p) (c-status file p) (eventIn (w .rows) (c-matrix file p) (c-event file p)) n) xs ys cur y c1 v1) → Scanning n₀ xs₀ cur₀ p′ ys y c1 v1 (i + 1)
     scanning-on y e1 = record {
       within = omega arith;
       place = next-place;
       left = λ d w.
-          let f = eventIn file (w .rows) in
+          let f = eventIn (w .rows) in
           let rest = drop (i + 1) (w .entries) in
           let P = pastCells file i (cellsOffset file) in
           let built = ap (λ (ps : List InvalidCell). noInvalid! (layoutOf nv) SL part ps n) (ap invalids (cons d w i h))
@@ -273,7 +272,7 @@ module _ (file : List ℕ) (nv nm : ℕ) (codes : List ℕ) where
     }
 
   pub scanning-end : {n₀ : ℕ} {xs₀ : List ℤ} {cur₀ p : ℕ} {xs : List ℤ} (part : Literal) {cur n i : ℕ} → cellCount file ≤ i → Scanning n₀ xs₀ cur₀ p xs part cur n i
-      → (d : Design) (w : Parts file d) → Emits n₀ (noInvalid! (layoutOf nv) SL yes! (d .invalid) n₀) xs₀ xs cur₀ part cur n
+      → (d : Design) (w : Parts file d) → Emits n₀ (noInvalid! (layoutOf nv) SL trueLiteral (d .invalid) n₀) xs₀ xs cur₀ part cur n
   unfolding noInvalid!
   scanning-end part {n = n} {i = i} h k d w = left-end part (left-same _ _ (ap (λ (es : List Entry). noInvalid! (layoutOf nv) SL part (invalids es) n) (drop-all (w .entries) i (omega (arith, w .cell-count)))) (k .left d w))
 
@@ -293,10 +292,10 @@ module _ (file table : List ℕ) (nv nm : ℕ) (h : Ready file table nv nm) wher
   property-0 d w zero s n e = ap (λ (l : Layout). bool! l s (d .invariant) n) (sym (layout-is d w))
   property-0 d w (suc p) s n e = absurd (omega arith)
 
-  pub property-1 : (d : Design) (w : Parts file d) (p : ℕ) (s : Slots) (n : ℕ) → (p ≡ 0 → ⊥) → noInvalid! (layoutOf nv) s yes! (d .invalid) n ≡ property! d p s n
+  pub property-1 : (d : Design) (w : Parts file d) (p : ℕ) (s : Slots) (n : ℕ) → (p ≡ 0 → ⊥) → noInvalid! (layoutOf nv) s trueLiteral (d .invalid) n ≡ property! d p s n
   unfolding property!
   property-1 d w zero s n e = absurd (e refl)
-  property-1 d w (suc p) s n e = ap (λ (l : Layout). noInvalid! l s yes! (d .invalid) n) (sym (layout-is d w))
+  property-1 d w (suc p) s n e = ap (λ (l : Layout). noInvalid! l s trueLiteral (d .invalid) n) (sym (layout-is d w))
 
   pub cell-in : (p i : ℕ) → i < cellCount file → p ≡ pastCells file i (cellsOffset file) → CellFields file p
   cell-in p i l e = let t = read file (h .accepted) in scan-fields file nv nm [] (t .tree) (t .all .parts) p i l e

@@ -4,7 +4,7 @@ use mathlib.Core.Path.{_≡_, refl, sym, ap, ap₂, subst, _∙_}
 use mathlib.Core.Bool.{Bool, true, false, cond}
 use mathlib.Core.List.{List, [], _∷_, _++_, append-assoc}
 use native.Mathlib.Omega.{arith}
-use lib.ListN.{length, take, drop, set, length-append, length-set}
+use lib.ListN.{length, drop, set, length-append, length-set}
 
 use lib.Dec.{eqb}
 use borrow.Author.Tests.{eq-eqb, ne-eqb}
@@ -12,10 +12,10 @@ use lib.IntN.{ℤ, pos, negsuc, negℤ, natAbs, _-ℤ_, +ℤ-idl}
 use mir.Syntax.{w32}
 use mir.Val.{SFits, toZ, ofZ}
 use mir.Facts.{toZ-ofZ}
-use Rattle.clauses.specs.Literal.{Literal, positive, negative, negate, yes!, no!, Clause}
+use Rattle.clauses.specs.Literal.{positive, negative, negate, trueLiteral, falseLiteral, Clause}
 use Rattle.clauses.specs.Words.{wordOf, clauseWords, words}
 use Rattle.clauses.specs.Gate.{Gate, gateClauses, gatesClauses}
-use Rattle.clauses.specs.Writing.{fromCode, put, gateWords, wordLimit, Put, Puts}
+use Rattle.clauses.specs.Writing.{fromCode, put, gateWords, wordLimit, Puts}
 
 -- codes
 pub code-even : (c v : ℕ) → c ≡ v * 2 → fromCode c ≡ positive v
@@ -26,10 +26,10 @@ pub code-odd : (c v : ℕ) → c ≡ v * 2 + 1 → fromCode c ≡ negative v
 unfolding fromCode
 code-odd c v e = let d : c / 2 ≡ v = omega arith in rw (ne-eqb (c % 2) 0 (λ m. omega arith), d)
 
-pub code-yes : fromCode 2 ≡ yes!
+pub code-yes : fromCode 2 ≡ trueLiteral
 code-yes = code-even 2 1 refl
 
-pub code-no : fromCode 3 ≡ no!
+pub code-no : fromCode 3 ≡ falseLiteral
 code-no = code-odd 3 1 refl
 
 nonzero : (k : ℕ) → (k ≡ 0 → ⊥) → 0 < k

@@ -6,15 +6,20 @@ use Prim.Native.Nat.{ℕ, zero, suc, _+_, _*_, _<_, _≤_}
 use native.Mathlib.Nat.{suc-mul}
 use native.Mathlib.Omega.{arith}
 use lib.ListN.{getD, length}
-use Rattle.design.specs.Tree.{Cell, InvalidCell, Design, Mover, cell, raise, externals, movers}
+use Rattle.design.specs.Tree.{Cell, Design, Mover, cell, raise, externals, movers}
 use Rattle.design.specs.DesignFile.{Entry, normal, invalid}
 use Rattle.design.specs.Check.{Checked, check, normals, invalids, variableCount}
-use Rattle.design.proofs.Sections.{Parts}
+use Rattle.design.specs.Places.{Accepted, CellsIndexed}
+use Rattle.design.specs.Sections.{Parts}
+use Rattle.design.proofs.Sections.{whole}
+use Rattle.design.proofs.Places.{read}
 use Rattle.step.specs.Ready.{externalsFrom}
-use Rattle.step.proofs.Externals.{raises}
-use Rattle.clauses.specs.Formula.{S}
-use Rattle.clauses.specs.Cost.{Cost, cost, plus, gatesIn, boolCost, statusAndEventCost, enableCost, effectCost, moverCost, moversCost, invalidCost, propertyCost, stepCost}
-use Rattle.clauses.specs.FrameSizes.{entryCost, entriesCost}
+use Rattle.step.proofs.Externals.{raises, mover-count}
+use Rattle.clauses.specs.Formula.{S, w}
+use Rattle.clauses.specs.Cost.{Cost, cost, addCosts, boolCost, statusAndEventCost, enableCost, effectCost, moverCost, moversCost, invalidCost, propertyCost, stepCost}
+use Rattle.clauses.specs.FrameSizes.{entriesCost, HasGates, frameSizes, SmallFrame}
+use Rattle.clauses.specs.declared.cost.GatesAt.{GatesAt}
+use Rattle.clauses.specs.declared.frame.FrameSizes.{FrameSizes}
 use Rattle.clauses.proofs.Bounds.{Bounded, bounded}
 
 -- a cost is its two numbers
@@ -24,7 +29,7 @@ same-cost x y p q = ap₂ cost p q
 entries-normal : (bits : ℕ) (es : List Entry) → entriesCost bits false es ≡ moversCost bits (map cell (normals es))
 unfolding entriesCost moversCost
 entries-normal bits [] = refl
-entries-normal bits (normal c ∷ es) = ap (plus (moverCost bits (cell c))) (entries-normal bits es)
+entries-normal bits (normal c ∷ es) = ap (addCosts (moverCost bits (cell c))) (entries-normal bits es)
 entries-normal bits (invalid p ∷ es) =
     let e = entries-normal bits es in
     same-cost _ _ (omega (arith, ap (λ (x : Cost). x .ands) e)) (omega (arith, ap (λ (x : Cost). x .wides) e))
@@ -35,7 +40,7 @@ entries-invalid bits [] = refl
 entries-invalid bits (normal c ∷ es) =
     let e = entries-invalid bits es in
     same-cost _ _ (omega (arith, ap (λ (x : Cost). x .ands) e)) (omega (arith, ap (λ (x : Cost). x .wides) e))
-entries-invalid bits (invalid p ∷ es) = ap (plus (plus (statusAndEventCost (p .event)) (cost 1 0))) (entries-invalid bits es)
+entries-invalid bits (invalid p ∷ es) = ap (addCosts (addCosts (statusAndEventCost (p .event)) (cost 1 0))) (entries-invalid bits es)
 
 movers-ands : (bits : ℕ) (xs ys : List Mover) → moversCost bits (xs ++ ys) .ands ≡ moversCost bits xs .ands + moversCost bits ys .ands
 unfolding moversCost
@@ -98,3 +103,41 @@ module _ (file : List ℕ) (d : Design) (w : Parts file d) (bits : ℕ) (b : bit
   entries-few k true =
       let e = property-cells 1 (λ z. omega arith) in
       (omega (arith, ap (λ (x : Cost). x .ands) e, k .gates 1), omega (arith, ap (λ (x : Cost). x .wides) e, k .gates 1))
+
+frame-bound : (d : Design) (prop : ℕ) → Bounded d → SmallFrame (frameSizes d prop)
+unfolding frameSizes
+frame-bound d prop k = record { bits = k .bits; movers = k .movers; gates = k .gates prop }
+
+-- the sizes of a frame, from what the loops answer
+abbrev frameOf : ℕ → ℕ → ℕ → ℕ → ℕ → ℕ → FrameSizes
+frameOf bits m a b x y = record { bits = bits; movers = m; property = record { ands = a; wides = b }; step = record { ands = x; wides = y } }
+
+frame-same : {bits bits′ m m′ a a′ b b′ x x′ y y′ : ℕ} → bits ≡ bits′ → m ≡ m′ → a ≡ a′ → b ≡ b′ → x ≡ x′ → y ≡ y′ → frameOf bits m a b x y ≡ frameOf bits′ m′ a′ b′ x′ y′
+frame-same {bits} {bits′} {m} {m′} {a} {a′} {b} {b′} {x} {x′} {y} {y′} e₁ e₂ e₃ e₄ e₅ e₆ =
+    ap₂ (λ (i j : ℕ). frameOf i j a b x y) e₁ e₂ ∙ ap₂ (λ (i j : ℕ). frameOf bits′ m′ i j x y) e₃ e₄ ∙ ap₂ (λ (i j : ℕ). frameOf bits′ m′ a′ b′ i j) e₅ e₆
+
+module _ (file : List ℕ) (h : Accepted file) (nv bits normals raised : ℕ) (p s : GatesAt) (t prop : ℕ)
+    (cs : List ℕ) (n : nv ≡ variableCount file) (b : (d : Design) → Parts file d → bits ≡ S d) (c : CellsIndexed file cs normals) (r : raised ≡ length (externalsFrom file 0 nv))
+    (hp : (d : Design) → Parts file d → HasGates p (propertyCost d prop)) (hs : (d : Design) (w : Parts file d) → HasGates s (entriesCost bits false (w .entries))) (ht : t ≡ raised * bits) where
+  abbrev made : FrameSizes
+  made = frameOf bits (normals + raised) (p .ands) (p .wides) (s .ands) (s .wides + t)
+
+  raised-is : raised ≡ length (externalsFrom file 0 (variableCount file))
+  raised-is = r ∙ ap (λ (k : ℕ). length (externalsFrom file 0 k)) n
+
+  pub frame-made : (d : Design) → check file ≡ Checked.accepted d → made ≡ frameSizes d prop
+  unfolding frameSizes w
+  frame-made d e =
+      let w = whole file d e .parts in
+      let g = hp d w in
+      let i = hs d w in
+      let q : normals + raised ≡ length (movers d) = omega (arith, mover-count file d w, c .count, raised-is) in
+      let z : raised * bits ≡ length (externalsFrom file 0 (variableCount file)) * bits = ap (λ (k : ℕ). k * bits) raised-is in
+      let x : s .ands ≡ stepCost d .ands = i .ands ∙ sym (step-ands file d w bits (b d w)) in
+      let y : s .wides + t ≡ stepCost d .wides = omega (arith, i .wides, step-wides file d w bits (b d w)) in
+      frame-same (b d w) q (g .ands) (g .wides) x y
+
+  pub frame-small : ((i : ℕ) → getD file i 0 < 256) → SmallFrame made
+  frame-small bytes =
+      let t = read file h in
+      subst SmallFrame (sym (frame-made (t .tree) (t .is))) (frame-bound (t .tree) prop (bounded file bytes (t .tree) (t .is)))

@@ -1,21 +1,21 @@
 -- Gates over the bytes: the answers of the operands make the answer of the whole.
-use mathlib.Core.Path.{_≡_, refl, sym, ap, ap₂, subst, _∙_}
+use mathlib.Core.Path.{_≡_, refl, sym, ap, ap₂, _∙_}
 use mathlib.Core.Bool.{Bool, true, false, false≢true, cond}
 use mathlib.Core.List.{List}
 use mathlib.Core.Logic.{_⊎_, inl, inr, ⊎-elim}
 use native.Mathlib.Nat.{eq-or-lt-of-le}
-use Prim.Native.Nat.{ℕ, zero, suc, _+_, _-_, _<_, _≤_}
+use Prim.Native.Nat.{ℕ, _+_, _-_, _<_, _≤_}
 use native.Mathlib.Omega.{arith}
 use lib.ListN.{getD}
 use lib.Dec.{eqb}
 use borrow.Author.Tests.{eq-eqb, ne-eqb}
-use Rattle.design.specs.Tree.{IntExpr, BoolExpr, constant, variable, status, sum, difference, constantB, variableB, notB, andB, orB, equal, less}
+use Rattle.design.specs.Tree.{IntExpr, BoolExpr, sum, difference, notB, andB, orB, equal, less}
 use Rattle.design.specs.Reading.{Read, got, bad, bind}
 use Rattle.design.specs.Expression.{Names, intExpr, boolExpr}
 use Rattle.step.specs.Accepted.{isRead, past}
 use Rattle.step.proofs.Accepted.{two, three}
 use Rattle.step.proofs.Values.{arithmeticOf, logicOf, compareOf, i-two, b-one, b-logic, b-compare, int-constant, int-variable, int-status, bool-constant, bool-variable, int-second, logic-second, compare-second}
-use Rattle.clauses.specs.Cost.{Cost, cost, plus, intCost, boolCost}
+use Rattle.clauses.specs.Cost.{Cost, cost, addCosts, intCost, boolCost}
 use Rattle.clauses.specs.FrameSizes.{gatesAt, both}
 use Rattle.clauses.specs.declared.cost.GatesAt.{GatesAt}
 
@@ -37,7 +37,7 @@ module _ {A C : Type 0} (f : A → C) (cA : A → Cost) (cC : C → Cost) (law :
   one-gates bad = refl
 
 -- two operands, and so many gates more
-module _ {A B C : Type 0} (f : A → B → C) (cA : A → Cost) (cB : B → Cost) (cC : C → Cost) (u v : ℕ) (law : (a : A) (b : B) → cC (f a b) ≡ plus (plus (cA a) (cB b)) (cost u v)) where
+module _ {A B C : Type 0} (f : A → B → C) (cA : A → Cost) (cB : B → Cost) (cC : C → Cost) (u v : ℕ) (law : (a : A) (b : B) → cC (f a b) ≡ addCosts (addCosts (cA a) (cB b)) (cost u v)) where
   join-second : (a : A) (m : ℕ) (y : Read B) → isRead (bind y (λ b n. got (f a b) n)) ≡ true → both (gatesAt cA (got a m)) (gatesAt cB y) u v ≡ gatesAt cC (bind y (λ b n. got (f a b) n))
   join-second a m (got b n) h = ap (λ (c : Cost). gates (c .ands) (c .wides) n) (sym (law a b))
   join-second a m bad h = absurd (false≢true h)
@@ -51,7 +51,7 @@ module _ {A B C : Type 0} (f : A → B → C) (cA : A → Cost) (cB : B → Cost
       ap₂ (λ (y z : GatesAt). both y z u v) e (k ∙ ap (λ (y : GatesAt). gatesAt cB (q (y .next))) e) ∙ join-both x q h
 
 -- three operands, and so many gates more
-module _ {A B C : Type 0} (f : A → B → B → C) (cA : A → Cost) (cB : B → Cost) (cC : C → Cost) (u v : ℕ) (law : (a : A) (b c : B) → cC (f a b c) ≡ plus (plus (plus (cA a) (cB b)) (cB c)) (cost u v)) where
+module _ {A B C : Type 0} (f : A → B → B → C) (cA : A → Cost) (cB : B → Cost) (cC : C → Cost) (u v : ℕ) (law : (a : A) (b c : B) → cC (f a b c) ≡ addCosts (addCosts (addCosts (cA a) (cB b)) (cB c)) (cost u v)) where
   join-third : (a : A) (b : B) (m n : ℕ) (z : Read B) → isRead (bind z (λ c j. got (f a b c) j)) ≡ true
       → both (both (gatesAt cA (got a m)) (gatesAt cB (got b n)) 0 0) (gatesAt cB z) u v ≡ gatesAt cC (bind z (λ c j. got (f a b c) j))
   join-third a b m n (got c j) h =
@@ -78,20 +78,20 @@ module _ {A B C : Type 0} (f : A → B → B → C) (cA : A → Cost) (cB : B �
       ap₂ (λ (y z : GatesAt). both y z u v) (ap₂ (λ (y z : GatesAt). both y z 0 0) e k′) w′ ∙ join-all x q h
 
 -- the costs of the operators
-arithmetic-cost : (t : Bool) (a b : IntExpr) → intCost (cond t sum difference a b) ≡ plus (plus (intCost a) (intCost b)) (cost 48 32)
+arithmetic-cost : (t : Bool) (a b : IntExpr) → intCost (cond t sum difference a b) ≡ addCosts (addCosts (intCost a) (intCost b)) (cost 48 32)
 unfolding intCost
 arithmetic-cost true a b = refl
 arithmetic-cost false a b = refl
 
-logic-cost : (t : Bool) (a b : BoolExpr) → boolCost (cond t andB orB a b) ≡ plus (plus (boolCost a) (boolCost b)) (cost 1 0)
+logic-cost : (t : Bool) (a b : BoolExpr) → boolCost (cond t andB orB a b) ≡ addCosts (addCosts (boolCost a) (boolCost b)) (cost 1 0)
 unfolding boolCost
 logic-cost true a b = refl
 logic-cost false a b = refl
 
-compare-cost : (t : Bool) (u v : ℕ) → cost u v ≡ cond t (cost 16 16) (cost 48 32) → (a b : IntExpr) → boolCost (cond t equal less a b) ≡ plus (plus (intCost a) (intCost b)) (cost u v)
+compare-cost : (t : Bool) (u v : ℕ) → cost u v ≡ cond t (cost 16 16) (cost 48 32) → (a b : IntExpr) → boolCost (cond t equal less a b) ≡ addCosts (addCosts (intCost a) (intCost b)) (cost u v)
 unfolding boolCost
-compare-cost true u v e a b = ap (plus (plus (intCost a) (intCost b))) (sym e)
-compare-cost false u v e a b = ap (plus (plus (intCost a) (intCost b))) (sym e)
+compare-cost true u v e a b = ap (addCosts (addCosts (intCost a) (intCost b))) (sym e)
+compare-cost false u v e a b = ap (addCosts (addCosts (intCost a) (intCost b))) (sym e)
 
 one-of-two : (b k : ℕ) → k ≤ b → b < k + 2 → (b ≡ k) ⊎ (b ≡ k + 1)
 one-of-two b k p q = ⊎-elim (λ e. inl (sym e)) (λ l. inr (omega arith)) (eq-or-lt-of-le p)

@@ -8,15 +8,15 @@ use lib.Dec.{ltb, leb, eqb}
 use borrow.Author.Tests.{ltb-true, leb-true}
 use Rattle.design.specs.Tree.{IntExpr, BoolExpr, Stmt, Stmts, variableB}
 use Rattle.design.specs.Limits.{maxBytes, maxDepth}
-use Rattle.design.specs.Reading.{Read, got, bad, Reader, bind, when}
+use Rattle.design.specs.Reading.{Read, got, bad, Reader, provided}
 use Rattle.design.specs.Expression.{Names, IntOp, BoolOp, intOp, boolOp, byte, word, intOf, boolOf, intExpr, boolExpr}
 use Rattle.design.specs.Action.{StmtOp, stmtOp, value, assignment, statements, listOf, conditional, stmtOf, statement, list}
 use Rattle.clauses.specs.Cost.{Cost, gatesIn, intCost, boolCost, statementCost, statementsCost}
 use Rattle.clauses.specs.FrameSizes.{gatesAt}
 use Rattle.clauses.specs.declared.cost.GatesAt.{GatesAt}
-use Rattle.clauses.proofs.Bytes.{Reads, reads-got, reads-bad, reads-when, reads-bind, int-bytes, bool-bytes, statement-bytes, list-bytes}
+use Rattle.clauses.proofs.Bytes.{Reads, reads-got, reads-bad, reads-provided, reads-bind, int-bytes, bool-bytes, statement-bytes, list-bytes}
 
-reads-test : {A : Type 0} {I : A → ℕ → Type 0} (t : Bool) (r : Read A) → (t ≡ true → Reads I r) → Reads I (when t r)
+reads-test : {A : Type 0} {I : A → ℕ → Type 0} (t : Bool) (r : Read A) → (t ≡ true → Reads I r) → Reads I (provided t r)
 reads-test true r h = h refl
 reads-test false r h = reads-bad
 
@@ -34,9 +34,9 @@ module _ (text : List ℕ) (names : Names) (end : ℕ) where
   intOf-ends operand h IntOp.op-constant at = reads-bind (word text names end at) _ (word-ends at) λ c m q. reads-got _ _ q
   intOf-ends operand h IntOp.op-variable at =
       reads-bind (byte text names end at) _ (byte-ends at) λ v m q.
-      reads-when (ltb v (names .variables)) _ (reads-when (eqb (names .kindOf v) 1) _ (reads-got _ _ q))
+      reads-provided (ltb v (names .variables)) _ (reads-provided (eqb (names .kindOf v) 1) _ (reads-got _ _ q))
   intOf-ends operand h IntOp.op-status at =
-      reads-bind (byte text names end at) _ (byte-ends at) λ v m q. reads-when (ltb v (names .matrices)) _ (reads-got _ _ q)
+      reads-bind (byte text names end at) _ (byte-ends at) λ v m q. reads-provided (ltb v (names .matrices)) _ (reads-got _ _ q)
   intOf-ends operand h IntOp.op-unknown at = reads-bad
   intOf-ends operand h (IntOp.op-ints f) at =
       reads-bind (operand at) _ (h at) λ a m q.
@@ -52,10 +52,10 @@ module _ (text : List ℕ) (names : Names) (end : ℕ) where
   boolOf-ends : (int : Reader IntExpr) → ((at : ℕ) → Ends (int at)) → (operand : Reader BoolExpr) → ((at : ℕ) → Ends (operand at))
       → (o : BoolOp) (at : ℕ) → Ends (boolOf text names end int operand o at)
   boolOf-ends int i operand h BoolOp.op-constant at =
-      reads-bind (byte text names end at) _ (byte-ends at) λ v m q. reads-when (leb v 1) _ (reads-got _ _ q)
+      reads-bind (byte text names end at) _ (byte-ends at) λ v m q. reads-provided (leb v 1) _ (reads-got _ _ q)
   boolOf-ends int i operand h BoolOp.op-variable at =
       reads-bind (byte text names end at) _ (byte-ends at) λ v m q.
-      reads-when (ltb v (names .variables)) _ (reads-when (not (eqb (names .kindOf v) 1)) _ (reads-got (variableB v) _ q))
+      reads-provided (ltb v (names .variables)) _ (reads-provided (not (eqb (names .kindOf v) 1)) _ (reads-got (variableB v) _ q))
   boolOf-ends int i operand h BoolOp.op-not at = reads-bind (operand at) _ (h at) λ a m q. reads-got _ _ q
   boolOf-ends int i operand h BoolOp.op-unknown at = reads-bad
   boolOf-ends int i operand h (BoolOp.op-bools f) at =
@@ -82,7 +82,7 @@ module _ (text : List ℕ) (names : Names) (end : ℕ) where
   unfolding assignment
   assignment-ends at =
       reads-bind (byte text names end at) _ (byte-ends at) λ v n e.
-      reads-when (ltb v (names .variables)) _ (value-ends v (eqb (names .kindOf v) 1) n)
+      reads-provided (ltb v (names .variables)) _ (value-ends v (eqb (names .kindOf v) 1) n)
 
   module _ (one : Reader Stmt) (h : (at : ℕ) → Ends (one at)) where
     statements-ends : (c at : ℕ) → at ≤ end → Ends (statements text names end one c at)

@@ -28,6 +28,12 @@ pub mod GateCounts
 pub mod ActionCounts
 pub mod CellCounts
 pub mod FrameCounts
+pub mod BitCounts
+pub mod FrameNumbers
+pub mod Answers
+pub mod Sizing
+pub mod Choosing
+pub mod Decodes
 pub mod EmitWords
 pub mod EmitBuilds
 pub mod EmitLists
@@ -39,3 +45,9 @@ pub mod EmitStates
 pub mod EmitActions
 pub mod EmitCells
 pub mod EmitSteps
+pub mod EmitClauses
+pub mod EmitFrames
+pub mod EmitParts
+pub mod EmitRoom
+pub mod EmitFormula
+pub mod Encodes

@@ -7,17 +7,9 @@ use Prim.Native.Nat.{ℕ, zero, suc, _<_}
 use native.Mathlib.Omega.{arith}
 use native.Mathlib.Decide.{ℕ-discrete}
 use lib.ListN.{length}
-use Rattle.clauses.proofs.Runs.{AllBelow}
+use Rattle.clauses.specs.Theorem.{AllBelow, In, Distinct}
 
 module _ {A : Type 0} where
-  abbrev pub In : A → List A → Type 0
-  In a [] = ⊥
-  In a (x ∷ xs) = (a ≡ x) ⊎ In a xs
-
-  abbrev pub Distinct : List A → Type 0
-  Distinct [] = Unit {0}
-  Distinct (x ∷ xs) = (In x xs → ⊥) × Distinct xs
-
   in-left : (a : A) (xs ys : List A) → In a xs → In a (xs ++ ys)
   in-left a [] ys h = absurd h
   in-left a (x ∷ xs) ys (inl e) = inl e

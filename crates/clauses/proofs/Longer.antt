@@ -10,7 +10,7 @@ use Rattle.design.specs.State.{State, start}
 use Rattle.design.specs.WellFormed.{WellFormed}
 use Rattle.step.specs.OneStep.{property, step, breaksFrom, breaks}
 use Rattle.clauses.specs.Formula.{w}
-use Rattle.clauses.proofs.Runs.{AllBelow}
+use Rattle.clauses.specs.Theorem.{AllBelow}
 
 or-left : (a b : Bool) → a ≡ true → a || b ≡ true
 or-left true b e = refl

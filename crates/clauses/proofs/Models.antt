@@ -12,16 +12,17 @@ use Rattle.design.specs.Tree.{Design}
 use Rattle.design.specs.State.{widths, start}
 use Rattle.design.specs.WellFormed.{WellFormed}
 use Rattle.step.specs.OneStep.{breaksFrom, breaks}
-use Rattle.clauses.specs.Literal.{yes! }
+use Rattle.clauses.specs.Literal.{trueLiteral}
 use Rattle.clauses.specs.Meaning.{Assignment, clauseTrue, satisfies}
 use Rattle.clauses.specs.Circuit.{Bits}
 use Rattle.clauses.specs.Formula.{total, flat, initialUnits, S, w, stateAt, P, frame, n, firstPart, propertyClauses, stepClauses, framePart, lastClause, part, partsFrom, formula, choicesFrom, choices}
+use Rattle.clauses.specs.Theorem.{AllBelow}
 use Rattle.clauses.proofs.Gates.{all-apart, all-joined, both, both-l}
 use Rattle.clauses.proofs.Expressions.{stateOf, SlotsBelow, constant-word}
 use Rattle.clauses.proofs.Definitions.{Same, Definition, Ordered, Obeys, obeys-unique, define, define-same, define-obeys}
 use Rattle.clauses.proofs.StateBits.{bitsOf, state-bits, flat-below, length-flat, constantSlots, constants-state, constants-wide, initialUnits-to, initialUnits-from}
 use Rattle.clauses.proofs.Frames.{or-false, framesFrom, state-wide, negated-is}
-use Rattle.clauses.proofs.Runs.{AllBelow, S-is, run, run-ordered, run-to, run-from, choices-below}
+use Rattle.clauses.proofs.Runs.{S-is, run, run-ordered, run-to, run-from, choices-below}
 
 -- The parts joined: the first, those of the frames, and the last.
 module _ (d : Design) (p k : ℕ) where
@@ -93,7 +94,7 @@ module _ (d : Design) (wf : WellFormed d) (p k : ℕ) where
       let L = lastClause d p k ∷ [] in
       let s₁ = all-apart ρ (firstPart d p) (framesFrom d p k 0 ++ L) (ap (satisfies ρ) (sym (formula-is d p k)) ∙ s) in
       let s₂ = all-apart ρ (framesFrom d p k 0) L (s₁ .1) in
-      let s₃ = all-apart ρ ((yes! ∷ []) ∷ []) A (s₁ .0) in
+      let s₃ = all-apart ρ ((trueLiteral ∷ []) ∷ []) A (s₁ .0) in
       let one : ρ 1 ≡ true = sym (or-false (ρ 1)) ∙ both-l (ρ 1 || false) true (s₃ .0) in
       record {
         one = one;
@@ -112,7 +113,7 @@ module _ (d : Design) (wf : WellFormed d) (p k : ℕ) where
       let L = lastClause d p k ∷ [] in
       ap (satisfies ρ) (formula-is d p k)
       ∙ all-joined ρ (firstPart d p) (framesFrom d p k 0 ++ L)
-      (all-joined ρ ((yes! ∷ []) ∷ []) A (both (ρ 1 || false) true (or-false (ρ 1) ∙ r .one) refl)
+      (all-joined ρ ((trueLiteral ∷ []) ∷ []) A (both (ρ 1 || false) true (or-false (ρ 1) ∙ r .one) refl)
       (initialUnits-from ρ (r .one) (stateAt d (frame d p 0)) (widths d) (start d) (state-wide d (frame d p 0)) (wf .start) (r .begin)))
       (all-joined ρ (framesFrom d p k 0) L (r .frames) (both (clauseTrue ρ (lastClause d p k)) true (r .negated) refl))
 

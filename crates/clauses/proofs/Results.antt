@@ -14,7 +14,7 @@ use Rattle.clauses.specs.Action.{muxBits!, muxes!, enable!, effect!, mov
 use Rattle.clauses.specs.Formula.{total, variablesFrom, flat}
 use Rattle.clauses.specs.Cost.{gatesIn, enableCost, effectCost, moverCost}
 use Rattle.clauses.proofs.Actions.{head-eq, tail-eq}
-use Rattle.clauses.proofs.Costs.{Costs, muxBits-costs, enable-costs, effect-costs, mover-costs}
+use Rattle.clauses.proofs.Costs.{muxBits-costs, enable-costs, effect-costs, mover-costs}
 use Rattle.clauses.proofs.StateBits.{variables-append}
 
 muxBits-out : (w : ℕ) (c : Literal) (xs ys : Bits) (n : ℕ) → length xs ≡ w → length ys ≡ w → (muxBits! c xs ys n) .out ≡ variablesFrom n w

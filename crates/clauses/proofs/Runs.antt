@@ -14,6 +14,7 @@ use Rattle.clauses.specs.Literal.{literalOf}
 use Rattle.clauses.specs.Meaning.{Assignment, satisfies}
 use Rattle.clauses.specs.Circuit.{Bits}
 use Rattle.clauses.specs.Formula.{total, variablesFrom, flat, firstTrue, S, w, stateAt, propertyAt, flagsAt, stepAt, P, frame, choicesFrom}
+use Rattle.clauses.specs.Theorem.{AllBelow}
 use Rattle.clauses.proofs.Arithmetic.{BitsBelow}
 use Rattle.clauses.proofs.Expressions.{literalOf-true, literalOf-below}
 use Rattle.clauses.proofs.Definitions.{Definition, Ordered, Obeys, ordered-append, obeys-split, obeys-join, ofGate, gates-ordered, facts-obey, obeys-facts, copies, copies-ordered, copies-say, say-copies}
@@ -48,11 +49,6 @@ bits-literals ρ one (b ∷ bs) = ap₂ _∷_ (literalOf-true ρ one b) (bits-li
 literals-below : (n : ℕ) → 1 < n → (bs : List Bool) → BitsBelow n (map literalOf bs)
 literals-below n h [] = tt
 literals-below n h (b ∷ bs) = (literalOf-below n b h, literals-below n h bs)
-
--- every choice is a mover's number
-abbrev pub AllBelow : ℕ → List ℕ → Type 0
-AllBelow w [] = Unit {0}
-AllBelow w (c ∷ cs) = (c < w) × AllBelow w cs
 
 pub S-is : (d : Design) → total (widths d) ≡ S d
 unfolding S

@@ -1,64 +1,27 @@
--- The clause writer's theorem. Document 01: "models and runs match one to one".
+-- The clause writer's theorem (specs/Theorem).
 use mathlib.Core.Path.{_≡_}
-use mathlib.Core.Logic.{_↔_}
 use mathlib.Core.Bool.{true}
 use mathlib.Core.List.{List, _++_}
-use Prim.Native.Nat.{ℕ, suc, _-_, _<_, _≤_}
+use Prim.Native.Nat.{ℕ, _-_, _<_, _≤_}
 use native.Mathlib.Omega.{arith}
 use lib.ListN.{length, getD, drop, replicate, length-append, length-replicate}
 use borrow.Author.Tests.{le-leb}
-use Rattle.design.specs.Tree.{Design, bit}
+use Rattle.design.specs.Tree.{Design}
 use Rattle.design.specs.Check.{Checked, check}
 use Rattle.design.specs.WellFormed.{WellFormed}
 use Rattle.design.proofs.WellFormed.{well-formed}
 use Rattle.step.specs.OneStep.{breaks}
-use Rattle.clauses.specs.Meaning.{Assignment, satisfies, Satisfiable, Within}
-use Rattle.clauses.specs.Words.{words, clausesOf}
+use Rattle.clauses.specs.Meaning.{Assignment, satisfies, Satisfiable}
+use Rattle.clauses.specs.Words.{words}
 use Rattle.clauses.specs.Formula.{w, n, formula, choices}
 use Rattle.clauses.specs.Answer.{answer, onDesign, maxProperty, maxBound}
-use Rattle.clauses.specs.Decode.{chosenFrom, choicesToWrite, decode}
-use Rattle.clauses.proofs.Runs.{AllBelow}
+use Rattle.clauses.specs.Theorem.{Breaking, Breakable, Stored, Theorem}
+use Rattle.clauses.specs.Decode.{choicesToWrite, decode}
 use Rattle.clauses.proofs.Models.{decodes-long, decodes-movers, decodes-breaks, decodes-once, is-decoded}
 use Rattle.clauses.proofs.Within.{formula-within, words-back}
 use Rattle.clauses.proofs.Decoding.{decode-chooses}
 use Rattle.clauses.proofs.Longer.{breaks-append, below-append, zeros-below, some-mover}
 
--- a list of k choices, each a mover's number, that breaks the property
-pub record Breaking (d : Design) (p k : ℕ) (cs : List ℕ) : Type 0 where
-  pub long : length cs ≡ k
-  pub movers : AllBelow (w d) cs
-  pub breaks : breaks d p cs ≡ true
-
--- a list of at most k choices that breaks the property
-pub record Breakable (d : Design) (p k : ℕ) : Type 0 where
-  pub list : List ℕ
-  pub short : length list ≤ k
-  pub movers : AllBelow (w d) list
-  pub breaks : breaks d p list ≡ true
-
--- the values of variables 1..n are stored in a list of bytes, variable v at v - 1
-pub record Stored (n : ℕ) (ρ : Assignment) (values : List ℕ) : Type 0 where
-  pub long : n ≤ length values
-  pub value : (i : ℕ) → i < n → getD values i 0 ≡ bit (ρ (suc i))
-
-pub record Theorem (d : Design) (p k : ℕ) : Type 0 where
-  -- every satisfying assignment of the formula for bound k decodes to a list of k choices that breaks the property
-  pub decodes : (ρ : Assignment) → satisfies ρ (formula d p k) ≡ true → Breaking d p k (choices d p ρ k)
-  -- every such list is decoded from one satisfying assignment,
-  pub decoded : (cs : List ℕ) → Breaking d p k cs → (ρ : Assignment) × (satisfies ρ (formula d p k) ≡ true) × (choices d p ρ k ≡ cs)
-  -- and from only one: two that decode to one list give each of the variables 1..n the same value
-  pub once : (ρ σ : Assignment) → satisfies ρ (formula d p k) ≡ true → satisfies σ (formula d p k) ≡ true → choices d p ρ k ≡ choices d p σ k
-      → (v : ℕ) → 0 < v → v ≤ n d p k → ρ v ≡ σ v
-  -- the formula names no other variables
-  pub within : Within (n d p k) (formula d p k)
-  -- the formula is satisfiable exactly when some list of at most k choices breaks the property
-  pub satisfiable : Satisfiable (formula d p k) ↔ Breakable d p k
-  -- the words of the formula say its clauses
-  pub words : clausesOf (words (formula d p k)) ≡ formula d p k
-  -- DECODE finds in the values of a satisfying assignment the choices that it decodes to
-  pub decode : (ρ : Assignment) (values : List ℕ) → satisfies ρ (formula d p k) ≡ true → Stored (n d p k) ρ values → chosenFrom d p values k 0 ≡ answer (choices d p ρ k)
-
--- Proof.
 module _ (d : Design) (wf : WellFormed d) (p k : ℕ) where
   -- choices of mover 0 after it
   lengthen : (b : Breakable d p k) → Breaking d p k (b .list ++ replicate (k - length (b .list)) 0)

@@ -4,7 +4,7 @@ use Prim.Native.Nat.{ℕ}
 use lib.ListN.{set}
 use Rattle.design.specs.Tree.{BoolExpr, Stmt, Stmts, assign, assignB, ifElse, done, then, InvalidCell, Mover, cell, raise}
 use Rattle.design.specs.State.{Layout, statusSlot, statusWidth}
-use Rattle.clauses.specs.Literal.{Literal, negate, yes! }
+use Rattle.clauses.specs.Literal.{Literal, negate, trueLiteral}
 use Rattle.clauses.specs.Circuit.{Build, give, _>>=_, and!, mux!, Bits, equal! }
 use Rattle.clauses.specs.Expression.{Slots, constantBits, integerAt, booleanAt, int!, bool! }
 
@@ -66,7 +66,7 @@ unfoldable pub effect! : Layout → Slots → Mover → Build Slots
 effect! l s (cell c) = do
   r ← statements! (c .action) l s
   give (set r (statusSlot l (c .matrix)) (constantBits statusWidth (c .target)))
-effect! l s (raise v) = give (set s v (yes! ∷ []))
+effect! l s (raise v) = give (set s v (trueLiteral ∷ []))
 
 -- "Mover: enable ..; the action; S muxes between effect and old state."
 unfoldable pub mover! : Layout → Slots → Mover → Build Slots

@@ -2,7 +2,7 @@
 -- A name that ends in ! is a builder. Bits stand low first.
 use mathlib.Core.List.{List, [], _∷_, _++_, map}
 use Prim.Native.Nat.{ℕ, suc}
-use Rattle.clauses.specs.Literal.{Literal, positive, negate, yes! }
+use Rattle.clauses.specs.Literal.{Literal, positive, negate, trueLiteral}
 use Rattle.clauses.specs.Gate.{Gate, and, xor, mux}
 
 pub record Built (A : Type 0) : Type 0 where
@@ -66,7 +66,7 @@ sum! (a ∷ xs) (b ∷ ys) c = do
 
 -- "Difference negates b and starts with carry true."
 unfoldable pub difference! : Bits → Bits → Build Summed
-difference! a b = sum! a (map negate b) yes!
+difference! a b = sum! a (map negate b) trueLiteral
 
 -- the top bit negated
 abbrev pub negateTop : Bits → Bits
@@ -99,4 +99,4 @@ chain! c (a ∷ xs) = do
 unfoldable pub equal! : Bits → Bits → Build Literal
 equal! a b = do
   xs ← xors! a b
-  chain! yes! (map negate xs)
+  chain! trueLiteral (map negate xs)

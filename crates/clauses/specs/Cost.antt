@@ -15,8 +15,8 @@ pub record Cost : Type 0 where
 abbrev pub cost : ℕ → ℕ → Cost
 cost a b = record { ands = a; wides = b }
 
-abbrev pub plus : Cost → Cost → Cost
-plus x y = cost (x .ands + y .ands) (x .wides + y .wides)
+abbrev pub addCosts : Cost → Cost → Cost
+addCosts x y = cost (x .ands + y .ands) (x .wides + y .wides)
 
 abbrev pub gatesIn : Cost → ℕ
 gatesIn c = c .ands + c .wides
@@ -38,35 +38,35 @@ unfoldable pub intCost : IntExpr → Cost
 intCost (constant c) = cost 0 0
 intCost (variable v) = cost 0 0
 intCost (status m) = cost 0 0
-intCost (sum a b) = plus (plus (intCost a) (intCost b)) sumCost
-intCost (difference a b) = plus (plus (intCost a) (intCost b)) sumCost
+intCost (sum a b) = addCosts (addCosts (intCost a) (intCost b)) sumCost
+intCost (difference a b) = addCosts (addCosts (intCost a) (intCost b)) sumCost
 
 unfoldable pub boolCost : BoolExpr → Cost
 boolCost (constantB b) = cost 0 0
 boolCost (variableB v) = cost 0 0
 boolCost (notB a) = boolCost a
-boolCost (andB a b) = plus (plus (boolCost a) (boolCost b)) (cost 1 0)
-boolCost (orB a b) = plus (plus (boolCost a) (boolCost b)) (cost 1 0)
-boolCost (equal a b) = plus (plus (intCost a) (intCost b)) equalCost
-boolCost (less a b) = plus (plus (intCost a) (intCost b)) sumCost
+boolCost (andB a b) = addCosts (addCosts (boolCost a) (boolCost b)) (cost 1 0)
+boolCost (orB a b) = addCosts (addCosts (boolCost a) (boolCost b)) (cost 1 0)
+boolCost (equal a b) = addCosts (addCosts (intCost a) (intCost b)) equalCost
+boolCost (less a b) = addCosts (addCosts (intCost a) (intCost b)) sumCost
 
 -- `bits` is S
 unfoldable mutual
   pub statementCost : Stmt → ℕ → Cost
   statementCost (assign v e) bits = intCost e
   statementCost (assignB v e) bits = boolCost e
-  statementCost (ifElse c a b) bits = plus (plus (plus (boolCost c) (statementsCost a bits)) (statementsCost b bits)) (cost 0 bits)
+  statementCost (ifElse c a b) bits = addCosts (addCosts (addCosts (boolCost c) (statementsCost a bits)) (statementsCost b bits)) (cost 0 bits)
 
   pub statementsCost : Stmts → ℕ → Cost
   statementsCost done bits = cost 0 0
-  statementsCost (then x xs) bits = plus (statementCost x bits) (statementsCost xs bits)
+  statementsCost (then x xs) bits = addCosts (statementCost x bits) (statementsCost xs bits)
 
 -- and(equal(status, constant), event)
 abbrev pub statusAndEventCost : BoolExpr → Cost
-statusAndEventCost event = plus (plus equalCost (boolCost event)) (cost 1 0)
+statusAndEventCost event = addCosts (addCosts equalCost (boolCost event)) (cost 1 0)
 
 unfoldable pub enableCost : Mover → Cost
-enableCost (cell c) = plus (plus (statusAndEventCost (c .event)) (boolCost (c .guard))) (cost 1 0)
+enableCost (cell c) = addCosts (addCosts (statusAndEventCost (c .event)) (boolCost (c .guard))) (cost 1 0)
 enableCost (raise v) = cost 0 0
 
 unfoldable pub effectCost : ℕ → Mover → Cost
@@ -74,15 +74,15 @@ effectCost bits (cell c) = statementsCost (c .action) bits
 effectCost bits (raise v) = cost 0 0
 
 unfoldable pub moverCost : ℕ → Mover → Cost
-moverCost bits m = plus (plus (enableCost m) (effectCost bits m)) (cost 0 bits)
+moverCost bits m = addCosts (addCosts (enableCost m) (effectCost bits m)) (cost 0 bits)
 
 unfoldable pub moversCost : ℕ → List Mover → Cost
 moversCost bits [] = cost 0 0
-moversCost bits (m ∷ ms) = plus (moverCost bits m) (moversCost bits ms)
+moversCost bits (m ∷ ms) = addCosts (moverCost bits m) (moversCost bits ms)
 
 unfoldable pub invalidCost : List InvalidCell → Cost
 invalidCost [] = cost 0 0
-invalidCost (p ∷ ps) = plus (plus (statusAndEventCost (p .event)) (cost 1 0)) (invalidCost ps)
+invalidCost (p ∷ ps) = addCosts (addCosts (statusAndEventCost (p .event)) (cost 1 0)) (invalidCost ps)
 
 -- so many flags have so many pairs
 abbrev pub pairCount : ℕ → ℕ

@@ -4,7 +4,7 @@ use Prim.Native.Nat.{ℕ, zero, suc, _/_, _%_}
 use lib.ListN.{getD}
 use Rattle.design.specs.Tree.{IntExpr, BoolExpr, constant, variable, status, sum, difference, constantB, variableB, notB, andB, orB, equal, less, truth}
 use Rattle.design.specs.State.{Layout, statusSlot}
-use Rattle.clauses.specs.Literal.{Literal, negate, no!, literalOf}
+use Rattle.clauses.specs.Literal.{Literal, negate, falseLiteral, literalOf}
 use Rattle.clauses.specs.Circuit.{Build, give, _>>=_, and!, or!, Bits, sum!, difference!, less!, equal! }
 
 -- a state in literals: the bits of each slot
@@ -19,7 +19,7 @@ constantBits (suc w) n = literalOf (truth (n % 2)) ∷ constantBits w (n / 2)
 -- so many bits, false above what there is
 abbrev pub pad : ℕ → Bits → Bits
 pad zero xs = []
-pad (suc w) [] = no! ∷ pad w []
+pad (suc w) [] = falseLiteral ∷ pad w []
 pad (suc w) (x ∷ xs) = x ∷ pad w xs
 
 -- a slot read as an integer: "A status has 4 bits, read as 16 with false above."
@@ -27,7 +27,7 @@ abbrev pub integerAt : Slots → ℕ → Bits
 integerAt s v = pad 16 (getD s v [])
 
 abbrev pub lowest : Bits → Literal
-lowest [] = no!
+lowest [] = falseLiteral
 lowest (x ∷ xs) = x
 
 -- a slot read as a Boolean
@@ -41,7 +41,7 @@ int! l s (status m) = give (integerAt s (statusSlot l m))
 int! l s (sum a b) = do
   x ← int! l s a
   y ← int! l s b
-  r ← sum! x y no!
+  r ← sum! x y falseLiteral
   give (r .bits)
 int! l s (difference a b) = do
   x ← int! l s a

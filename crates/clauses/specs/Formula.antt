@@ -6,7 +6,7 @@ use lib.Dec.{ltb, leb}
 use lib.ListN.{length}
 use Rattle.design.specs.Tree.{Design, movers, truth}
 use Rattle.design.specs.State.{State, layout, widths, start}
-use Rattle.clauses.specs.Literal.{Literal, positive, negate, yes!, Clause}
+use Rattle.clauses.specs.Literal.{Literal, positive, negate, trueLiteral, Clause}
 use Rattle.clauses.specs.Meaning.{Assignment, literalTrue}
 use Rattle.clauses.specs.Gate.{gatesClauses}
 use Rattle.clauses.specs.Circuit.{Built, Build, give, _>>=_, and!, xor!, mux!, or!, Bits, sum!, difference!, less!, xors!, chain!, equal! }
@@ -77,7 +77,7 @@ module _ (d : Design) where
   -- property 0 is the invariant; "Property 1 and-chains from true"
   unfoldable pub property! : ℕ → Slots → Build Literal
   property! zero s = bool! (layout d) s (d .invariant)
-  property! (suc p) s = noInvalid! (layout d) s yes! (d .invalid)
+  property! (suc p) s = noInvalid! (layout d) s trueLiteral (d .invalid)
 
   -- the results of all movers
   unfoldable pub step! : Slots → Build (List Slots)
@@ -117,7 +117,7 @@ module _ (d : Design) where
 
     -- "Parts: 0 is (1) and S initial units."
     unfoldable pub firstPart : List Clause
-    firstPart = (yes! ∷ []) ∷ initialUnits (stateAt (frame 0)) (start d)
+    firstPart = (trueLiteral ∷ []) ∷ initialUnits (stateAt (frame 0)) (start d)
 
     -- "property gates"
     unfoldable pub propertyClauses : ℕ → List Clause

@@ -1,19 +1,21 @@
 -- What the code that counts gates is given, and what it answers, of what the definitions say.
 use mathlib.Core.Path.{_≡_}
-use mathlib.Core.Bool.{Bool, true, false}
+use mathlib.Core.Bool.{Bool, true, false, cond}
 use mathlib.Core.List.{List, [], _∷_}
-use Prim.Native.Nat.{ℕ, _+_, _≤_}
-use lib.ListN.{length}
+use Prim.Native.Nat.{ℕ, zero, suc, _+_, _*_, _≤_}
+use lib.Dec.{leb, ltb}
 use Rattle.design.specs.Tree.{Stmt, Stmts, Design, cell}
 use Rattle.design.specs.Reading.{Read, got, bad}
 use Rattle.design.specs.DesignFile.{Entry, normal, invalid}
-use Rattle.design.specs.Check.{variableCount, matrixCount}
+use Rattle.design.specs.Check.{variableCount, matrixCount, eventIn}
 use Rattle.design.specs.Places.{Accepted, EventsIndexed}
-use Rattle.design.proofs.Sections.{Parts, eventIn}
-use Rattle.design.proofs.Places.{Standing}
+use Rattle.design.specs.Sections.{Parts, Standing}
 use Rattle.clauses.specs.Formula.{S, w}
-use Rattle.clauses.specs.Cost.{Cost, cost, plus, statementCost, statementsCost, statusAndEventCost, moverCost, propertyCost, stepCost}
+use Rattle.clauses.specs.Cost.{Cost, cost, addCosts, gatesIn, clausesIn, wordsIn, pairCount, statementCost, statementsCost, statusAndEventCost, moverCost, propertyCost, stepCost}
 use Rattle.clauses.specs.declared.cost.GatesAt.{GatesAt}
+use Rattle.clauses.specs.declared.frame.Gates.{Gates}
+use Rattle.clauses.specs.declared.frame.FrameSizes.{FrameSizes}
+use Rattle.clauses.specs.declared.frame.FormulaSizes.{FormulaSizes}
 
 -- of what was read, its gates and the position past it
 abbrev pub gatesAt : {A : Type 0} → (A → Cost) → Read A → GatesAt
@@ -36,11 +38,11 @@ abbrev pub entryCost : ℕ → Bool → Entry → Cost
 entryCost bits false (normal c) = moverCost bits (cell c)
 entryCost bits true (normal c) = cost 0 0
 entryCost bits false (invalid p) = cost 0 0
-entryCost bits true (invalid p) = plus (statusAndEventCost (p .event)) (cost 1 0)
+entryCost bits true (invalid p) = addCosts (statusAndEventCost (p .event)) (cost 1 0)
 
 unfoldable pub entriesCost : ℕ → Bool → List Entry → Cost
 entriesCost bits t [] = cost 0 0
-entriesCost bits t (x ∷ xs) = plus (entryCost bits t x) (entriesCost bits t xs)
+entriesCost bits t (x ∷ xs) = addCosts (entryCost bits t x) (entriesCost bits t xs)
 
 pub record HasGates (r : GatesAt) (c : Cost) : Type 0 where
   pub ands : r .ands ≡ c .ands
@@ -55,7 +57,6 @@ pub record FewGates (r : GatesAt) : Type 0 where
 pub record Prepared (file table : List ℕ) (nv nm bits : ℕ) : Type 0 where
   pub accepted : Accepted file
   pub events : EventsIndexed file table
-  pub full : length table ≡ 128
   pub variables : nv ≡ variableCount file
   pub matrices : nm ≡ matrixCount file
   pub state : (d : Design) → Parts file d → bits ≡ S d
@@ -66,4 +67,50 @@ pub record CellHere (file : List ℕ) (p : ℕ) : Type 0 where
   pub tree : Design
   pub parts : Parts file tree
   pub entry : Entry
-  pub stands : Standing file (eventIn file (parts .rows)) p entry
+  pub stands : Standing file (eventIn (parts .rows)) p entry
+
+-- What a frame holds, as the code has it.
+abbrev pub gatesOf : Cost → Gates
+gatesOf c = record { ands = c .ands; wides = c .wides }
+
+abbrev pub costIn : Gates → Cost
+costIn g = cost (g .ands) (g .wides)
+
+unfoldable pub frameSizes : Design → ℕ → FrameSizes
+frameSizes d p = record { bits = S d; movers = w d; property = gatesOf (propertyCost d p); step = gatesOf (stepCost d) }
+
+-- small enough for the formula of a bound up to 100
+pub record SmallFrame (s : FrameSizes) : Type 0 where
+  pub bits : s .bits ≤ 544
+  pub movers : s .movers ≤ 64
+  pub gates : gatesIn (costIn (s .property)) + gatesIn (costIn (s .step)) ≤ 14144000
+
+-- The numbers of Cost.antt's last part, from the sizes of a frame.
+module _ (s : FrameSizes) where
+  abbrev pub frameLength : ℕ
+  frameLength = s .bits + gatesIn (costIn (s .property)) + s .movers + gatesIn (costIn (s .step))
+
+  abbrev pub stepClausesOf : ℕ
+  stepClausesOf = 1 + pairCount (s .movers) + clausesIn (costIn (s .step)) + 2 * (s .movers * s .bits)
+
+  abbrev pub stepWordsOf : ℕ
+  stepWordsOf = 1 + s .movers + 3 * pairCount (s .movers) + wordsIn (costIn (s .step)) + 8 * (s .movers * s .bits)
+
+  abbrev pub partWordsOf : ℕ → ℕ → ℕ
+  partWordsOf k zero = 2 + 2 * s .bits
+  partWordsOf k (suc j) = cond (leb j k) (wordsIn (costIn (s .property)) + cond (ltb j k) stepWordsOf 0) (k + 2)
+
+  -- n, and SIZE's answer
+  abbrev pub variablesOf : ℕ → ℕ
+  variablesOf k = 1 + k * frameLength + s .bits + gatesIn (costIn (s .property))
+
+  abbrev pub formulaSizes : ℕ → FormulaSizes
+  formulaSizes k = record {
+    bits = s .bits;
+    property = gatesIn (costIn (s .property));
+    movers = s .movers;
+    step = gatesIn (costIn (s .step));
+    variables = variablesOf k;
+    clauses = 1 + s .bits + (1 + k) * clausesIn (costIn (s .property)) + k * stepClausesOf + 1;
+    words = 2 + 2 * s .bits + (1 + k) * wordsIn (costIn (s .property)) + k * stepWordsOf + (k + 2);
+  }

@@ -10,10 +10,13 @@ pub mod Formula
 pub mod Writing
 pub mod Piece
 pub mod FlatState
-pub mod Ready
 pub mod Cost
 pub mod FrameSizes
 pub mod Answer
+pub mod Ready
 pub mod Size
 pub mod Encode
 pub mod Decode
+pub mod Theorem
+pub mod Chosen
+pub mod Replies

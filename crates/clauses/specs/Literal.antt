@@ -20,12 +20,12 @@ abbrev pub Clause : Type 0
 Clause = List Literal
 
 -- "Variable 1 is true; false is -1."
-abbrev pub yes! : Literal
-yes! = positive 1
+abbrev pub trueLiteral : Literal
+trueLiteral = positive 1
 
-abbrev pub no! : Literal
-no! = negative 1
+abbrev pub falseLiteral : Literal
+falseLiteral = negative 1
 
 abbrev pub literalOf : Bool → Literal
-literalOf true = yes!
-literalOf false = no!
+literalOf true = trueLiteral
+literalOf false = falseLiteral

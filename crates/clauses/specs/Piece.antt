@@ -4,7 +4,7 @@ use mathlib.Core.Bool.{cond}
 use lib.Dec.{eqb}
 use Rattle.design.specs.Tree.{BoolExpr}
 use Rattle.design.specs.State.{Layout}
-use Rattle.clauses.specs.Literal.{Literal, negate, no! }
+use Rattle.clauses.specs.Literal.{Literal, negate, falseLiteral}
 use Rattle.clauses.specs.Circuit.{Build, give, _>>=_, and!, xor!, or!, Bits, sum!, difference!, equal!, less! }
 use Rattle.clauses.specs.Expression.{Slots}
 use Rattle.clauses.specs.Action.{statusAndEvent! }
@@ -26,7 +26,7 @@ sumBit! a b c = do
 -- what an operator byte with two operands makes of their results
 unfoldable pub arithmetic! : ℕ → Bits → Bits → Build Bits
 arithmetic! op x y = do
-  r ← cond (eqb op 0x04) (sum! x y no!) (difference! x y)
+  r ← cond (eqb op 0x04) (sum! x y falseLiteral) (difference! x y)
   give (r .bits)
 
 unfoldable pub logic! : ℕ → Literal → Literal → Build Literal

@@ -2,14 +2,14 @@
 // The state's literals stand in an array that is lent and changed in place; an if saves a copy.
 ghost use mathlib.Core.Path.{_≡_};
 ghost use Prim.Native.Nat.{ℕ, _+_, _*_, _≤_, _<_};
-ghost use lib.ListN.{length, getD, take};
+ghost use lib.ListN.{length, take};
 ghost use Rattle.design.specs.Tree.{Stmt, Stmts};
 ghost use Rattle.design.specs.Reading.{got};
 ghost use Rattle.design.specs.Action.{assignment, statement, list};
 ghost use Rattle.design.specs.Check.{namesOf};
 ghost use Rattle.clauses.specs.Action.{muxes!, statement!, statements! };
 ghost use Rattle.clauses.specs.Formula.{total};
-ghost use Rattle.clauses.specs.Writing.{fromCode, fromCodes, Emits};
+ghost use Rattle.clauses.specs.Writing.{fromCode, Emits};
 ghost use Rattle.clauses.specs.FlatState.{widthsOf, slotsOf, layoutOf, over, Slotted, Reads};
 use design::bytes::wide;
 use design::limits::MAX_DEPTH;
@@ -159,53 +159,50 @@ pub fn encode_stmt(
     ensures { λ r. ⌜ ((t : Stmt) (n : ℕ) → statement (now (file .entry)) (namesOf (now (file .entry)) nv nm) end nest at ≡ got t n → Emits var (statement! t (layoutOf nv) (slotsOf (now (file .entry)) nv nm (now (state .entry))) var) (now (buf .entry)) (now (buf .exit)) cur (slotsOf (now (file .entry)) nv nm (now (state .exit))) (r .cur) (r .var) × (r .next ≡ n)) × (length (now (state .exit)) ≡ 544) ⌝ }
 {
     let op = file[at];
-    if op == 0x20 {
-        encode_assign(file, at + 1, end, nv, nm, state, buf, cur, var)
-    } else {
-        let c = encode_bool(
-            file,
-            file,
-            at + 1,
-            end,
-            nv,
-            nm,
-            MAX_DEPTH,
-            state,
-            buf,
-            cur,
-            var,
-        );
-        let mut other = *state;
-        let a = encode_list(
-            file,
-            c.next,
-            end,
-            nv,
-            nm,
-            nest - 1,
-            state,
-            buf,
-            c.cur,
-            c.var,
-        );
-        let b = encode_list(
-            file,
-            a.next,
-            end,
-            nv,
-            nm,
-            nest - 1,
-            &mut other,
-            buf,
-            a.cur,
-            a.var,
-        );
-        let m = muxes(file, nv, nm, c.lit, state, &other, buf, b.cur, b.var);
-        Done {
-            cur: m.cur,
-            var: m.var,
-            next: b.next,
+    match op {
+        0x20..=0x21 => {
+            if op == 0x20 {
+                return encode_assign(file, at + 1, end, nv, nm, state, buf, cur, var);
+            }
+            let c = encode_bool(
+                file,
+                file,
+                at + 1,
+                end,
+                nv,
+                nm,
+                MAX_DEPTH,
+                state,
+                buf,
+                cur,
+                var,
+            );
+            let mut other = *state;
+            let a = encode_list(file, c.next, end, nv, nm, nest - 1, state, buf, c.cur, c.var);
+            let b = encode_list(
+                file,
+                a.next,
+                end,
+                nv,
+                nm,
+                nest - 1,
+                &mut other,
+                buf,
+                a.cur,
+                a.var,
+            );
+            let m = muxes(file, nv, nm, c.lit, state, &other, buf, b.cur, b.var);
+            Done {
+                cur: m.cur,
+                var: m.var,
+                next: b.next,
+            }
         }
+        _ => Done {
+            cur: cur,
+            var: var,
+            next: at,
+        },
     }
 }
 

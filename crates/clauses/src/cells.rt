@@ -1,13 +1,11 @@
 // The gates of cells, over the bytes of an accepted file. `events` is the table of events, `nv` and `nm` are the numbers of variables and
 // matrices, `bits` is the number of state bits; `p` is where a cell stands.
 ghost use mathlib.Core.Path.{_≡_};
-ghost use mathlib.Core.Bool.{Bool};
 ghost use Prim.Native.Nat.{_<_, _≤_};
 ghost use Rattle.design.specs.Tree.{Design, cell};
 ghost use Rattle.design.specs.DesignFile.{Entry, c-matrix, c-event, c-past, events as eventCount};
-ghost use Rattle.design.specs.Check.{matricesOffset};
-ghost use Rattle.design.proofs.Sections.{Parts, eventIn};
-ghost use Rattle.design.proofs.Places.{CellFields, Standing};
+ghost use Rattle.design.specs.Check.{matricesOffset, eventIn};
+ghost use Rattle.design.specs.Sections.{Parts, CellFields, Standing};
 ghost use Rattle.step.specs.Ready.{NormalCell};
 ghost use Rattle.clauses.specs.Cost.{boolCost, statusAndEventCost, moverCost};
 ghost use Rattle.clauses.specs.FrameSizes.{HasGates, FewGates, Prepared, CellHere, entryCost, entriesCost};
@@ -34,7 +32,7 @@ pub fn size_event(
     e: usize,
 ) -> GatesAt
     requires { ⌜ Prepared (now file) (now events) nv nm bits × (m < nm) × (e < eventCount (now file) (matricesOffset (now file)) m) ⌝ }
-    ensures { λ r. ⌜ (r .ands ≤ 8912896) × (r .wides ≤ 8912896) × ((d : Design) (w : Parts (now (file .entry)) d) → HasGates r (boolCost (eventIn (now (file .entry)) (w .rows) m e))) ⌝ }
+    ensures { λ r. ⌜ (r .ands ≤ 8912896) × (r .wides ≤ 8912896) × ((d : Design) (w : Parts (now (file .entry)) d) → HasGates r (boolCost (eventIn (w .rows) m e))) ⌝ }
 {
     let at = events[16 * m + e] as usize;
     let past = at + 1 + wide(file[at]);
@@ -51,7 +49,7 @@ pub fn size_place(
     p: usize,
 ) -> GatesAt
     requires { ⌜ Prepared (now file) (now events) nv nm bits × CellFields (now file) p ⌝ }
-    ensures { λ r. ⌜ FewGates r × ((d : Design) (w : Parts (now (file .entry)) d) → HasGates r (statusAndEventCost (eventIn (now (file .entry)) (w .rows) (c-matrix (now (file .entry)) p) (c-event (now (file .entry)) p)))) ⌝ }
+    ensures { λ r. ⌜ FewGates r × ((d : Design) (w : Parts (now (file .entry)) d) → HasGates r (statusAndEventCost (eventIn (w .rows) (c-matrix (now (file .entry)) p) (c-event (now (file .entry)) p)))) ⌝ }
 {
     let m = wide(file[p]);
     let e = wide(file[p + 2]);
@@ -117,7 +115,7 @@ pub fn size_cell(
     p: usize,
 ) -> GatesAt
     requires { ⌜ Prepared (now file) (now events) nv nm bits × CellHere (now file) p ⌝ }
-    ensures { λ r. ⌜ (r .next ≡ c-past (now (file .entry)) p) × ((d : Design) (w : Parts (now (file .entry)) d) (x : Entry) → Standing (now (file .entry)) (eventIn (now (file .entry)) (w .rows)) p x → HasGates r (entryCost bits invalid x)) ⌝ }
+    ensures { λ r. ⌜ (r .next ≡ c-past (now (file .entry)) p) × ((d : Design) (w : Parts (now (file .entry)) d) (x : Entry) → Standing (now (file .entry)) (eventIn (w .rows)) p x → HasGates r (entryCost bits invalid x)) ⌝ }
 {
     let past = p + 8 + wide(file[p + 5]) + word(file, p + 6);
     if file[p + 3] == 0 {

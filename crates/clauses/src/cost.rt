@@ -152,13 +152,20 @@ pub fn size_stmt(
 {
     let op = text[at];
     match op {
-        0x20 => size_assign(text, file, at + 1, end, nv, nm),
-        _ => {
+        0x20..=0x21 => {
+            if op == 0x20 {
+                return size_assign(text, file, at + 1, end, nv, nm);
+            }
             let c = size_bool(text, file, at + 1, end, nv, nm, MAX_DEPTH);
             let a = size_list(text, file, c.next, end, nv, nm, nest - 1, bits);
             let b = size_list(text, file, a.next, end, nv, nm, nest - 1, bits);
             join(join(c, a, 0, 0), b, 0, bits)
         }
+        _ => GatesAt {
+            ands: 0,
+            wides: 0,
+            next: at,
+        },
     }
 }
 

@@ -203,7 +203,7 @@ pub fn encode_int(
                 next: at + 2,
             }
         }
-        _ => {
+        0x04..=0x05 => {
             let a = encode_int(text, file, at + 1, end, nv, nm, depth - 1, bits, buf, cur, var);
             let b = encode_int(
                 text,
@@ -229,6 +229,13 @@ pub fn encode_int(
                 next: b.next,
             }
         }
+        // not taken on bytes that the reader accepts
+        _ => IntOut {
+            lits: [3u32; 16],
+            cur: cur,
+            var: var,
+            next: at,
+        },
     }
 }
 
@@ -280,54 +287,60 @@ pub fn encode_bool(
                 next: a.next,
             }
         }
-        _ => {
-            if op < 0x15 {
-                let a = encode_bool(text, file, at + 1, end, nv, nm, depth - 1, bits, buf, cur, var);
-                let b = encode_bool(
-                    text,
-                    file,
-                    a.next,
-                    end,
-                    nv,
-                    nm,
-                    depth - 1,
-                    bits,
-                    buf,
-                    a.cur,
-                    a.var,
-                );
-                let w = logic(op, a.lit, b.lit, buf, b.cur, b.var);
-                BoolOut {
-                    lit: w.lit,
-                    cur: w.cur,
-                    var: w.var,
-                    next: b.next,
-                }
-            } else {
-                let a = encode_int(text, file, at + 1, end, nv, nm, depth - 1, bits, buf, cur, var);
-                let b = encode_int(
-                    text,
-                    file,
-                    a.next,
-                    end,
-                    nv,
-                    nm,
-                    depth - 1,
-                    bits,
-                    buf,
-                    a.cur,
-                    a.var,
-                );
-                let x = a.lits;
-                let y = b.lits;
-                let w = compare(op, x, y, buf, b.cur, b.var);
-                BoolOut {
-                    lit: w.lit,
-                    cur: w.cur,
-                    var: w.var,
-                    next: b.next,
-                }
+        0x13..=0x14 => {
+            let a = encode_bool(text, file, at + 1, end, nv, nm, depth - 1, bits, buf, cur, var);
+            let b = encode_bool(
+                text,
+                file,
+                a.next,
+                end,
+                nv,
+                nm,
+                depth - 1,
+                bits,
+                buf,
+                a.cur,
+                a.var,
+            );
+            let w = logic(op, a.lit, b.lit, buf, b.cur, b.var);
+            BoolOut {
+                lit: w.lit,
+                cur: w.cur,
+                var: w.var,
+                next: b.next,
             }
         }
+        0x15..=0x16 => {
+            let a = encode_int(text, file, at + 1, end, nv, nm, depth - 1, bits, buf, cur, var);
+            let b = encode_int(
+                text,
+                file,
+                a.next,
+                end,
+                nv,
+                nm,
+                depth - 1,
+                bits,
+                buf,
+                a.cur,
+                a.var,
+            );
+            let x = a.lits;
+            let y = b.lits;
+            let w = compare(op, x, y, buf, b.cur, b.var);
+            BoolOut {
+                lit: w.lit,
+                cur: w.cur,
+                var: w.var,
+                next: b.next,
+            }
+        }
+        // not taken on bytes that the reader accepts
+        _ => BoolOut {
+            lit: FALSE,
+            cur: cur,
+            var: var,
+            next: at,
+        },
     }
 }

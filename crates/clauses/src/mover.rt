@@ -1,13 +1,12 @@
 // Movers: a normal cell or an external, from the state's literals to the muxes of its result. `events` is the table of events, `p` where a
 // cell stands.
 ghost use mathlib.Core.Path.{_≡_};
-ghost use Prim.Native.Nat.{ℕ, _+_, _*_, _≤_, _<_};
+ghost use Prim.Native.Nat.{_+_, _*_, _<_};
 ghost use lib.ListN.{length, getD};
 ghost use Rattle.design.specs.Tree.{Design, cell, raise};
 ghost use Rattle.design.specs.DesignFile.{c-matrix, c-status, c-event, events as eventCount};
-ghost use Rattle.design.specs.Check.{matricesOffset};
-ghost use Rattle.design.proofs.Sections.{Parts, eventIn};
-ghost use Rattle.design.proofs.Places.{CellFields};
+ghost use Rattle.design.specs.Check.{matricesOffset, eventIn};
+ghost use Rattle.design.specs.Sections.{Parts, CellFields};
 ghost use Rattle.step.specs.Ready.{NormalCell};
 ghost use Rattle.clauses.specs.Expression.{bool! };
 ghost use Rattle.clauses.specs.Action.{statusAndEvent!, enable!, mover! };
@@ -53,7 +52,7 @@ pub fn encode_event(
     var: u32,
 ) -> Out
     requires { ⌜ Ready (now file) (now events) nv nm × (length (now bits) ≡ 544) × (m < nm) × (e < eventCount (now file) (matricesOffset (now file)) m) ⌝ }
-    ensures { λ r. ⌜ ((d : Design) (w : Parts (now (file .entry)) d) → Emits var (bool! (layoutOf nv) (slotsOf (now (file .entry)) nv nm (now (bits .entry))) (eventIn (now (file .entry)) (w .rows) m e) var) (now (buf .entry)) (now (buf .exit)) cur (fromCode (r .lit)) (r .cur) (r .var)) ⌝ }
+    ensures { λ r. ⌜ ((d : Design) (w : Parts (now (file .entry)) d) → Emits var (bool! (layoutOf nv) (slotsOf (now (file .entry)) nv nm (now (bits .entry))) (eventIn (w .rows) m e) var) (now (buf .entry)) (now (buf .exit)) cur (fromCode (r .lit)) (r .cur) (r .var)) ⌝ }
 {
     let at = events[16 * m + e] as usize;
     let past = at + 1 + wide(file[at]);
@@ -90,7 +89,7 @@ pub fn status_and_event(
     var: u32,
 ) -> Out
     requires { ⌜ Ready (now file) (now events) nv nm × (length (now bits) ≡ 544) × CellFields (now file) p ⌝ }
-    ensures { λ r. ⌜ ((d : Design) (w : Parts (now (file .entry)) d) → Emits var (statusAndEvent! (layoutOf nv) (slotsOf (now (file .entry)) nv nm (now (bits .entry))) (c-matrix (now (file .entry)) p) (c-status (now (file .entry)) p) (eventIn (now (file .entry)) (w .rows) (c-matrix (now (file .entry)) p) (c-event (now (file .entry)) p)) var) (now (buf .entry)) (now (buf .exit)) cur (fromCode (r .lit)) (r .cur) (r .var)) ⌝ }
+    ensures { λ r. ⌜ ((d : Design) (w : Parts (now (file .entry)) d) → Emits var (statusAndEvent! (layoutOf nv) (slotsOf (now (file .entry)) nv nm (now (bits .entry))) (c-matrix (now (file .entry)) p) (c-status (now (file .entry)) p) (eventIn (w .rows) (c-matrix (now (file .entry)) p) (c-event (now (file .entry)) p)) var) (now (buf .entry)) (now (buf .exit)) cur (fromCode (r .lit)) (r .cur) (r .var)) ⌝ }
 {
     let m = wide(file[p]);
     let x = load_status(file, m, nv, nm, bits);

@@ -2,21 +2,21 @@
 ghost use mathlib.Core.Path.{_≡_};
 ghost use mathlib.Core.List.{map};
 ghost use mathlib.Core.Option.{some};
-ghost use Prim.Native.Nat.{ℕ, _+_, _≤_, _<_};
+ghost use Prim.Native.Nat.{_+_, _≤_, _<_};
 ghost use lib.ListN.{length, take, getElem?};
 ghost use Rattle.design.specs.Tree.{Design, Mover, movers};
 ghost use Rattle.design.specs.Places.{CellsIndexed};
-ghost use Rattle.design.proofs.Sections.{Parts};
+ghost use Rattle.design.specs.Sections.{Parts};
 ghost use Rattle.step.specs.Ready.{externalsFrom};
 ghost use Rattle.clauses.specs.Action.{mover!, movers! };
 ghost use Rattle.clauses.specs.Writing.{Emits};
 ghost use Rattle.clauses.specs.FlatState.{slotsOf, layoutOf};
 ghost use Rattle.clauses.specs.Ready.{Ready, resultFrom};
-use step::mover::external;
 use super::action::Done;
 use super::mover::Moved;
 use super::mover::encode_cell;
 use super::mover::encode_external;
+use step::mover::external;
 
 // Mover i: one of `count` normal cells, or an external.
 pub fn encode_mover(
@@ -32,7 +32,7 @@ pub fn encode_mover(
     cur: usize,
     var: u32,
 ) -> Moved
-    requires { ⌜ Ready (now file) (now events) nv nm × (length (now bits) ≡ 544) × CellsIndexed (now file) (now cells) count × (length (now cells) ≡ 64) × (i < count + length (externalsFrom (now file) 0 nv)) ⌝ }
+    requires { ⌜ Ready (now file) (now events) nv nm × (length (now bits) ≡ 544) × CellsIndexed (now file) (now cells) count × (i < count + length (externalsFrom (now file) 0 nv)) ⌝ }
     ensures { λ r. ⌜ ((d : Design) (w : Parts (now (file .entry)) d) (m : Mover) → getElem? (movers d) i ≡ some m → Emits var (mover! (layoutOf nv) (slotsOf (now (file .entry)) nv nm (now (bits .entry))) m var) (now (buf .entry)) (now (buf .exit)) cur (resultFrom (now (file .entry)) nv nm (r .first)) (r .cur) (r .var)) ⌝ }
 {
     if i < count {
@@ -59,7 +59,7 @@ pub fn encode_step(
     cur: usize,
     var: u32,
 ) -> Done
-    requires { ⌜ Ready (now file) (now events) nv nm × (length (now bits) ≡ 544) × CellsIndexed (now file) (now cells) count × (length (now cells) ≡ 64) × (all ≡ count + length (externalsFrom (now file) 0 nv)) × (all ≤ 64) × (length (now firsts) ≡ 64) ⌝ }
+    requires { ⌜ Ready (now file) (now events) nv nm × (length (now bits) ≡ 544) × CellsIndexed (now file) (now cells) count × (all ≡ count + length (externalsFrom (now file) 0 nv)) × (all ≤ 64) × (length (now firsts) ≡ 64) ⌝ }
     ensures { λ r. ⌜ ((d : Design) (w : Parts (now (file .entry)) d) → Emits var (movers! (layoutOf nv) (slotsOf (now (file .entry)) nv nm (now (bits .entry))) (movers d) var) (now (buf .entry)) (now (buf .exit)) cur (map (resultFrom (now (file .entry)) nv nm) (take all (now (firsts .exit)))) (r .cur) (r .var)) × (length (now (firsts .exit)) ≡ 64) ⌝ }
 {
     let mut at = cur;

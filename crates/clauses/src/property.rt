@@ -1,12 +1,11 @@
 // The gates of a property: the invariant, or the chain over the invalid cells.
 ghost use mathlib.Core.Path.{_≡_};
-ghost use Prim.Native.Nat.{ℕ, _≤_};
 ghost use lib.ListN.{length};
 ghost use Rattle.design.specs.Tree.{Design};
 ghost use Rattle.design.specs.DesignFile.{c-matrix, c-status, c-event, c-kind};
-ghost use Rattle.design.proofs.Sections.{Parts, eventIn};
-ghost use Rattle.design.proofs.Places.{CellFields};
-ghost use Rattle.clauses.specs.Literal.{yes! };
+ghost use Rattle.design.specs.Check.{eventIn};
+ghost use Rattle.design.specs.Sections.{Parts, CellFields};
+ghost use Rattle.clauses.specs.Literal.{trueLiteral};
 ghost use Rattle.clauses.specs.Action.{noInvalid! };
 ghost use Rattle.clauses.specs.Formula.{property! };
 ghost use Rattle.clauses.specs.Writing.{fromCode, Emits};
@@ -42,7 +41,7 @@ pub fn encode_link(
     var: u32,
 ) -> Out
     requires { ⌜ Ready (now file) (now events) nv nm × (length (now bits) ≡ 544) × CellFields (now file) p ⌝ }
-    ensures { λ r. ⌜ ((d : Design) (w : Parts (now (file .entry)) d) → Emits var (link! (layoutOf nv) (slotsOf (now (file .entry)) nv nm (now (bits .entry))) (fromCode part) (c-kind (now (file .entry)) p) (c-matrix (now (file .entry)) p) (c-status (now (file .entry)) p) (eventIn (now (file .entry)) (w .rows) (c-matrix (now (file .entry)) p) (c-event (now (file .entry)) p)) var) (now (buf .entry)) (now (buf .exit)) cur (fromCode (r .lit)) (r .cur) (r .var)) ⌝ }
+    ensures { λ r. ⌜ ((d : Design) (w : Parts (now (file .entry)) d) → Emits var (link! (layoutOf nv) (slotsOf (now (file .entry)) nv nm (now (bits .entry))) (fromCode part) (c-kind (now (file .entry)) p) (c-matrix (now (file .entry)) p) (c-status (now (file .entry)) p) (eventIn (w .rows) (c-matrix (now (file .entry)) p) (c-event (now (file .entry)) p)) var) (now (buf .entry)) (now (buf .exit)) cur (fromCode (r .lit)) (r .cur) (r .var)) ⌝ }
 {
     let kind = wide(file[p + 3]);
     if kind == 0 {
@@ -69,7 +68,7 @@ pub fn encode_invalid(
     var: u32,
 ) -> Out
     requires { ⌜ Ready (now file) (now events) nv nm × (length (now bits) ≡ 544) ⌝ }
-    ensures { λ r. ⌜ ((d : Design) (w : Parts (now (file .entry)) d) → Emits var (noInvalid! (layoutOf nv) (slotsOf (now (file .entry)) nv nm (now (bits .entry))) yes! (d .invalid) var) (now (buf .entry)) (now (buf .exit)) cur (fromCode (r .lit)) (r .cur) (r .var)) ⌝ }
+    ensures { λ r. ⌜ ((d : Design) (w : Parts (now (file .entry)) d) → Emits var (noInvalid! (layoutOf nv) (slotsOf (now (file .entry)) nv nm (now (bits .entry))) trueLiteral (d .invalid) var) (now (buf .entry)) (now (buf .exit)) cur (fromCode (r .lit)) (r .cur) (r .var)) ⌝ }
 {
     let count = trailer_word(file, CELLS);
     let mut p = trailer_word(file, CELLS_AT);
@@ -89,5 +88,33 @@ pub fn encode_invalid(
         lit: part,
         cur: at,
         var: g,
+    }
+}
+
+pub fn encode_property(
+    file: &[u8],
+    events: &[u16; 128],
+    nv: usize,
+    nm: usize,
+    property: u8,
+    bits: &[u32; 544],
+    buf: &mut [i32],
+    cur: usize,
+    var: u32,
+) -> Out
+    requires { ⌜ Ready (now file) (now events) nv nm × (length (now bits) ≡ 544) ⌝ }
+    ensures { λ r. ⌜ ((d : Design) (w : Parts (now (file .entry)) d) → Emits var (property! d property (slotsOf (now (file .entry)) nv nm (now (bits .entry))) var) (now (buf .entry)) (now (buf .exit)) cur (fromCode (r .lit)) (r .cur) (r .var)) ⌝ }
+{
+    if property == 0 {
+        let at = trailer_word(file, INVARIANT_AT);
+        let end = file.len() - TRAILER;
+        let x = encode_bool(file, file, at, end, nv, nm, MAX_DEPTH, bits, buf, cur, var);
+        Out {
+            lit: x.lit,
+            cur: x.cur,
+            var: x.var,
+        }
+    } else {
+        encode_invalid(file, events, nv, nm, bits, buf, cur, var)
     }
 }

@@ -1,15 +1,16 @@
 use native.Mathlib.Omega.{arith}
 use borrow.Author.Needs.{needs}
-use mathlib.Core.Path.{_≡_, refl, sym, ap, subst, _∙_}
-use Prim.Native.Nat.{_+_, _-_, _*_, _≤_}
-use lib.ListN.{length, getD}
-use Rattle.design.specs.Limits.{maxDepth}
-use Rattle.design.specs.Expression.{boolExpr}
+use mathlib.Core.Path.{_≡_, refl, sym, ap, _∙_}
+use mathlib.Core.Logic.{inl, inr}
+use Prim.Native.Nat.{_+_, _-_, _*_}
+use lib.ListN.{length}
 use Rattle.design.specs.Action.{list}
 use Rattle.design.specs.Check.{namesOf}
+use Rattle.step.specs.Accepted.{isRead}
+use Rattle.step.proofs.Runs.{stmt-unknown}
 use Rattle.clauses.specs.FlatState.{slotsOf, layoutOf}
 use Rattle.clauses.proofs.EmitStates.{slotted-again}
-use Rattle.clauses.proofs.EmitActions.{Listing, listing-start, listing-reads, listing-on, listing-end, list-in, stmt-live, stmt-assign, stmt-if, IfRead, if-emits, ahead-bool, ahead-list, ahead-stmt}
+use Rattle.clauses.proofs.EmitActions.{Listing, listing-start, listing-reads, listing-on, listing-end, list-in, stmt-live, stmt-assign, stmt-if, if-emits, ahead-bool, ahead-list}
 use Prim.Native.Nat.{ℕ, _<_}
 use borrow.Fn.Kinds.{In}
 use borrow.Fn.PlainCycle.{Measures, is, falls, and}
@@ -57,104 +58,86 @@ encode-list-μ-loop file at end nv nm nest state₀ buf₀ cur var left₀ p₀ 
 abbrev encode-list-claims : ℕ → encode-list-lts.Claims
 encode-list-claims t = (wide-reads.Asked, wide-reads.Learnt, encode-stmt-below t, encode-stmt.Post)
 
--- src/action.rt:229:25
 encode-list-shared-slice-read-wide : (t : ℕ) → encode-list-lts.Need-shared-slice-read-wide (encode-list-claims t) (encode-list-at t) encode-list.Post encode-list-Inv-loop encode-list-μ-loop
 encode-list-shared-slice-read-wide t c = omega (arith, (list-in _ _ _ _ _ _ _ (c .before .before .pre .1 .1 .reads)) .0, c .before .before .pre .1 .0 .0)
 
--- src/action.rt:229:9
 encode-list-wide-requires : (t : ℕ) → encode-list-lts.Need-wide-requires (encode-list-claims t) (encode-list-at t) encode-list.Post encode-list-Inv-loop encode-list-μ-loop
 encode-list-wide-requires t c κs = tt
 
--- src/action.rt:230:17
 encode-list-add-p : (t : ℕ) → encode-list-lts.Need-add-p (encode-list-claims t) (encode-list-at t) encode-list.Post encode-list-Inv-loop encode-list-μ-loop
 encode-list-add-p t c = omega (arith, (list-in _ _ _ _ _ _ _ (c .before .before .before .pre .1 .1 .reads)) .0, c .before .before .before .pre .1 .0 .0)
 
--- src/action.rt:233:5
 encode-list-loop-holds : (t : ℕ) → encode-list-lts.Need-loop-holds (encode-list-claims t) (encode-list-at t) encode-list.Post encode-list-Inv-loop encode-list-μ-loop
 encode-list-loop-holds t c = (listing-start (c .before .before .before .args .file .now) (c .before .before .before .args .nv) (c .before .before .before .args .nm) (c .before .before .before .args .end) _ _ _ _ _ _ _ (c .wide .ensures .0) (c .before .before .before .pre .1 .0 .2) (c .before .before .before .pre .1 .1), refl)
 
--- src/action.rt:234:13
 encode-list-encode-stmt-requires : (t : ℕ) → encode-list-lts.Need-encode-stmt-requires (encode-list-claims t) (encode-list-at t) encode-list.Post encode-list-Inv-loop encode-list-μ-loop
 encode-list-encode-stmt-requires t c κs = (omega (arith, c .before .before .before .before .before .before .before .pre .0, (c .before .before .before .loop .inv .0) .ahead, (list-in _ _ _ _ _ _ _ (c .before .before .before .before .before .before .before .pre .1 .1 .reads)) .0), ((c .before .before .before .before .before .before .before .pre .1 .0 .0, slotted-again (c .before .before .before .before .before .before .before .pre .1 .0 .1) (c .before .before .before .before .before .before .before .pre .1 .0 .2 ∙ sym ((c .before .before .before .loop .inv .0) .size)), (c .before .before .before .loop .inv .0) .size), listing-reads (c .before .before .before .before .before .before .before .args .file .now) (c .before .before .before .before .before .before .before .args .nv) (c .before .before .before .before .before .before .before .args .nm) (c .before .before .before .before .before .before .before .args .end) (c .before .before .loop-test .taken) (c .before .before .before .loop .inv .0)))
 
--- src/action.rt:238:16
 encode-list-sub-left : (t : ℕ) → encode-list-lts.Need-sub-left (encode-list-claims t) (encode-list-at t) encode-list.Post encode-list-Inv-loop encode-list-μ-loop
 encode-list-sub-left t c = omega arith
 
--- src/action.rt:233:5
 encode-list-loop-less : (t : ℕ) → encode-list-lts.Need-loop-less (encode-list-claims t) (encode-list-at t) encode-list.Post encode-list-Inv-loop encode-list-μ-loop
 encode-list-loop-less t c = omega arith
 
--- src/action.rt:233:5
 encode-list-loop-again : (t : ℕ) → encode-list-lts.Need-loop-again (encode-list-claims t) (encode-list-at t) encode-list.Post encode-list-Inv-loop encode-list-μ-loop
 encode-list-loop-again t c = (listing-on (c .before .before .before .before .before .before .before .before .before .args .file .now) (c .before .before .before .before .before .before .before .before .before .args .nv) (c .before .before .before .before .before .before .before .before .before .args .nm) (c .before .before .before .before .before .before .before .before .before .args .end) (c .before .before .before .before .loop-test .taken) (c .before .before .before .before .before .loop .inv .0) (c .before .encode-stmt .ensures), omega arith)
 
--- src/action.rt:213:1
 encode-list-same-length : (t : ℕ) → encode-list-lts.Need-same-length (encode-list-claims t) (encode-list-at t) encode-list.Post encode-list-Inv-loop encode-list-μ-loop
 encode-list-same-length t c = c .before .loop .inv .1
 
--- src/action.rt:213:1
 encode-list-returns : (t : ℕ) → encode-list-lts.Need-returns (encode-list-claims t) (encode-list-at t) encode-list.Post encode-list-Inv-loop encode-list-μ-loop
 encode-list-returns t c = listing-end (c .before .before .before .before .before .args .file .now) (c .before .before .before .before .before .args .nv) (c .before .before .before .before .before .args .nm) (c .before .before .before .before .before .args .end) (c .loop-test .left) (c .before .loop .inv .0)
 
 abbrev encode-stmt-claims : ℕ → encode-stmt-lts.Claims
 encode-stmt-claims t = (encode-assign-reads.Asked, encode-assign-reads.Learnt, encode-bool-reads.Asked, encode-bool-reads.Learnt, encode-list-below t, encode-list.Post, muxes-reads.Asked, muxes-reads.Learnt)
 
--- src/action.rt:161:14
 encode-stmt-shared-slice-read-op : (t : ℕ) → encode-stmt-lts.Need-shared-slice-read-op (encode-stmt-claims t) (encode-stmt-at t) encode-stmt.Post
 encode-stmt-shared-slice-read-op t c = omega (arith, stmt-live _ _ _ _ _ _ _ (c .before .before .pre .1 .1 .reads), c .before .before .pre .1 .0 .0)
 
--- src/action.rt:163:29
 encode-stmt-add-encode-assign : (t : ℕ) → encode-stmt-lts.Need-add-encode-assign (encode-stmt-claims t) (encode-stmt-at t) encode-stmt.Post
-encode-stmt-add-encode-assign t c = omega (arith, stmt-live _ _ _ _ _ _ _ (c .before .before .before .pre .1 .1 .reads), c .before .before .before .pre .1 .0 .0)
+encode-stmt-add-encode-assign t c = omega (arith, stmt-live _ _ _ _ _ _ _ (c .before .before .before .before .before .pre .1 .1 .reads), c .before .before .before .before .before .pre .1 .0 .0)
 
--- src/action.rt:163:9
 encode-stmt-encode-assign-requires : (t : ℕ) → encode-stmt-lts.Need-encode-assign-requires (encode-stmt-claims t) (encode-stmt-at t) encode-stmt.Post
-encode-stmt-encode-assign-requires t c κs = (c .before .before .before .before .before .pre .1 .0, record { tree = c .before .before .before .before .before .pre .1 .1 .tree; past = c .before .before .before .before .before .pre .1 .1 .past; reads = stmt-assign _ _ _ _ _ _ _ (c .before .before .before .before .before .pre .1 .1 .reads) (c .before .before .if1 .taken) })
+encode-stmt-encode-assign-requires t c κs = (c .before .before .before .before .before .before .before .pre .1 .0, record { tree = c .before .before .before .before .before .before .before .pre .1 .1 .tree; past = c .before .before .before .before .before .before .before .pre .1 .1 .past; reads = stmt-assign _ _ _ _ _ _ _ (c .before .before .before .before .before .before .before .pre .1 .1 .reads) (c .before .before .if3 .taken) })
 
--- src/action.rt:168:13
-encode-stmt-add-encode-bool : (t : ℕ) → encode-stmt-lts.Need-add-encode-bool (encode-stmt-claims t) (encode-stmt-at t) encode-stmt.Post
-encode-stmt-add-encode-bool t c = omega (arith, stmt-live _ _ _ _ _ _ _ (c .before .before .before .pre .1 .1 .reads), c .before .before .before .pre .1 .0 .0)
-
--- src/action.rt:165:13
-encode-stmt-encode-bool-requires : (t : ℕ) → encode-stmt-lts.Need-encode-bool-requires (encode-stmt-claims t) (encode-stmt-at t) encode-stmt.Post
-encode-stmt-encode-bool-requires t c κs = ((c .before .before .before .before .before .before .pre .1 .0 .0, c .before .before .before .before .before .before .pre .1 .0 .1), record { tree = (stmt-if _ _ _ _ _ _ _ (c .before .before .before .before .before .before .pre .1 .1 .reads) (c .before .before .before .if1 .left)) .1 .test; past = (stmt-if _ _ _ _ _ _ _ (c .before .before .before .before .before .before .pre .1 .1 .reads) (c .before .before .before .if1 .left)) .1 .first; reads = (stmt-if _ _ _ _ _ _ _ (c .before .before .before .before .before .before .pre .1 .1 .reads) (c .before .before .before .if1 .left)) .1 .reads })
-
--- src/action.rt:185:13
-encode-stmt-sub-encode-list : (t : ℕ) → encode-stmt-lts.Need-sub-encode-list (encode-stmt-claims t) (encode-stmt-at t) encode-stmt.Post
-encode-stmt-sub-encode-list t c = omega (arith, (stmt-if _ _ _ _ _ _ _ (c .before .before .before .before .before .before .before .before .before .pre .1 .1 .reads) (c .before .before .before .before .before .before .if1 .left)) .0)
-
--- src/action.rt:179:13
-encode-stmt-encode-list-requires : (t : ℕ) → encode-stmt-lts.Need-encode-list-requires (encode-stmt-claims t) (encode-stmt-at t) encode-stmt.Post
-encode-stmt-encode-list-requires t c κs = (omega (arith, c .before .before .before .before .before .before .before .before .before .before .before .pre .0, stmt-live _ _ _ _ _ _ _ (c .before .before .before .before .before .before .before .before .before .before .before .pre .1 .1 .reads), (c .before .before .before .before .encode-bool .ensures _ _ ((stmt-if _ _ _ _ _ _ _ (c .before .before .before .before .before .before .before .before .before .before .before .pre .1 .1 .reads) (c .before .before .before .before .before .before .before .before .if1 .left)) .1 .reads) .1), ahead-bool _ _ _ _ _ _ _ ((stmt-if _ _ _ _ _ _ _ (c .before .before .before .before .before .before .before .before .before .before .before .pre .1 .1 .reads) (c .before .before .before .before .before .before .before .before .if1 .left)) .1 .reads)), (c .before .before .before .before .before .before .before .before .before .before .before .pre .1 .0, record { tree = (stmt-if _ _ _ _ _ _ _ (c .before .before .before .before .before .before .before .before .before .before .before .pre .1 .1 .reads) (c .before .before .before .before .before .before .before .before .if1 .left)) .1 .yes; past = (stmt-if _ _ _ _ _ _ _ (c .before .before .before .before .before .before .before .before .before .before .before .pre .1 .1 .reads) (c .before .before .before .before .before .before .before .before .if1 .left)) .1 .second; reads = (ap (list (c .before .before .before .before .before .before .before .before .before .before .before .args .file .now) (namesOf (c .before .before .before .before .before .before .before .before .before .before .before .args .file .now) (c .before .before .before .before .before .before .before .before .before .before .before .args .nv) (c .before .before .before .before .before .before .before .before .before .before .before .args .nm)) (c .before .before .before .before .before .before .before .before .before .before .before .args .end) (c .before .before .before .before .before .before .before .before .before .before .before .args .nest - 1)) (c .before .before .before .before .encode-bool .ensures _ _ ((stmt-if _ _ _ _ _ _ _ (c .before .before .before .before .before .before .before .before .before .before .before .pre .1 .1 .reads) (c .before .before .before .before .before .before .before .before .if1 .left)) .1 .reads) .1) ∙ (stmt-if _ _ _ _ _ _ _ (c .before .before .before .before .before .before .before .before .before .before .before .pre .1 .1 .reads) (c .before .before .before .before .before .before .before .before .if1 .left)) .1 .then) }))
-
--- src/action.rt:197:13
-encode-stmt-sub-encode-list-2 : (t : ℕ) → encode-stmt-lts.Need-sub-encode-list-2 (encode-stmt-claims t) (encode-stmt-at t) encode-stmt.Post
-encode-stmt-sub-encode-list-2 t c = omega (arith, (stmt-if _ _ _ _ _ _ _ (c .before .before .before .before .before .before .before .before .before .before .before .before .before .pre .1 .1 .reads) (c .before .before .before .before .before .before .before .before .before .before .if1 .left)) .0)
-
--- src/action.rt:191:13
-encode-stmt-encode-list-requires-2 : (t : ℕ) → encode-stmt-lts.Need-encode-list-requires-2 (encode-stmt-claims t) (encode-stmt-at t) encode-stmt.Post
-encode-stmt-encode-list-requires-2 t c κs = (omega (arith, c .before .before .before .before .before .before .before .before .before .before .before .before .before .before .before .pre .0, stmt-live _ _ _ _ _ _ _ (c .before .before .before .before .before .before .before .before .before .before .before .before .before .before .before .pre .1 .1 .reads), (c .before .before .before .before .before .before .before .before .encode-bool .ensures _ _ ((stmt-if _ _ _ _ _ _ _ (c .before .before .before .before .before .before .before .before .before .before .before .before .before .before .before .pre .1 .1 .reads) (c .before .before .before .before .before .before .before .before .before .before .before .before .if1 .left)) .1 .reads) .1), (c .before .before .before .encode-list .ensures .0 _ _ (ap (list (c .before .before .before .before .before .before .before .before .before .before .before .before .before .before .before .args .file .now) (namesOf (c .before .before .before .before .before .before .before .before .before .before .before .before .before .before .before .args .file .now) (c .before .before .before .before .before .before .before .before .before .before .before .before .before .before .before .args .nv) (c .before .before .before .before .before .before .before .before .before .before .before .before .before .before .before .args .nm)) (c .before .before .before .before .before .before .before .before .before .before .before .before .before .before .before .args .end) (c .before .before .before .before .before .before .before .before .before .before .before .before .before .before .before .args .nest - 1)) (c .before .before .before .before .before .before .before .before .encode-bool .ensures _ _ ((stmt-if _ _ _ _ _ _ _ (c .before .before .before .before .before .before .before .before .before .before .before .before .before .before .before .pre .1 .1 .reads) (c .before .before .before .before .before .before .before .before .before .before .before .before .if1 .left)) .1 .reads) .1) ∙ (stmt-if _ _ _ _ _ _ _ (c .before .before .before .before .before .before .before .before .before .before .before .before .before .before .before .pre .1 .1 .reads) (c .before .before .before .before .before .before .before .before .before .before .before .before .if1 .left)) .1 .then) .1), ahead-bool _ _ _ _ _ _ _ ((stmt-if _ _ _ _ _ _ _ (c .before .before .before .before .before .before .before .before .before .before .before .before .before .before .before .pre .1 .1 .reads) (c .before .before .before .before .before .before .before .before .before .before .before .before .if1 .left)) .1 .reads), ahead-list _ _ _ _ _ _ _ ((stmt-if _ _ _ _ _ _ _ (c .before .before .before .before .before .before .before .before .before .before .before .before .before .before .before .pre .1 .1 .reads) (c .before .before .before .before .before .before .before .before .before .before .before .before .if1 .left)) .1 .then)), (c .before .before .before .before .before .before .before .before .before .before .before .before .before .before .before .pre .1 .0, record { tree = (stmt-if _ _ _ _ _ _ _ (c .before .before .before .before .before .before .before .before .before .before .before .before .before .before .before .pre .1 .1 .reads) (c .before .before .before .before .before .before .before .before .before .before .before .before .if1 .left)) .1 .no; past = _; reads = (ap (list (c .before .before .before .before .before .before .before .before .before .before .before .before .before .before .before .args .file .now) (namesOf (c .before .before .before .before .before .before .before .before .before .before .before .before .before .before .before .args .file .now) (c .before .before .before .before .before .before .before .before .before .before .before .before .before .before .before .args .nv) (c .before .before .before .before .before .before .before .before .before .before .before .before .before .before .before .args .nm)) (c .before .before .before .before .before .before .before .before .before .before .before .before .before .before .before .args .end) (c .before .before .before .before .before .before .before .before .before .before .before .before .before .before .before .args .nest - 1)) (c .before .before .before .encode-list .ensures .0 _ _ (ap (list (c .before .before .before .before .before .before .before .before .before .before .before .before .before .before .before .args .file .now) (namesOf (c .before .before .before .before .before .before .before .before .before .before .before .before .before .before .before .args .file .now) (c .before .before .before .before .before .before .before .before .before .before .before .before .before .before .before .args .nv) (c .before .before .before .before .before .before .before .before .before .before .before .before .before .before .before .args .nm)) (c .before .before .before .before .before .before .before .before .before .before .before .before .before .before .before .args .end) (c .before .before .before .before .before .before .before .before .before .before .before .before .before .before .before .args .nest - 1)) (c .before .before .before .before .before .before .before .before .encode-bool .ensures _ _ ((stmt-if _ _ _ _ _ _ _ (c .before .before .before .before .before .before .before .before .before .before .before .before .before .before .before .pre .1 .1 .reads) (c .before .before .before .before .before .before .before .before .before .before .before .before .if1 .left)) .1 .reads) .1) ∙ (stmt-if _ _ _ _ _ _ _ (c .before .before .before .before .before .before .before .before .before .before .before .before .before .before .before .pre .1 .1 .reads) (c .before .before .before .before .before .before .before .before .before .before .before .before .if1 .left)) .1 .then) .1) ∙ (stmt-if _ _ _ _ _ _ _ (c .before .before .before .before .before .before .before .before .before .before .before .before .before .before .before .pre .1 .1 .reads) (c .before .before .before .before .before .before .before .before .before .before .before .before .if1 .left)) .1 .else) }))
-
--- src/action.rt:203:13
-encode-stmt-muxes-requires : (t : ℕ) → encode-stmt-lts.Need-muxes-requires (encode-stmt-claims t) (encode-stmt-at t) encode-stmt.Post
-encode-stmt-muxes-requires t c κs = (slotted-again (c .before .before .before .before .before .before .before .before .before .before .before .before .before .before .before .before .before .before .before .before .pre .1 .0 .1) (c .before .before .before .before .before .before .before .before .before .before .before .before .before .before .before .before .before .before .before .before .pre .1 .0 .2 ∙ sym (c .before .before .before .before .before .before .before .before .encode-list .ensures .1)), c .before .before .before .before .before .before .before .before .encode-list .ensures .1, c .before .before .before .before .encode-list2 .ensures .1)
-
--- src/action.rt:145:1
 encode-stmt-same-length : (t : ℕ) → encode-stmt-lts.Need-same-length (encode-stmt-claims t) (encode-stmt-at t) encode-stmt.Post
 encode-stmt-same-length t c = search needs
 
--- src/action.rt:145:1
 encode-stmt-returns : (t : ℕ) → encode-stmt-lts.Need-returns (encode-stmt-claims t) (encode-stmt-at t) encode-stmt.Post
-encode-stmt-returns t c = ((λ t n h. c .before .encode-assign .ensures .0 t n (stmt-assign _ _ _ _ _ _ _ h (c .before .before .before .before .if1 .taken))), c .before .encode-assign .ensures .1)
+encode-stmt-returns t c = ((λ t n h. c .before .encode-assign .ensures .0 t n (stmt-assign _ _ _ _ _ _ _ h (c .before .before .before .before .if3 .taken))), c .before .encode-assign .ensures .1)
 
--- src/action.rt:145:1
+encode-stmt-add-encode-bool : (t : ℕ) → encode-stmt-lts.Need-add-encode-bool (encode-stmt-claims t) (encode-stmt-at t) encode-stmt.Post
+encode-stmt-add-encode-bool t c = omega (arith, stmt-live _ _ _ _ _ _ _ (c .before .before .before .before .before .pre .1 .1 .reads), c .before .before .before .before .before .pre .1 .0 .0)
+
+encode-stmt-encode-bool-requires : (t : ℕ) → encode-stmt-lts.Need-encode-bool-requires (encode-stmt-claims t) (encode-stmt-at t) encode-stmt.Post
+encode-stmt-encode-bool-requires t c κs = ((c .before .before .before .before .before .before .before .before .pre .1 .0 .0, c .before .before .before .before .before .before .before .before .pre .1 .0 .1), record { tree = (stmt-if _ _ _ _ _ _ _ (c .before .before .before .before .before .before .before .before .pre .1 .1 .reads) (c .before .before .before .if3 .left)) .1 .test; past = (stmt-if _ _ _ _ _ _ _ (c .before .before .before .before .before .before .before .before .pre .1 .1 .reads) (c .before .before .before .if3 .left)) .1 .first; reads = (stmt-if _ _ _ _ _ _ _ (c .before .before .before .before .before .before .before .before .pre .1 .1 .reads) (c .before .before .before .if3 .left)) .1 .reads })
+
+encode-stmt-sub-encode-list : (t : ℕ) → encode-stmt-lts.Need-sub-encode-list (encode-stmt-claims t) (encode-stmt-at t) encode-stmt.Post
+encode-stmt-sub-encode-list t c = omega (arith, (stmt-if _ _ _ _ _ _ _ (c .before .before .before .before .before .before .before .before .before .before .before .pre .1 .1 .reads) (c .before .before .before .before .before .before .if3 .left)) .0)
+
+encode-stmt-encode-list-requires : (t : ℕ) → encode-stmt-lts.Need-encode-list-requires (encode-stmt-claims t) (encode-stmt-at t) encode-stmt.Post
+encode-stmt-encode-list-requires t c κs = (omega (arith, c .before .before .before .before .before .before .before .before .before .before .before .before .before .pre .0, stmt-live _ _ _ _ _ _ _ (c .before .before .before .before .before .before .before .before .before .before .before .before .before .pre .1 .1 .reads), (c .before .before .before .before .encode-bool .ensures _ _ ((stmt-if _ _ _ _ _ _ _ (c .before .before .before .before .before .before .before .before .before .before .before .before .before .pre .1 .1 .reads) (c .before .before .before .before .before .before .before .before .if3 .left)) .1 .reads) .1), ahead-bool _ _ _ _ _ _ _ ((stmt-if _ _ _ _ _ _ _ (c .before .before .before .before .before .before .before .before .before .before .before .before .before .pre .1 .1 .reads) (c .before .before .before .before .before .before .before .before .if3 .left)) .1 .reads)), (c .before .before .before .before .before .before .before .before .before .before .before .before .before .pre .1 .0, record { tree = (stmt-if _ _ _ _ _ _ _ (c .before .before .before .before .before .before .before .before .before .before .before .before .before .pre .1 .1 .reads) (c .before .before .before .before .before .before .before .before .if3 .left)) .1 .yes; past = (stmt-if _ _ _ _ _ _ _ (c .before .before .before .before .before .before .before .before .before .before .before .before .before .pre .1 .1 .reads) (c .before .before .before .before .before .before .before .before .if3 .left)) .1 .second; reads = (ap (list (c .before .before .before .before .before .before .before .before .before .before .before .before .before .args .file .now) (namesOf (c .before .before .before .before .before .before .before .before .before .before .before .before .before .args .file .now) (c .before .before .before .before .before .before .before .before .before .before .before .before .before .args .nv) (c .before .before .before .before .before .before .before .before .before .before .before .before .before .args .nm)) (c .before .before .before .before .before .before .before .before .before .before .before .before .before .args .end) (c .before .before .before .before .before .before .before .before .before .before .before .before .before .args .nest - 1)) (c .before .before .before .before .encode-bool .ensures _ _ ((stmt-if _ _ _ _ _ _ _ (c .before .before .before .before .before .before .before .before .before .before .before .before .before .pre .1 .1 .reads) (c .before .before .before .before .before .before .before .before .if3 .left)) .1 .reads) .1) ∙ (stmt-if _ _ _ _ _ _ _ (c .before .before .before .before .before .before .before .before .before .before .before .before .before .pre .1 .1 .reads) (c .before .before .before .before .before .before .before .before .if3 .left)) .1 .then) }))
+
+encode-stmt-sub-encode-list-2 : (t : ℕ) → encode-stmt-lts.Need-sub-encode-list-2 (encode-stmt-claims t) (encode-stmt-at t) encode-stmt.Post
+encode-stmt-sub-encode-list-2 t c = omega (arith, (stmt-if _ _ _ _ _ _ _ (c .before .before .before .before .before .before .before .before .before .before .before .before .before .before .before .pre .1 .1 .reads) (c .before .before .before .before .before .before .before .before .before .before .if3 .left)) .0)
+
+encode-stmt-encode-list-requires-2 : (t : ℕ) → encode-stmt-lts.Need-encode-list-requires-2 (encode-stmt-claims t) (encode-stmt-at t) encode-stmt.Post
+encode-stmt-encode-list-requires-2 t c κs = (omega (arith, c .before .before .before .before .before .before .before .before .before .before .before .before .before .before .before .before .before .pre .0, stmt-live _ _ _ _ _ _ _ (c .before .before .before .before .before .before .before .before .before .before .before .before .before .before .before .before .before .pre .1 .1 .reads), (c .before .before .before .before .before .before .before .before .encode-bool .ensures _ _ ((stmt-if _ _ _ _ _ _ _ (c .before .before .before .before .before .before .before .before .before .before .before .before .before .before .before .before .before .pre .1 .1 .reads) (c .before .before .before .before .before .before .before .before .before .before .before .before .if3 .left)) .1 .reads) .1), (c .before .before .before .encode-list .ensures .0 _ _ (ap (list (c .before .before .before .before .before .before .before .before .before .before .before .before .before .before .before .before .before .args .file .now) (namesOf (c .before .before .before .before .before .before .before .before .before .before .before .before .before .before .before .before .before .args .file .now) (c .before .before .before .before .before .before .before .before .before .before .before .before .before .before .before .before .before .args .nv) (c .before .before .before .before .before .before .before .before .before .before .before .before .before .before .before .before .before .args .nm)) (c .before .before .before .before .before .before .before .before .before .before .before .before .before .before .before .before .before .args .end) (c .before .before .before .before .before .before .before .before .before .before .before .before .before .before .before .before .before .args .nest - 1)) (c .before .before .before .before .before .before .before .before .encode-bool .ensures _ _ ((stmt-if _ _ _ _ _ _ _ (c .before .before .before .before .before .before .before .before .before .before .before .before .before .before .before .before .before .pre .1 .1 .reads) (c .before .before .before .before .before .before .before .before .before .before .before .before .if3 .left)) .1 .reads) .1) ∙ (stmt-if _ _ _ _ _ _ _ (c .before .before .before .before .before .before .before .before .before .before .before .before .before .before .before .before .before .pre .1 .1 .reads) (c .before .before .before .before .before .before .before .before .before .before .before .before .if3 .left)) .1 .then) .1), ahead-bool _ _ _ _ _ _ _ ((stmt-if _ _ _ _ _ _ _ (c .before .before .before .before .before .before .before .before .before .before .before .before .before .before .before .before .before .pre .1 .1 .reads) (c .before .before .before .before .before .before .before .before .before .before .before .before .if3 .left)) .1 .reads), ahead-list _ _ _ _ _ _ _ ((stmt-if _ _ _ _ _ _ _ (c .before .before .before .before .before .before .before .before .before .before .before .before .before .before .before .before .before .pre .1 .1 .reads) (c .before .before .before .before .before .before .before .before .before .before .before .before .if3 .left)) .1 .then)), (c .before .before .before .before .before .before .before .before .before .before .before .before .before .before .before .before .before .pre .1 .0, record { tree = (stmt-if _ _ _ _ _ _ _ (c .before .before .before .before .before .before .before .before .before .before .before .before .before .before .before .before .before .pre .1 .1 .reads) (c .before .before .before .before .before .before .before .before .before .before .before .before .if3 .left)) .1 .no; past = _; reads = (ap (list (c .before .before .before .before .before .before .before .before .before .before .before .before .before .before .before .before .before .args .file .now) (namesOf (c .before .before .before .before .before .before .before .before .before .before .before .before .before .before .before .before .before .args .file .now) (c .before .before .before .before .before .before .before .before .before .before .before .before .before .before .before .before .before .args .nv) (c .before .before .before .before .before .before .before .before .before .before .before .before .before .before .before .before .before .args .nm)) (c .before .before .before .before .before .before .before .before .before .before .before .before .before .before .before .before .before .args .end) (c .before .before .before .before .before .before .before .before .before .before .before .before .before .before .before .before .before .args .nest - 1)) (c .before .before .before .encode-list .ensures .0 _ _ (ap (list (c .before .before .before .before .before .before .before .before .before .before .before .before .before .before .before .before .before .args .file .now) (namesOf (c .before .before .before .before .before .before .before .before .before .before .before .before .before .before .before .before .before .args .file .now) (c .before .before .before .before .before .before .before .before .before .before .before .before .before .before .before .before .before .args .nv) (c .before .before .before .before .before .before .before .before .before .before .before .before .before .before .before .before .before .args .nm)) (c .before .before .before .before .before .before .before .before .before .before .before .before .before .before .before .before .before .args .end) (c .before .before .before .before .before .before .before .before .before .before .before .before .before .before .before .before .before .args .nest - 1)) (c .before .before .before .before .before .before .before .before .encode-bool .ensures _ _ ((stmt-if _ _ _ _ _ _ _ (c .before .before .before .before .before .before .before .before .before .before .before .before .before .before .before .before .before .pre .1 .1 .reads) (c .before .before .before .before .before .before .before .before .before .before .before .before .if3 .left)) .1 .reads) .1) ∙ (stmt-if _ _ _ _ _ _ _ (c .before .before .before .before .before .before .before .before .before .before .before .before .before .before .before .before .before .pre .1 .1 .reads) (c .before .before .before .before .before .before .before .before .before .before .before .before .if3 .left)) .1 .then) .1) ∙ (stmt-if _ _ _ _ _ _ _ (c .before .before .before .before .before .before .before .before .before .before .before .before .before .before .before .before .before .pre .1 .1 .reads) (c .before .before .before .before .before .before .before .before .before .before .before .before .if3 .left)) .1 .else) }))
+
+encode-stmt-muxes-requires : (t : ℕ) → encode-stmt-lts.Need-muxes-requires (encode-stmt-claims t) (encode-stmt-at t) encode-stmt.Post
+encode-stmt-muxes-requires t c κs = (slotted-again (c .before .before .before .before .before .before .before .before .before .before .before .before .before .before .before .before .before .before .before .before .before .before .pre .1 .0 .1) (c .before .before .before .before .before .before .before .before .before .before .before .before .before .before .before .before .before .before .before .before .before .before .pre .1 .0 .2 ∙ sym (c .before .before .before .before .before .before .before .before .encode-list .ensures .1)), c .before .before .before .before .before .before .before .before .encode-list .ensures .1, c .before .before .before .before .encode-list2 .ensures .1)
+
 encode-stmt-same-length-2 : (t : ℕ) → encode-stmt-lts.Need-same-length-2 (encode-stmt-claims t) (encode-stmt-at t) encode-stmt.Post
 encode-stmt-same-length-2 t c = search needs
 
--- src/action.rt:145:1
 encode-stmt-returns-2 : (t : ℕ) → encode-stmt-lts.Need-returns-2 (encode-stmt-claims t) (encode-stmt-at t) encode-stmt.Post
-encode-stmt-returns-2 t c = ((λ t n h. if-emits (layoutOf (c .before .before .before .before .before .before .before .before .before .before .before .before .before .before .before .before .before .before .before .before .before .before .args .nv)) (slotsOf (c .before .before .before .before .before .before .before .before .before .before .before .before .before .before .before .before .before .before .before .before .before .before .args .file .now) (c .before .before .before .before .before .before .before .before .before .before .before .before .before .before .before .before .before .before .before .before .before .before .args .nv) (c .before .before .before .before .before .before .before .before .before .before .before .before .before .before .before .before .before .before .before .before .before .before .args .nm) (c .before .before .before .before .before .before .before .before .before .before .before .before .before .before .before .before .before .before .before .before .before .before .args .state .now)) (stmt-if _ _ _ _ _ t n h (c .before .before .before .before .before .before .before .before .before .before .before .before .before .before .before .before .before .before .before .if1 .left) .1) (c .before .before .before .before .before .before .before .before .before .before .before .before .before .before .before .encode-bool .ensures) (c .before .before .before .before .before .before .before .before .before .before .encode-list .ensures .0) (c .before .before .before .before .before .before .encode-list2 .ensures .0) (c .before .muxes .ensures .0)), c .before .muxes .ensures .1)
+encode-stmt-returns-2 t c = ((λ t n h. if-emits (layoutOf (c .before .before .before .before .before .before .before .before .before .before .before .before .before .before .before .before .before .before .before .before .before .before .before .before .args .nv)) (slotsOf (c .before .before .before .before .before .before .before .before .before .before .before .before .before .before .before .before .before .before .before .before .before .before .before .before .args .file .now) (c .before .before .before .before .before .before .before .before .before .before .before .before .before .before .before .before .before .before .before .before .before .before .before .before .args .nv) (c .before .before .before .before .before .before .before .before .before .before .before .before .before .before .before .before .before .before .before .before .before .before .before .before .args .nm) (c .before .before .before .before .before .before .before .before .before .before .before .before .before .before .before .before .before .before .before .before .before .before .before .before .args .state .now)) (stmt-if _ _ _ _ _ t n h (c .before .before .before .before .before .before .before .before .before .before .before .before .before .before .before .before .before .before .before .if3 .left) .1) (c .before .before .before .before .before .before .before .before .before .before .before .before .before .before .before .encode-bool .ensures) (c .before .before .before .before .before .before .before .before .before .before .encode-list .ensures .0) (c .before .before .before .before .before .before .encode-list2 .ensures .0) (c .before .muxes .ensures .0)), c .before .muxes .ensures .1)
+
+encode-stmt-returns-3 : (t : ℕ) → encode-stmt-lts.Need-returns-3 (encode-stmt-claims t) (encode-stmt-at t) encode-stmt.Post
+encode-stmt-returns-3 t c = absurd (stmt-unknown _ _ _ _ _ (ap isRead (c .before .before .before .pre .1 .1 .reads)) (inl (c .if1 .taken)))
+
+encode-stmt-returns-4 : (t : ℕ) → encode-stmt-lts.Need-returns-4 (encode-stmt-claims t) (encode-stmt-at t) encode-stmt.Post
+encode-stmt-returns-4 t c = absurd (stmt-unknown _ _ _ _ _ (ap isRead (c .before .before .before .before .pre .1 .1 .reads)) (inr (c .if2 .left)))
 
 pub +encode-list+encode-stmt-spec : {M : Type 1} → statement M
 +encode-list+encode-stmt-spec = close μ-encode-list μ-encode-stmt (λ t. encode-list-lts.spec (
@@ -192,6 +175,8 @@ pub +encode-list+encode-stmt-spec : {M : Type 1} → statement M
     (encode-stmt-shared-slice-read-op t)
     (encode-stmt-add-encode-assign t)
     (encode-stmt-encode-assign-requires t)
+    (encode-stmt-same-length t)
+    (encode-stmt-returns t)
     (encode-stmt-add-encode-bool t)
     (encode-stmt-encode-bool-requires t)
     (encode-stmt-sub-encode-list t)
@@ -199,7 +184,7 @@ pub +encode-list+encode-stmt-spec : {M : Type 1} → statement M
     (encode-stmt-sub-encode-list-2 t)
     (encode-stmt-encode-list-requires-2 t)
     (encode-stmt-muxes-requires t)
-    (encode-stmt-same-length t)
-    (encode-stmt-returns t)
     (encode-stmt-same-length-2 t)
     (encode-stmt-returns-2 t)
+    (encode-stmt-returns-3 t)
+    (encode-stmt-returns-4 t)

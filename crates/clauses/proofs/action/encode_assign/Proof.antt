@@ -1,6 +1,6 @@
 use native.Mathlib.Omega.{arith}
-use Prim.Native.Nat.{ℕ, _+_, _*_, _≤_, _<_}
-use mathlib.Core.Path.{_≡_, refl, sym, ap, subst, _∙_}
+use Prim.Native.Nat.{ℕ, _*_}
+use mathlib.Core.Path.{_≡_, refl, subst, _∙_}
 use mathlib.Core.List.{[], _∷_}
 use lib.ListN.{length, getD, set, length-set}
 use Rattle.design.specs.Tree.{Stmt, assign, assignB}
@@ -26,67 +26,51 @@ use Rattle.clauses.proofs.expression.encode_int.Reads as encode-int-rea
 use Rattle.clauses.proofs.expression.offset.Reads as offset-reads
 use Rattle.design.proofs.bytes.wide.Reads as wide-reads
 
--- src/action.rt:97:18
 shared-slice-read-wide : tie.Need-shared-slice-read-wide
 shared-slice-read-wide c = omega (arith, assign-live _ _ _ _ _ _ (c .before .before .pre .1 .reads), c .before .before .pre .0 .0)
 
--- src/action.rt:97:9
 wide-requires : tie.Need-wide-requires
 wide-requires c κs = search needs
 
--- src/action.rt:98:18
 mul-k : tie.Need-mul-k
 mul-k c = search needs
 
--- src/action.rt:98:13
 shared-slice-read-k : tie.Need-shared-slice-read-k
 shared-slice-read-k c = omega (arith, assign-live _ _ _ _ _ _ (c .before .before .before .before .pre .1 .reads), c .before .wide .ensures, (c .before .before .before .before .pre .0 .1) .kinds)
 
--- src/action.rt:99:9
 offset-requires : tie.Need-offset-requires
 offset-requires c κs = omega (arith, assign-live _ _ _ _ _ _ (c .before .before .before .before .pre .1 .reads), c .before .wide .ensures, (c .before .before .before .before .pre .0 .1) .kinds)
 
--- src/action.rt:104:13
 add-encode-int : tie.Need-add-encode-int
 add-encode-int c = omega (arith, assign-live _ _ _ _ _ _ (c .before .before .before .before .before .before .pre .1 .reads), c .before .before .before .before .before .before .pre .0 .0)
 
--- src/action.rt:101:13
 encode-int-requires : tie.Need-encode-int-requires
 encode-int-requires c κs = ((c .before .before .before .before .before .before .before .before .before .pre .0 .0, (c .before .before .before .before .before .before .before .before .before .pre .0 .1)), one-reads (assign-int _ _ _ _ _ _ (c .before .before .before .before .before .before .before .before .before .pre .1 .reads) (subst (λ (v : ℕ). getD (c .before .before .before .before .before .before .before .before .before .args .file .now) (3 * v) 0 ≡ 1) (c .before .before .before .before .before .before .wide .ensures .0) (c .before .before .before .if1 .taken))))
 
--- src/action.rt:115:9
 store-word-requires : tie.Need-store-word-requires
 store-word-requires c κs = (omega (arith, integer-room (c .before .before .before .before .before .before .before .before .before .before .before .before .before .args .file .now) (c .before .before .before .before .before .before .before .before .before .before .before .before .before .args .nv) (c .before .before .before .before .before .before .before .before .before .before .before .before .before .args .nm) (getD (c .before .before .before .before .before .before .before .before .before .before .before .before .before .args .file .now) (c .before .before .before .before .before .before .before .before .before .before .before .before .before .args .at) 0) (c .before .before .before .before .before .before .before .before .before .before .wide .result) (c .before .before .before .before .before .before .before .before .offset .result) (c .before .before .before .before .before .before .before .before .before .before .before .before .before .args .state .now) (c .before .before .before .before .before .before .before .before .before .before .wide .ensures .0) ((assign-live _ _ _ _ _ _ (c .before .before .before .before .before .before .before .before .before .before .before .before .before .pre .1 .reads)) .1) (c .before .before .before .before .before .before .before .before .offset .ensures) ((c .before .before .before .before .before .before .before .before .before .before .before .before .before .pre .0 .1) .bits) (subst (λ (v : ℕ). getD (c .before .before .before .before .before .before .before .before .before .before .before .before .before .args .file .now) (3 * v) 0 ≡ 1) (c .before .before .before .before .before .before .before .before .before .before .wide .ensures .0) (c .before .before .before .before .before .before .before .if1 .taken)), c .before .before .before .before .before .before .before .before .before .before .before .before .before .pre .0 .2), omega arith, c .before .before .before .before .before .before .before .before .before .before .before .before .before .pre .0 .2)
 
--- src/action.rt:125:13
 add-encode-bool : tie.Need-add-encode-bool
 add-encode-bool c = omega (arith, assign-live _ _ _ _ _ _ (c .before .before .before .before .before .before .pre .1 .reads), c .before .before .before .before .before .before .pre .0 .0)
 
--- src/action.rt:122:13
 encode-bool-requires : tie.Need-encode-bool-requires
 encode-bool-requires c κs = ((c .before .before .before .before .before .before .before .before .before .pre .0 .0, (c .before .before .before .before .before .before .before .before .before .pre .0 .1)), one-reads (assign-flag _ _ _ _ _ _ (c .before .before .before .before .before .before .before .before .before .pre .1 .reads) (subst (λ (v : ℕ). getD (c .before .before .before .before .before .before .before .before .before .args .file .now) (3 * v) 0 ≡ 1 → ⊥) (c .before .before .before .before .before .before .wide .ensures .0) (c .before .before .before .if1 .left))))
 
--- src/action.rt:135:9
 mul-state : tie.Need-mul-state
 mul-state c = omega (arith, boolean-room (c .before .before .before .before .before .before .before .before .before .before .before .args .file .now) (c .before .before .before .before .before .before .before .before .before .before .before .args .nv) (c .before .before .before .before .before .before .before .before .before .before .before .args .nm) (getD (c .before .before .before .before .before .before .before .before .before .before .before .args .file .now) (c .before .before .before .before .before .before .before .before .before .before .before .args .at) 0) (c .before .before .before .before .before .before .before .before .wide .result) (c .before .before .before .before .before .before .offset .result) (c .before .before .before .before .before .before .before .before .before .before .before .args .state .now) (c .before .before .before .before .before .before .before .before .wide .ensures .0) ((assign-live _ _ _ _ _ _ (c .before .before .before .before .before .before .before .before .before .before .before .pre .1 .reads)) .1) (c .before .before .before .before .before .before .offset .ensures) ((c .before .before .before .before .before .before .before .before .before .before .before .pre .0 .1) .bits) (subst (λ (v : ℕ). getD (c .before .before .before .before .before .before .before .before .before .before .before .args .file .now) (3 * v) 0 ≡ 1 → ⊥) (c .before .before .before .before .before .before .before .before .wide .ensures .0) (c .before .before .before .before .before .if1 .left)), c .before .before .before .before .before .before .before .before .before .before .before .pre .0 .2)
 
--- src/action.rt:135:9
 element-write-state : tie.Need-element-write-state
 element-write-state c = omega (arith, boolean-room (c .before .before .before .before .before .before .before .before .before .before .before .args .file .now) (c .before .before .before .before .before .before .before .before .before .before .before .args .nv) (c .before .before .before .before .before .before .before .before .before .before .before .args .nm) (getD (c .before .before .before .before .before .before .before .before .before .before .before .args .file .now) (c .before .before .before .before .before .before .before .before .before .before .before .args .at) 0) (c .before .before .before .before .before .before .before .before .wide .result) (c .before .before .before .before .before .before .offset .result) (c .before .before .before .before .before .before .before .before .before .before .before .args .state .now) (c .before .before .before .before .before .before .before .before .wide .ensures .0) ((assign-live _ _ _ _ _ _ (c .before .before .before .before .before .before .before .before .before .before .before .pre .1 .reads)) .1) (c .before .before .before .before .before .before .offset .ensures) ((c .before .before .before .before .before .before .before .before .before .before .before .pre .0 .1) .bits) (subst (λ (v : ℕ). getD (c .before .before .before .before .before .before .before .before .before .before .before .args .file .now) (3 * v) 0 ≡ 1 → ⊥) (c .before .before .before .before .before .before .before .before .wide .ensures .0) (c .before .before .before .before .before .if1 .left)), c .before .before .before .before .before .before .before .before .before .before .before .pre .0 .2)
 
--- src/action.rt:82:1
 same-length : tie.Need-same-length
 same-length c = search needs
 
--- src/action.rt:82:1
 returns : tie.Need-returns
 returns c = ((λ t n h. one-emits (intExpr (c .before .before .before .before .before .before .before .before .before .before .before .before .before .before .args .file .now) (namesOf (c .before .before .before .before .before .before .before .before .before .before .before .before .before .before .args .file .now) (c .before .before .before .before .before .before .before .before .before .before .before .before .before .before .args .nv) (c .before .before .before .before .before .before .before .before .before .before .before .before .before .before .args .nm)) (c .before .before .before .before .before .before .before .before .before .before .before .before .before .before .args .end) maxDepth) (assign (getD (c .before .before .before .before .before .before .before .before .before .before .before .before .before .before .args .file .now) (c .before .before .before .before .before .before .before .before .before .before .before .before .before .before .args .at) 0)) (int! (layoutOf (c .before .before .before .before .before .before .before .before .before .before .before .before .before .before .args .nv)) (slotsOf (c .before .before .before .before .before .before .before .before .before .before .before .before .before .before .args .file .now) (c .before .before .before .before .before .before .before .before .before .before .before .before .before .before .args .nv) (c .before .before .before .before .before .before .before .before .before .before .before .before .before .before .args .nm) (c .before .before .before .before .before .before .before .before .before .before .before .before .before .before .args .state .now))) (λ (t : Stmt). statement! t (layoutOf (c .before .before .before .before .before .before .before .before .before .before .before .before .before .before .args .nv)) (slotsOf (c .before .before .before .before .before .before .before .before .before .before .before .before .before .before .args .file .now) (c .before .before .before .before .before .before .before .before .before .before .before .before .before .before .args .nv) (c .before .before .before .before .before .before .before .before .before .before .before .before .before .before .args .nm) (c .before .before .before .before .before .before .before .before .before .before .before .before .before .before .args .state .now))) (λ (x : Bits). set (slotsOf (c .before .before .before .before .before .before .before .before .before .before .before .before .before .before .args .file .now) (c .before .before .before .before .before .before .before .before .before .before .before .before .before .before .args .nv) (c .before .before .before .before .before .before .before .before .before .before .before .before .before .before .args .nm) (c .before .before .before .before .before .before .before .before .before .before .before .before .before .before .args .state .now)) (getD (c .before .before .before .before .before .before .before .before .before .before .before .before .before .before .args .file .now) (c .before .before .before .before .before .before .before .before .before .before .before .before .before .before .args .at) 0) x) (assign-tree (layoutOf (c .before .before .before .before .before .before .before .before .before .before .before .before .before .before .args .nv)) (slotsOf (c .before .before .before .before .before .before .before .before .before .before .before .before .before .before .args .file .now) (c .before .before .before .before .before .before .before .before .before .before .before .before .before .before .args .nv) (c .before .before .before .before .before .before .before .before .before .before .before .before .before .before .args .nm) (c .before .before .before .before .before .before .before .before .before .before .before .before .before .before .args .state .now)) (getD (c .before .before .before .before .before .before .before .before .before .before .before .before .before .before .args .file .now) (c .before .before .before .before .before .before .before .before .before .before .before .before .before .before .args .at) 0)) (assign-int _ _ _ _ t n h (subst (λ (v : ℕ). getD (c .before .before .before .before .before .before .before .before .before .before .before .before .before .before .args .file .now) (3 * v) 0 ≡ 1) (c .before .before .before .before .before .before .before .before .before .before .before .wide .ensures .0) (c .before .before .before .before .before .before .before .before .if1 .taken))) _ (c .before .before .before .before .encode-int .ensures) (integer-set (c .before .before .before .before .before .before .before .before .before .before .before .before .before .before .args .file .now) (c .before .before .before .before .before .before .before .before .before .before .before .before .before .before .args .nv) (c .before .before .before .before .before .before .before .before .before .before .before .before .before .before .args .nm) (getD (c .before .before .before .before .before .before .before .before .before .before .before .before .before .before .args .file .now) (c .before .before .before .before .before .before .before .before .before .before .before .before .before .before .args .at) 0) (c .before .before .before .before .before .before .before .before .before .before .before .wide .result) (c .before .before .before .before .before .before .before .before .before .offset .result) (c .before .before .before .before .before .before .before .before .before .before .before .before .before .before .args .state .now) (c .before .before .before .before .before .before .before .before .before .before .before .wide .ensures .0) ((assign-live _ _ _ _ _ _ (c .before .before .before .before .before .before .before .before .before .before .before .before .before .before .pre .1 .reads)) .1) (c .before .before .before .before .before .before .before .before .before .offset .ensures) ((c .before .before .before .before .before .before .before .before .before .before .before .before .before .before .pre .0 .1) .bits) (c .before .before .before .before .encode-int .result .lits) _ (subst (λ (v : ℕ). getD (c .before .before .before .before .before .before .before .before .before .before .before .before .before .before .args .file .now) (3 * v) 0 ≡ 1) (c .before .before .before .before .before .before .before .before .before .before .before .wide .ensures .0) (c .before .before .before .before .before .before .before .before .if1 .taken)) (let h : length (c .before .before .before .before .encode-int .result .lits) ≡ 16 = search needs in h) (c .store-word .ensures .0))), c .store-word .ensures .1)
 
--- src/action.rt:82:1
 same-length-2 : tie.Need-same-length-2
 same-length-2 c = search needs
 
--- src/action.rt:82:1
 returns-2 : tie.Need-returns-2
 returns-2 c = ((λ t n h. one-emits (boolExpr (c .before .before .before .before .before .before .before .before .before .before .before .args .file .now) (namesOf (c .before .before .before .before .before .before .before .before .before .before .before .args .file .now) (c .before .before .before .before .before .before .before .before .before .before .before .args .nv) (c .before .before .before .before .before .before .before .before .before .before .before .args .nm)) (c .before .before .before .before .before .before .before .before .before .before .before .args .end) maxDepth) (assignB (getD (c .before .before .before .before .before .before .before .before .before .before .before .args .file .now) (c .before .before .before .before .before .before .before .before .before .before .before .args .at) 0)) (bool! (layoutOf (c .before .before .before .before .before .before .before .before .before .before .before .args .nv)) (slotsOf (c .before .before .before .before .before .before .before .before .before .before .before .args .file .now) (c .before .before .before .before .before .before .before .before .before .before .before .args .nv) (c .before .before .before .before .before .before .before .before .before .before .before .args .nm) (c .before .before .before .before .before .before .before .before .before .before .before .args .state .now))) (λ (t : Stmt). statement! t (layoutOf (c .before .before .before .before .before .before .before .before .before .before .before .args .nv)) (slotsOf (c .before .before .before .before .before .before .before .before .before .before .before .args .file .now) (c .before .before .before .before .before .before .before .before .before .before .before .args .nv) (c .before .before .before .before .before .before .before .before .before .before .before .args .nm) (c .before .before .before .before .before .before .before .before .before .before .before .args .state .now))) (λ (x : Literal). set (slotsOf (c .before .before .before .before .before .before .before .before .before .before .before .args .file .now) (c .before .before .before .before .before .before .before .before .before .before .before .args .nv) (c .before .before .before .before .before .before .before .before .before .before .before .args .nm) (c .before .before .before .before .before .before .before .before .before .before .before .args .state .now)) (getD (c .before .before .before .before .before .before .before .before .before .before .before .args .file .now) (c .before .before .before .before .before .before .before .before .before .before .before .args .at) 0) (x ∷ [])) (flag-tree (layoutOf (c .before .before .before .before .before .before .before .before .before .before .before .args .nv)) (slotsOf (c .before .before .before .before .before .before .before .before .before .before .before .args .file .now) (c .before .before .before .before .before .before .before .before .before .before .before .args .nv) (c .before .before .before .before .before .before .before .before .before .before .before .args .nm) (c .before .before .before .before .before .before .before .before .before .before .before .args .state .now)) (getD (c .before .before .before .before .before .before .before .before .before .before .before .args .file .now) (c .before .before .before .before .before .before .before .before .before .before .before .args .at) 0)) (assign-flag _ _ _ _ t n h (subst (λ (v : ℕ). getD (c .before .before .before .before .before .before .before .before .before .before .before .args .file .now) (3 * v) 0 ≡ 1 → ⊥) (c .before .before .before .before .before .before .before .before .wide .ensures .0) (c .before .before .before .before .before .if1 .left))) _ (c .before .encode-bool .ensures) (boolean-set (c .before .before .before .before .before .before .before .before .before .before .before .args .file .now) (c .before .before .before .before .before .before .before .before .before .before .before .args .nv) (c .before .before .before .before .before .before .before .before .before .before .before .args .nm) (getD (c .before .before .before .before .before .before .before .before .before .before .before .args .file .now) (c .before .before .before .before .before .before .before .before .before .before .before .args .at) 0) (c .before .before .before .before .before .before .before .before .wide .result) (c .before .before .before .before .before .before .offset .result) (c .before .before .before .before .before .before .before .before .before .before .before .args .state .now) (c .before .before .before .before .before .before .before .before .wide .ensures .0) ((assign-live _ _ _ _ _ _ (c .before .before .before .before .before .before .before .before .before .before .before .pre .1 .reads)) .1) (c .before .before .before .before .before .before .offset .ensures) ((c .before .before .before .before .before .before .before .before .before .before .before .pre .0 .1) .bits) _ _ (subst (λ (v : ℕ). getD (c .before .before .before .before .before .before .before .before .before .before .before .args .file .now) (3 * v) 0 ≡ 1 → ⊥) (c .before .before .before .before .before .before .before .before .wide .ensures .0) (c .before .before .before .before .before .if1 .left)) refl)), length-set (c .before .before .before .before .before .before .before .before .before .before .before .args .state .now) (c .before .before .before .before .before .before .offset .result) (c .before .encode-bool .result .lit) ∙ c .before .before .before .before .before .before .before .before .before .before .before .pre .0 .2)
 

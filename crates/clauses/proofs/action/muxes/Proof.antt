@@ -1,6 +1,6 @@
 use native.Mathlib.Omega.{arith}
 use Prim.Native.Nat.{_-_}
-use mathlib.Core.Path.{_≡_, refl, ap, _∙_}
+use mathlib.Core.Path.{_≡_, refl, _∙_}
 use lib.ListN.{length}
 use Rattle.clauses.specs.Writing.{fromCode}
 use Rattle.clauses.proofs.EmitStates.{Muxing, muxing-start, muxing-on, muxing-end}
@@ -17,59 +17,45 @@ Inv-loop file nv nm c state₀ other buf₀ cur var s at₀ g₀ i₀ state buf 
 abbrev μ-loop : tie.MeasureT-loop
 μ-loop file nv nm c state₀ other buf₀ cur var s at₀ g₀ i₀ state buf at g i = s - i
 
--- src/action.rt:51:9
 state-bits-requires : tie.Need-state-bits-requires Inv-loop μ-loop
 state-bits-requires c κs = ((c .before .pre .0) .kinds, (c .before .pre .0) .variables, (c .before .pre .0) .matrices)
 
--- src/action.rt:55:5
 loop-holds : tie.Need-loop-holds Inv-loop μ-loop
 loop-holds c = (muxing-start (c .before .before .args .file .now) (c .before .before .args .nv) (c .before .before .args .nm) _ (c .before .before .args .state .now) (c .before .before .args .other .now) (omega (arith, (c .before .before .pre .0) .bits, c .before .before .pre .1)) (omega (arith, (c .before .before .pre .0) .bits, c .before .before .pre .1, c .before .before .pre .2)) _ _ _, refl)
 
--- src/action.rt:56:41
 mul-emit-mux : tie.Need-mul-emit-mux Inv-loop μ-loop
 mul-emit-mux c = omega (arith, c .before .before .before .state-bits .ensures)
 
--- src/action.rt:56:41
 element-copy-out-emit-mux : tie.Need-element-copy-out-emit-mux Inv-loop μ-loop
 element-copy-out-emit-mux c = omega (arith, c .before .before .before .state-bits .ensures)
 
--- src/action.rt:56:51
 mul-emit-mux-2 : tie.Need-mul-emit-mux-2 Inv-loop μ-loop
 mul-emit-mux-2 c = omega (arith, c .before .before .before .before .state-bits .ensures)
 
--- src/action.rt:56:51
 element-copy-out-emit-mux-2 : tie.Need-element-copy-out-emit-mux-2 Inv-loop μ-loop
 element-copy-out-emit-mux-2 c = omega (arith, c .before .before .before .before .state-bits .ensures)
 
--- src/action.rt:56:13
 emit-mux-requires : tie.Need-emit-mux-requires Inv-loop μ-loop
 emit-mux-requires c κs = tt
 
--- src/action.rt:57:9
 mul-state : tie.Need-mul-state Inv-loop μ-loop
 mul-state c = omega (arith, c .before .before .before .before .before .before .before .state-bits .ensures)
 
--- src/action.rt:57:9
 element-write-state : tie.Need-element-write-state Inv-loop μ-loop
 element-write-state c = omega (arith, c .before .before .before .before .before .before .before .state-bits .ensures)
 
--- src/action.rt:60:13
 add-i : tie.Need-add-i Inv-loop μ-loop
 add-i c = omega (arith, c .before .before .before .before .before .before .before .state-bits .ensures)
 
--- src/action.rt:55:5
 loop-less : tie.Need-loop-less Inv-loop μ-loop
 loop-less c = omega arith
 
--- src/action.rt:55:5
 loop-again : tie.Need-loop-again Inv-loop μ-loop
 loop-again c = (muxing-on (c .before .before .before .before .before .before .before .before .before .args .file .now) (c .before .before .before .before .before .before .before .before .before .args .nv) (c .before .before .before .before .before .before .before .before .before .args .nm) _ (c .before .before .before .before .before .before .before .before .before .args .state .now) (c .before .before .before .before .before .before .before .before .before .args .other .now) (omega (arith, (c .before .before .before .before .before .before .before .before .before .pre .0) .bits, c .before .before .before .before .before .before .before .before .before .pre .1)) (omega (arith, (c .before .before .before .before .before .before .before .before .before .pre .0) .bits, c .before .before .before .before .before .before .before .before .before .pre .1, c .before .before .before .before .before .before .before .before .before .pre .2)) _ _ _ _ (omega (arith, c .before .before .before .before .before .before .before .state-bits .ensures, c .before .before .before .before .before .loop-test .taken)) (c .before .before .before .before .before .before .loop .inv .0) _ (c .before .emit-mux .ensures), omega arith)
 
--- src/action.rt:37:1
 same-length : tie.Need-same-length Inv-loop μ-loop
 same-length c = omega arith
 
--- src/action.rt:37:1
 returns : tie.Need-returns Inv-loop μ-loop
 returns c = (muxing-end (c .before .before .before .before .args .file .now) (c .before .before .before .before .args .nv) (c .before .before .before .before .args .nm) _ (c .before .before .before .before .args .state .now) (c .before .before .before .before .args .other .now) (omega (arith, (c .before .before .before .before .pre .0) .bits, c .before .before .before .before .pre .1)) (omega (arith, (c .before .before .before .before .pre .0) .bits, c .before .before .before .before .pre .1, c .before .before .before .before .pre .2)) _ _ _ _ (omega (arith, c .before .before .state-bits .ensures, c .loop-test .left)) (c .before .loop .inv .0), c .before .loop .inv .0 .size ∙ c .before .before .before .before .pre .1)
 

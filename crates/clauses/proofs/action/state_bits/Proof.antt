@@ -7,19 +7,15 @@ use Rattle.clauses.proofs.action.state_bits.Reads as reads
 use Rattle.clauses.proofs.action.state_bits.Lts as lts
 use Rattle.clauses.proofs.expression.offset.Reads as offset-reads
 
--- src/action.rt:33:5
 offset-requires : tie.Need-offset-requires
 offset-requires c κs = search needs
 
--- src/action.rt:33:24
 mul-result : tie.Need-mul-result
 mul-result c = search needs
 
--- src/action.rt:33:5
 add-result : tie.Need-add-result
 add-result c = omega (arith, c .offset .ensures, variables-small (c .before .before .args .file .now) 0 (c .before .before .args .nv))
 
--- src/action.rt:29:1
 returns : tie.Need-returns
 returns c = (state-size _ _ _ _ (c .offset .ensures), omega (arith, c .offset .ensures, variables-small (c .before .before .args .file .now) 0 (c .before .before .args .nv)))
 

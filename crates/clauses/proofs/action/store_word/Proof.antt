@@ -15,43 +15,33 @@ Inv-loop state₀ off w x i₀ state i = Storing state₀ off x w state i
 abbrev μ-loop : tie.MeasureT-loop
 μ-loop state₀ off w x i₀ state i = w - i
 
--- src/action.rt:75:5
 loop-holds : tie.Need-loop-holds Inv-loop μ-loop
 loop-holds c = storing-start _ _ _ _
 
--- src/action.rt:76:26
 mul-state : tie.Need-mul-state Inv-loop μ-loop
 mul-state c = omega arith
 
--- src/action.rt:76:26
 array-read-state : tie.Need-array-read-state Inv-loop μ-loop
 array-read-state c = omega arith
 
--- src/action.rt:76:15
 add-state : tie.Need-add-state Inv-loop μ-loop
 add-state c = omega arith
 
--- src/action.rt:76:9
 mul-state-2 : tie.Need-mul-state-2 Inv-loop μ-loop
 mul-state-2 c = omega arith
 
--- src/action.rt:76:9
 element-write-state : tie.Need-element-write-state Inv-loop μ-loop
 element-write-state c = omega (arith, c .loop-test .taken, c .before .before .pre .0)
 
--- src/action.rt:77:13
 add-i : tie.Need-add-i Inv-loop μ-loop
 add-i c = omega arith
 
--- src/action.rt:75:5
 loop-less : tie.Need-loop-less Inv-loop μ-loop
 loop-less c = omega arith
 
--- src/action.rt:75:5
 loop-again : tie.Need-loop-again Inv-loop μ-loop
 loop-again c = storing-on _ _ _ _ _ _ (let h : length (c .before .before .args .t3) ≡ 16 = search needs in omega arith) (omega arith) (c .loop-test .taken) (c .before .loop .inv)
 
--- src/action.rt:70:1
 returns : tie.Need-returns Inv-loop μ-loop
 returns c = (storing-end _ _ _ _ _ _ (c .loop-test .left) (c .before .loop .inv), c .before .loop .inv .size ∙ c .before .before .pre .2)
 

@@ -1,5 +1,4 @@
 use native.Mathlib.Omega.{arith}
-use Prim.Native.Nat.{ℕ, _+_, _*_}
 use Rattle.clauses.proofs.CellCounts.{sizes, event-slot, event-inside, event-reads, event-gates}
 use borrow.Author.Needs.{needs}
 use Rattle.clauses.proofs.cells.size_event.Statement.{statement}

@@ -1,7 +1,7 @@
 use native.Mathlib.Omega.{arith}
 use borrow.Author.Needs.{needs}
 use Prim.Native.Nat.{_-_}
-use mathlib.Core.Path.{_≡_, refl, ap, _∙_}
+use mathlib.Core.Path.{_≡_, refl}
 use lib.ListN.{length}
 use Rattle.clauses.specs.Writing.{fromCode}
 use Rattle.clauses.proofs.EmitCircuits.{Chaining, chaining-start, chaining-on, chaining-end}
@@ -18,43 +18,33 @@ Inv-loop c buf₀ cur var x part₀ at₀ g₀ i₀ buf part at g i = Chaining x
 abbrev μ-loop : tie.MeasureT-loop
 μ-loop c buf₀ cur var x part₀ at₀ g₀ i₀ buf part at g i = 16 - i
 
--- src/circuit.rt:142:5
 loop-holds : tie.Need-loop-holds Inv-loop μ-loop
 loop-holds c = (chaining-start (c .args .t1) (let h : length (c .args .t1) ≡ 16 = search needs in h) _ _ _ _, refl)
 
--- src/circuit.rt:143:24
 mul-negate : tie.Need-mul-negate Inv-loop μ-loop
 mul-negate c = omega arith
 
--- src/circuit.rt:143:24
 array-read-negate : tie.Need-array-read-negate Inv-loop μ-loop
 array-read-negate c = omega arith
 
--- src/circuit.rt:143:13
 negate-requires : tie.Need-negate-requires Inv-loop μ-loop
 negate-requires c κs = tt
 
--- src/circuit.rt:144:13
 emit-and-requires : tie.Need-emit-and-requires Inv-loop μ-loop
 emit-and-requires c κs = tt
 
--- src/circuit.rt:148:13
 add-i : tie.Need-add-i Inv-loop μ-loop
 add-i c = omega arith
 
--- src/circuit.rt:142:5
 loop-less : tie.Need-loop-less Inv-loop μ-loop
 loop-less c = omega arith
 
--- src/circuit.rt:142:5
 loop-again : tie.Need-loop-again Inv-loop μ-loop
 loop-again c = (chaining-on (c .before .before .before .before .before .before .args .t1) (let h : length (c .before .before .before .before .before .before .args .t1) ≡ 16 = search needs in h) _ _ _ _ _ (c .before .before .before .before .loop-test .taken) (c .before .before .before .before .before .loop .inv .0) _ _ (c .before .before .before .negate .ensures) (c .before .emit-and .ensures), omega arith)
 
--- src/circuit.rt:135:1
 same-length : tie.Need-same-length Inv-loop μ-loop
 same-length c = omega arith
 
--- src/circuit.rt:135:1
 returns : tie.Need-returns Inv-loop μ-loop
 returns c = chaining-end (c .before .before .args .t1) (let h : length (c .before .before .args .t1) ≡ 16 = search needs in h) _ _ _ _ _ (c .loop-test .left) (c .before .loop .inv .0)
 

@@ -8,19 +8,15 @@ use Rattle.clauses.proofs.circuit.difference.Lts as lts
 use Rattle.clauses.proofs.circuit.negate_all.Reads as negate-all-reads
 use Rattle.clauses.proofs.circuit.sum.Reads as sum-reads
 
--- src/circuit.rt:94:12
 negate-all-requires : tie.Need-negate-all-requires
 negate-all-requires c κs = search needs
 
--- src/circuit.rt:94:5
 sum-requires : tie.Need-sum-requires
 sum-requires c κs = search needs
 
--- src/circuit.rt:91:1
 same-length : tie.Need-same-length
 same-length c = search needs
 
--- src/circuit.rt:91:1
 returns : tie.Need-returns
 returns c = difference-emits _ _ _ _ _ (c .before .before .before .negate-all .ensures) code-yes (c .before .sum .ensures)
 

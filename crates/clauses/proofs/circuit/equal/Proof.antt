@@ -8,19 +8,15 @@ use Rattle.clauses.proofs.circuit.equal.Lts as lts
 use Rattle.clauses.proofs.circuit.chain.Reads as chain-reads
 use Rattle.clauses.proofs.circuit.xors.Reads as xors-reads
 
--- src/circuit.rt:160:9
 xors-requires : tie.Need-xors-requires
 xors-requires c κs = search needs
 
--- src/circuit.rt:162:5
 chain-requires : tie.Need-chain-requires
 chain-requires c κs = search needs
 
--- src/circuit.rt:157:1
 same-length : tie.Need-same-length
 same-length c = search needs
 
--- src/circuit.rt:157:1
 returns : tie.Need-returns
 returns c = equal-emits _ _ _ _ _ _ code-yes (c .before .before .before .before .before .xors .ensures) (c .before .chain .ensures)
 

@@ -8,27 +8,21 @@ use Rattle.clauses.proofs.circuit.difference.Reads as difference-reads
 use Rattle.clauses.proofs.circuit.negate_top.Reads as negate-top-reads
 use Rattle.clauses.proofs.literal.negate.Reads as negate-reads
 
--- src/circuit.rt:100:9
 negate-top-requires : tie.Need-negate-top-requires
 negate-top-requires c κs = search needs
 
--- src/circuit.rt:101:9
 negate-top-requires-2 : tie.Need-negate-top-requires-2
 negate-top-requires-2 c κs = search needs
 
--- src/circuit.rt:102:9
 difference-requires : tie.Need-difference-requires
 difference-requires c κs = search needs
 
--- src/circuit.rt:103:9
 negate-requires : tie.Need-negate-requires
 negate-requires c κs = search needs
 
--- src/circuit.rt:97:1
 same-length : tie.Need-same-length
 same-length c = search needs
 
--- src/circuit.rt:97:1
 returns : tie.Need-returns
 returns c = less-emits _ _ _ _ _ _ _ (c .before .before .before .before .before .negate-top .ensures) (c .before .before .before .before .negate-top2 .ensures) (c .negate .ensures) (c .before .before .difference .ensures)
 

@@ -1,7 +1,7 @@
 use native.Mathlib.Omega.{arith}
 use borrow.Author.Needs.{needs}
 use Prim.Native.Nat.{_-_}
-use mathlib.Core.Path.{_≡_, refl, ap, _∙_}
+use mathlib.Core.Path.{_≡_, refl}
 use lib.ListN.{length}
 use Rattle.clauses.proofs.EmitCircuits.{Negating, negating-start, negating-on, negating-end}
 use Rattle.clauses.proofs.circuit.negate_all.Statement.{statement}
@@ -16,43 +16,33 @@ Inv-loop b out₀ i₀ out i = Negating b out i
 abbrev μ-loop : tie.MeasureT-loop
 μ-loop b out₀ i₀ out i = 16 - i
 
--- src/circuit.rt:76:5
 loop-holds : tie.Need-loop-holds Inv-loop μ-loop
 loop-holds c = negating-start _ _ refl
 
--- src/circuit.rt:77:25
 mul-negate : tie.Need-mul-negate Inv-loop μ-loop
 mul-negate c = omega arith
 
--- src/circuit.rt:77:25
 array-read-negate : tie.Need-array-read-negate Inv-loop μ-loop
 array-read-negate c = omega arith
 
--- src/circuit.rt:77:18
 negate-requires : tie.Need-negate-requires Inv-loop μ-loop
 negate-requires c κs = tt
 
--- src/circuit.rt:77:9
 mul-out : tie.Need-mul-out Inv-loop μ-loop
 mul-out c = omega arith
 
--- src/circuit.rt:77:9
 array-write-out : tie.Need-array-write-out Inv-loop μ-loop
 array-write-out c = omega arith
 
--- src/circuit.rt:78:13
 add-i : tie.Need-add-i Inv-loop μ-loop
 add-i c = omega arith
 
--- src/circuit.rt:76:5
 loop-less : tie.Need-loop-less Inv-loop μ-loop
 loop-less c = omega arith
 
--- src/circuit.rt:76:5
 loop-again : tie.Need-loop-again Inv-loop μ-loop
 loop-again c = negating-on _ _ _ _ (let h : length (c .before .before .before .args .t1) ≡ 16 = search needs in h) (c .before .loop-test .taken) (c .negate .ensures) (c .before .before .loop .inv)
 
--- src/circuit.rt:71:1
 returns : tie.Need-returns Inv-loop μ-loop
 returns c = negating-end _ _ _ (let h : length (c .before .before .args .t1) ≡ 16 = search needs in h) (c .loop-test .left) (c .before .loop .inv)
 

@@ -1,5 +1,5 @@
 use Prim.Native.Nat.{_-_}
-use mathlib.Core.Path.{_≡_, refl, ap, _∙_}
+use mathlib.Core.Path.{_≡_}
 use lib.ListN.{length}
 use Rattle.clauses.proofs.EmitCircuits.{negate-top}
 use borrow.Author.Needs.{needs}
@@ -9,19 +9,15 @@ use Rattle.clauses.proofs.circuit.negate_top.Reads as reads
 use Rattle.clauses.proofs.circuit.negate_top.Lts as lts
 use Rattle.clauses.proofs.literal.negate.Reads as negate-reads
 
--- src/circuit.rt:87:22
 array-read-negate : tie.Need-array-read-negate
 array-read-negate c = search needs
 
--- src/circuit.rt:87:15
 negate-requires : tie.Need-negate-requires
 negate-requires c κs = search needs
 
--- src/circuit.rt:87:5
 array-write-out : tie.Need-array-write-out
 array-write-out c = search needs
 
--- src/circuit.rt:83:1
 returns : tie.Need-returns
 returns c = negate-top (c .before .args .t1) 15 (c .negate .result) (let h : length (c .before .args .t1) ≡ 16 = search needs in h) (c .negate .ensures)
 

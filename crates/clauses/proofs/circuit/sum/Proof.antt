@@ -1,7 +1,7 @@
 use native.Mathlib.Omega.{arith}
 use borrow.Author.Needs.{needs}
 use Prim.Native.Nat.{_-_}
-use mathlib.Core.Path.{_≡_, refl, ap, _∙_}
+use mathlib.Core.Path.{_≡_, refl}
 use lib.ListN.{length}
 use Rattle.clauses.specs.Writing.{fromCode}
 use Rattle.clauses.proofs.EmitCircuits.{Summing, summing-start, summing-on, summing-end}
@@ -17,55 +17,42 @@ Inv-loop c buf₀ cur var a b out₀ carry₀ at₀ g₀ i₀ buf out carry at g
 abbrev μ-loop : tie.MeasureT-loop
 μ-loop c buf₀ cur var a b out₀ carry₀ at₀ g₀ i₀ buf out carry at g i = 16 - i
 
--- src/circuit.rt:55:5
 loop-holds : tie.Need-loop-holds Inv-loop μ-loop
 loop-holds c = (summing-start (c .args .t1) (c .args .t2) (let h : length (c .args .t1) ≡ 16 = search needs in h) (let h : length (c .args .t2) ≡ 16 = search needs in h) _ _ _ _ _ refl, refl)
 
--- src/circuit.rt:56:37
 mul-sum-bit : tie.Need-mul-sum-bit Inv-loop μ-loop
 mul-sum-bit c = omega arith
 
--- src/circuit.rt:56:37
 array-read-sum-bit : tie.Need-array-read-sum-bit Inv-loop μ-loop
 array-read-sum-bit c = omega arith
 
--- src/circuit.rt:56:43
 mul-sum-bit-2 : tie.Need-mul-sum-bit-2 Inv-loop μ-loop
 mul-sum-bit-2 c = omega arith
 
--- src/circuit.rt:56:43
 array-read-sum-bit-2 : tie.Need-array-read-sum-bit-2 Inv-loop μ-loop
 array-read-sum-bit-2 c = omega arith
 
--- src/circuit.rt:56:13
 sum-bit-requires : tie.Need-sum-bit-requires Inv-loop μ-loop
 sum-bit-requires c κs = tt
 
--- src/circuit.rt:57:9
 mul-out : tie.Need-mul-out Inv-loop μ-loop
 mul-out c = omega arith
 
--- src/circuit.rt:57:9
 array-write-out : tie.Need-array-write-out Inv-loop μ-loop
 array-write-out c = omega arith
 
--- src/circuit.rt:61:13
 add-i : tie.Need-add-i Inv-loop μ-loop
 add-i c = omega arith
 
--- src/circuit.rt:55:5
 loop-less : tie.Need-loop-less Inv-loop μ-loop
 loop-less c = omega arith
 
--- src/circuit.rt:55:5
 loop-again : tie.Need-loop-again Inv-loop μ-loop
 loop-again c = (summing-on (c .before .before .before .before .before .args .t1) (c .before .before .before .before .before .args .t2) (let h : length (c .before .before .before .before .before .args .t1) ≡ 16 = search needs in h) (let h : length (c .before .before .before .before .before .args .t2) ≡ 16 = search needs in h) _ _ _ _ _ _ (c .before .before .before .loop-test .taken) (c .before .before .before .before .loop .inv .0) _ _ (c .before .sum-bit .ensures), omega arith)
 
--- src/circuit.rt:47:1
 same-length : tie.Need-same-length Inv-loop μ-loop
 same-length c = omega arith
 
--- src/circuit.rt:47:1
 returns : tie.Need-returns Inv-loop μ-loop
 returns c = summing-end (c .before .before .args .t1) (c .before .before .args .t2) (let h : length (c .before .before .args .t1) ≡ 16 = search needs in h) (let h : length (c .before .before .args .t2) ≡ 16 = search needs in h) _ _ _ _ _ _ (c .loop-test .left) (c .before .loop .inv .0)
 

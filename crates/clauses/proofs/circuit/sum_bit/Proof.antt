@@ -8,31 +8,24 @@ use Rattle.clauses.proofs.gate.emit_and.Reads as emit-and-reads
 use Rattle.clauses.proofs.gate.emit_or.Reads as emit-or-reads
 use Rattle.clauses.proofs.gate.emit_xor.Reads as emit-xor-reads
 
--- src/circuit.rt:33:9
 emit-xor-requires : tie.Need-emit-xor-requires
 emit-xor-requires c κs = search needs
 
--- src/circuit.rt:34:9
 emit-xor-requires-2 : tie.Need-emit-xor-requires-2
 emit-xor-requires-2 c κs = search needs
 
--- src/circuit.rt:35:9
 emit-and-requires : tie.Need-emit-and-requires
 emit-and-requires c κs = search needs
 
--- src/circuit.rt:36:9
 emit-and-requires-2 : tie.Need-emit-and-requires-2
 emit-and-requires-2 c κs = search needs
 
--- src/circuit.rt:37:9
 emit-or-requires : tie.Need-emit-or-requires
 emit-or-requires c κs = search needs
 
--- src/circuit.rt:30:1
 same-length : tie.Need-same-length
 same-length c = search needs
 
--- src/circuit.rt:30:1
 returns : tie.Need-returns
 returns c = bit-emits _ _ _ _ _ _ _ _ _ (c .before .before .before .before .before .before .before .before .before .before .before .before .before .emit-xor .ensures) (c .before .before .before .before .before .before .before .before .before .before .emit-xor2 .ensures) (c .before .before .before .before .before .before .before .emit-and .ensures) (c .before .before .before .before .emit-and2 .ensures) (c .before .emit-or .ensures)
 

@@ -1,7 +1,7 @@
 use native.Mathlib.Omega.{arith}
 use borrow.Author.Needs.{needs}
 use Prim.Native.Nat.{_-_}
-use mathlib.Core.Path.{_≡_, refl, ap, _∙_}
+use mathlib.Core.Path.{_≡_, refl}
 use lib.ListN.{length}
 use Rattle.clauses.specs.Circuit.{xor!, xors! }
 use Rattle.clauses.proofs.EmitCircuits.{Rowing, rowing-start, rowing-on, rowing-all, xors-row}
@@ -17,55 +17,42 @@ Inv-loop buf₀ cur var a b out₀ at₀ g₀ i₀ buf out at g i = Rowing xors!
 abbrev μ-loop : tie.MeasureT-loop
 μ-loop buf₀ cur var a b out₀ at₀ g₀ i₀ buf out at g i = 16 - i
 
--- src/circuit.rt:119:5
 loop-holds : tie.Need-loop-holds Inv-loop μ-loop
 loop-holds c = (rowing-start xor! xors! xors-row 16 (c .args .t1) (c .args .t2) (let h : length (c .args .t1) ≡ 16 = search needs in h) (let h : length (c .args .t2) ≡ 16 = search needs in h) _ _ _ _, refl, refl)
 
--- src/circuit.rt:120:38
 mul-emit-xor : tie.Need-mul-emit-xor Inv-loop μ-loop
 mul-emit-xor c = omega arith
 
--- src/circuit.rt:120:38
 array-read-emit-xor : tie.Need-array-read-emit-xor Inv-loop μ-loop
 array-read-emit-xor c = omega arith
 
--- src/circuit.rt:120:44
 mul-emit-xor-2 : tie.Need-mul-emit-xor-2 Inv-loop μ-loop
 mul-emit-xor-2 c = omega arith
 
--- src/circuit.rt:120:44
 array-read-emit-xor-2 : tie.Need-array-read-emit-xor-2 Inv-loop μ-loop
 array-read-emit-xor-2 c = omega arith
 
--- src/circuit.rt:120:13
 emit-xor-requires : tie.Need-emit-xor-requires Inv-loop μ-loop
 emit-xor-requires c κs = tt
 
--- src/circuit.rt:121:9
 mul-out : tie.Need-mul-out Inv-loop μ-loop
 mul-out c = omega arith
 
--- src/circuit.rt:121:9
 array-write-out : tie.Need-array-write-out Inv-loop μ-loop
 array-write-out c = omega arith
 
--- src/circuit.rt:124:13
 add-i : tie.Need-add-i Inv-loop μ-loop
 add-i c = omega arith
 
--- src/circuit.rt:119:5
 loop-less : tie.Need-loop-less Inv-loop μ-loop
 loop-less c = omega arith
 
--- src/circuit.rt:119:5
 loop-again : tie.Need-loop-again Inv-loop μ-loop
 loop-again c = (rowing-on xor! xors! xors-row 16 (c .before .before .before .before .before .args .t1) (c .before .before .before .before .before .args .t2) (let h : length (c .before .before .before .before .before .args .t1) ≡ 16 = search needs in h) (let h : length (c .before .before .before .before .before .args .t2) ≡ 16 = search needs in h) _ _ _ _ (c .before .before .before .loop-test .taken) (omega arith) (c .before .before .before .before .loop .inv .0) _ _ _ refl refl (c .before .emit-xor .ensures), search needs, omega arith)
 
--- src/circuit.rt:112:1
 same-length : tie.Need-same-length Inv-loop μ-loop
 same-length c = omega arith
 
--- src/circuit.rt:112:1
 returns : tie.Need-returns Inv-loop μ-loop
 returns c = rowing-all xor! xors! xors-row 16 (c .before .before .args .t1) (c .before .before .args .t2) (let h : length (c .before .before .args .t1) ≡ 16 = search needs in h) (let h : length (c .before .before .args .t2) ≡ 16 = search needs in h) _ _ _ _ (c .before .loop .inv .1) (c .loop-test .left) (c .before .loop .inv .0)
 

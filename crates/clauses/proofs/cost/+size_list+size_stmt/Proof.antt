@@ -1,9 +1,10 @@
 use native.Mathlib.Omega.{arith}
 use Prim.Native.Nat.{ℕ, _<_, _-_}
 use mathlib.Core.Path.{ap}
+use mathlib.Core.Logic.{inl, inr}
 use Rattle.design.specs.Check.{namesOf}
 use Rattle.clauses.specs.declared.cost.GatesAt.{GatesAt}
-use Rattle.step.proofs.Runs.{list-live, stmt-live, seq-first, assign-live, if-test, if-deep}
+use Rattle.step.proofs.Runs.{stmt-unknown, list-live, stmt-live, seq-first, assign-live, if-test, if-deep}
 use Rattle.clauses.proofs.Inside.{bool-few, statement-few, list-few}
 use Rattle.clauses.proofs.ActionCounts.{Counting, counting-start, counting-on, counting-few, counting-end, stated-assign, if-first, first-on, if-second, second-on, if-joined}
 use Prim.Native.Nat.{ℕ, _<_}
@@ -88,40 +89,46 @@ size-stmt-shared-slice-read-op : (t : ℕ) → size-stmt-lts.Need-shared-slice-r
 size-stmt-shared-slice-read-op t c = omega (arith, stmt-live _ _ _ _ _ (c .before .before .before .pre .1 .0))
 
 size-stmt-add-size-assign : (t : ℕ) → size-stmt-lts.Need-add-size-assign (size-stmt-claims t) (size-stmt-at t) size-stmt.Post
-size-stmt-add-size-assign t c = omega (arith, stmt-live _ _ _ _ _ (c .before .before .before .before .pre .1 .0))
+size-stmt-add-size-assign t c = omega (arith, stmt-live _ _ _ _ _ (c .before .before .before .before .before .before .pre .1 .0))
 
 size-stmt-size-assign-requires : (t : ℕ) → size-stmt-lts.Need-size-assign-requires (size-stmt-claims t) (size-stmt-at t) size-stmt.Post
-size-stmt-size-assign-requires t c κs = (assign-live _ _ _ _ _ (c .before .before .before .before .pre .1 .0) (c .match .keys1), omega arith, omega arith, omega arith)
-
-size-stmt-add-size-bool : (t : ℕ) → size-stmt-lts.Need-add-size-bool (size-stmt-claims t) (size-stmt-at t) size-stmt.Post
-size-stmt-add-size-bool t c = omega (arith, stmt-live _ _ _ _ _ (c .before .before .before .before .pre .1 .0))
-
-size-stmt-size-bool-requires : (t : ℕ) → size-stmt-lts.Need-size-bool-requires (size-stmt-claims t) (size-stmt-at t) size-stmt.Post
-size-stmt-size-bool-requires t c κs = (if-test _ _ _ _ _ (c .before .before .before .before .pre .1 .0) (c .match .rest .1), omega arith, omega arith)
-
-size-stmt-sub-size-list : (t : ℕ) → size-stmt-lts.Need-sub-size-list (size-stmt-claims t) (size-stmt-at t) size-stmt.Post
-size-stmt-sub-size-list t c = omega (arith, if-deep _ _ _ _ _ (c .before .before .before .before .before .pre .1 .0) (c .before .match .rest .1))
-
-size-stmt-size-list-requires : (t : ℕ) → size-stmt-lts.Need-size-list-requires (size-stmt-claims t) (size-stmt-at t) size-stmt.Post
-size-stmt-size-list-requires t c κs = (omega (arith, first-on _ _ _ _ _ (c .before .before .before .before .before .pre .1 .0) (c .before .match .rest .1) _ (c .size-bool .ensures)), (if-first _ _ _ _ _ (c .before .before .before .before .before .pre .1 .0) (c .before .match .rest .1) _ (c .size-bool .ensures), omega arith, omega arith, omega arith, omega arith))
-
-size-stmt-sub-size-list-2 : (t : ℕ) → size-stmt-lts.Need-sub-size-list-2 (size-stmt-claims t) (size-stmt-at t) size-stmt.Post
-size-stmt-sub-size-list-2 t c = omega (arith, if-deep _ _ _ _ _ (c .before .before .before .before .before .before .pre .1 .0) (c .before .before .match .rest .1))
-
-size-stmt-size-list-requires-2 : (t : ℕ) → size-stmt-lts.Need-size-list-requires-2 (size-stmt-claims t) (size-stmt-at t) size-stmt.Post
-size-stmt-size-list-requires-2 t c κs = (omega (arith, second-on _ _ _ _ _ (c .before .before .before .before .before .before .pre .1 .0) (c .before .before .match .rest .1) _ (c .before .size-bool .ensures) _ _ (c .size-list .ensures)), (if-second _ _ _ _ _ (c .before .before .before .before .before .before .pre .1 .0) (c .before .before .match .rest .1) _ (c .before .size-bool .ensures) _ _ (c .size-list .ensures), omega arith, omega arith, omega arith, omega arith))
-
-size-stmt-join-requires : (t : ℕ) → size-stmt-lts.Need-join-requires (size-stmt-claims t) (size-stmt-at t) size-stmt.Post
-size-stmt-join-requires t c κs = let f = bool-few _ _ _ (c .before .before .before .before .before .before .before .pre .1 .2) _ _ _ (c .before .before .size-bool .ensures) in let g = list-few _ _ _ (c .before .before .before .before .before .before .before .pre .1 .2) _ (c .before .before .before .before .before .before .before .pre .1 .4) _ _ _ (c .before .size-list .ensures) in (omega (arith, f .ands, g .ands), omega (arith, f .wides, g .wides))
-
-size-stmt-join-requires-2 : (t : ℕ) → size-stmt-lts.Need-join-requires-2 (size-stmt-claims t) (size-stmt-at t) size-stmt.Post
-size-stmt-join-requires-2 t c κs = let f = bool-few _ _ _ (c .before .before .before .before .before .before .before .before .pre .1 .2) _ _ _ (c .before .before .before .size-bool .ensures) in let g = list-few _ _ _ (c .before .before .before .before .before .before .before .before .pre .1 .2) _ (c .before .before .before .before .before .before .before .before .pre .1 .4) _ _ _ (c .before .before .size-list .ensures) in let k = list-few _ _ _ (c .before .before .before .before .before .before .before .before .pre .1 .2) _ (c .before .before .before .before .before .before .before .before .pre .1 .4) _ _ _ (c .before .size-list2 .ensures) in let e = c .join .ensures in (omega (arith, f .ands, g .ands, k .ands, ap (λ (z : GatesAt). z .ands) e), omega (arith, f .wides, g .wides, k .wides, c .before .before .before .before .before .before .before .before .pre .1 .4, ap (λ (z : GatesAt). z .wides) e))
+size-stmt-size-assign-requires t c κs = (assign-live _ _ _ _ _ (c .before .before .before .before .before .before .pre .1 .0) (c .if3 .taken), omega arith, omega arith, omega arith)
 
 size-stmt-returns : (t : ℕ) → size-stmt-lts.Need-returns (size-stmt-claims t) (size-stmt-at t) size-stmt.Post
-size-stmt-returns t c = stated-assign _ _ _ _ _ (c .before .before .before .before .before .pre .1 .0) _ (c .before .match .keys1) _ (c .size-assign .ensures _)
+size-stmt-returns t c = stated-assign _ _ _ _ _ (c .before .before .before .before .before .before .before .pre .1 .0) _ (c .before .if3 .taken) _ (c .size-assign .ensures _)
+
+size-stmt-add-size-bool : (t : ℕ) → size-stmt-lts.Need-add-size-bool (size-stmt-claims t) (size-stmt-at t) size-stmt.Post
+size-stmt-add-size-bool t c = omega (arith, stmt-live _ _ _ _ _ (c .before .before .before .before .before .before .pre .1 .0))
+
+size-stmt-size-bool-requires : (t : ℕ) → size-stmt-lts.Need-size-bool-requires (size-stmt-claims t) (size-stmt-at t) size-stmt.Post
+size-stmt-size-bool-requires t c κs = (if-test _ _ _ _ _ (c .before .before .before .before .before .before .pre .1 .0) (c .if3 .left), omega arith, omega arith)
+
+size-stmt-sub-size-list : (t : ℕ) → size-stmt-lts.Need-sub-size-list (size-stmt-claims t) (size-stmt-at t) size-stmt.Post
+size-stmt-sub-size-list t c = omega (arith, if-deep _ _ _ _ _ (c .before .before .before .before .before .before .before .pre .1 .0) (c .before .if3 .left))
+
+size-stmt-size-list-requires : (t : ℕ) → size-stmt-lts.Need-size-list-requires (size-stmt-claims t) (size-stmt-at t) size-stmt.Post
+size-stmt-size-list-requires t c κs = (omega (arith, first-on _ _ _ _ _ (c .before .before .before .before .before .before .before .pre .1 .0) (c .before .if3 .left) _ (c .size-bool .ensures)), (if-first _ _ _ _ _ (c .before .before .before .before .before .before .before .pre .1 .0) (c .before .if3 .left) _ (c .size-bool .ensures), omega arith, omega arith, omega arith, omega arith))
+
+size-stmt-sub-size-list-2 : (t : ℕ) → size-stmt-lts.Need-sub-size-list-2 (size-stmt-claims t) (size-stmt-at t) size-stmt.Post
+size-stmt-sub-size-list-2 t c = omega (arith, if-deep _ _ _ _ _ (c .before .before .before .before .before .before .before .before .pre .1 .0) (c .before .before .if3 .left))
+
+size-stmt-size-list-requires-2 : (t : ℕ) → size-stmt-lts.Need-size-list-requires-2 (size-stmt-claims t) (size-stmt-at t) size-stmt.Post
+size-stmt-size-list-requires-2 t c κs = (omega (arith, second-on _ _ _ _ _ (c .before .before .before .before .before .before .before .before .pre .1 .0) (c .before .before .if3 .left) _ (c .before .size-bool .ensures) _ _ (c .size-list .ensures)), (if-second _ _ _ _ _ (c .before .before .before .before .before .before .before .before .pre .1 .0) (c .before .before .if3 .left) _ (c .before .size-bool .ensures) _ _ (c .size-list .ensures), omega arith, omega arith, omega arith, omega arith))
+
+size-stmt-join-requires : (t : ℕ) → size-stmt-lts.Need-join-requires (size-stmt-claims t) (size-stmt-at t) size-stmt.Post
+size-stmt-join-requires t c κs = let f = bool-few _ _ _ (c .before .before .before .before .before .before .before .before .before .pre .1 .2) _ _ _ (c .before .before .size-bool .ensures) in let g = list-few _ _ _ (c .before .before .before .before .before .before .before .before .before .pre .1 .2) _ (c .before .before .before .before .before .before .before .before .before .pre .1 .4) _ _ _ (c .before .size-list .ensures) in (omega (arith, f .ands, g .ands), omega (arith, f .wides, g .wides))
+
+size-stmt-join-requires-2 : (t : ℕ) → size-stmt-lts.Need-join-requires-2 (size-stmt-claims t) (size-stmt-at t) size-stmt.Post
+size-stmt-join-requires-2 t c κs = let f = bool-few _ _ _ (c .before .before .before .before .before .before .before .before .before .before .pre .1 .2) _ _ _ (c .before .before .before .size-bool .ensures) in let g = list-few _ _ _ (c .before .before .before .before .before .before .before .before .before .before .pre .1 .2) _ (c .before .before .before .before .before .before .before .before .before .before .pre .1 .4) _ _ _ (c .before .before .size-list .ensures) in let k = list-few _ _ _ (c .before .before .before .before .before .before .before .before .before .before .pre .1 .2) _ (c .before .before .before .before .before .before .before .before .before .before .pre .1 .4) _ _ _ (c .before .size-list2 .ensures) in let e = c .join .ensures in (omega (arith, f .ands, g .ands, k .ands, ap (λ (z : GatesAt). z .ands) e), omega (arith, f .wides, g .wides, k .wides, c .before .before .before .before .before .before .before .before .before .before .pre .1 .4, ap (λ (z : GatesAt). z .wides) e))
 
 size-stmt-returns-2 : (t : ℕ) → size-stmt-lts.Need-returns-2 (size-stmt-claims t) (size-stmt-at t) size-stmt.Post
-size-stmt-returns-2 t c = if-joined _ _ _ _ _ (c .before .before .before .before .before .before .before .before .before .pre .1 .0) (c .before .before .before .before .before .match .rest .1) _ (c .before .before .before .before .size-bool .ensures) _ _ (c .before .before .before .size-list .ensures) _ _ _ (c .before .before .size-list2 .ensures) (c .before .join .ensures) (c .join2 .ensures)
+size-stmt-returns-2 t c = if-joined _ _ _ _ _ (c .before .before .before .before .before .before .before .before .before .before .before .pre .1 .0) (c .before .before .before .before .before .if3 .left) _ (c .before .before .before .before .size-bool .ensures) _ _ (c .before .before .before .size-list .ensures) _ _ _ (c .before .before .size-list2 .ensures) (c .before .join .ensures) (c .join2 .ensures)
+
+size-stmt-returns-3 : (t : ℕ) → size-stmt-lts.Need-returns-3 (size-stmt-claims t) (size-stmt-at t) size-stmt.Post
+size-stmt-returns-3 t c = absurd (stmt-unknown _ _ _ _ _ (c .before .before .before .before .pre .1 .0) (inl (c .if1 .taken)))
+
+size-stmt-returns-4 : (t : ℕ) → size-stmt-lts.Need-returns-4 (size-stmt-claims t) (size-stmt-at t) size-stmt.Post
+size-stmt-returns-4 t c = absurd (stmt-unknown _ _ _ _ _ (c .before .before .before .before .before .pre .1 .0) (inr (c .if2 .left)))
 
 pub +size-list+size-stmt-spec : {M : Type 1} → statement M
 +size-list+size-stmt-spec = close μ-size-list μ-size-stmt (λ t. size-list-lts.spec (
@@ -161,6 +168,7 @@ pub +size-list+size-stmt-spec : {M : Type 1} → statement M
     (size-stmt-shared-slice-read-op t)
     (size-stmt-add-size-assign t)
     (size-stmt-size-assign-requires t)
+    (size-stmt-returns t)
     (size-stmt-add-size-bool t)
     (size-stmt-size-bool-requires t)
     (size-stmt-sub-size-list t)
@@ -169,5 +177,6 @@ pub +size-list+size-stmt-spec : {M : Type 1} → statement M
     (size-stmt-size-list-requires-2 t)
     (size-stmt-join-requires t)
     (size-stmt-join-requires-2 t)
-    (size-stmt-returns t)
     (size-stmt-returns-2 t)
+    (size-stmt-returns-3 t)
+    (size-stmt-returns-4 t)

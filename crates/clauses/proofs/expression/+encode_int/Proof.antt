@@ -1,9 +1,12 @@
 use native.Mathlib.Omega.{arith}
-use mathlib.Core.Path.{_≡_, refl, sym, ap, subst, _∙_}
+use mathlib.Core.Path.{_≡_, sym, ap, subst, _∙_}
+use mathlib.Core.Logic.{inl, inr}
 use Prim.Native.Nat.{_+_, _-_, _*_}
 use lib.ListN.{getD}
 use Rattle.design.specs.Expression.{intExpr}
 use Rattle.design.specs.Check.{namesOf}
+use Rattle.step.specs.Accepted.{isRead}
+use Rattle.step.proofs.Values.{int-unknown}
 use Rattle.clauses.specs.Expression.{constantBits, integerAt, int! }
 use Rattle.clauses.specs.Piece.{arithmetic! }
 use Rattle.clauses.specs.FlatState.{slotsOf, layoutOf}
@@ -38,113 +41,92 @@ encode-int-below t =
 abbrev encode-int-claims : ℕ → encode-int-lts.Claims
 encode-int-claims t = (word-reads.Asked, word-reads.Learnt, constant-reads.Asked, constant-reads.Learnt, wide-reads.Asked, wide-reads.Learnt, load-variable-reads.Asked, load-variable-reads.Learnt, load-status-reads.Asked, load-status-reads.Learnt, encode-int-below t, encode-int.Post, arithmetic-reads.Asked, arithmetic-reads.Learnt)
 
--- src/expression.rt:177:14
 encode-int-shared-slice-read-op : (t : ℕ) → encode-int-lts.Need-shared-slice-read-op (encode-int-claims t) (encode-int-at t) encode-int.Post
 encode-int-shared-slice-read-op t c = omega (arith, int-live _ _ _ _ _ _ _ ((c .before .before .before .before .pre .1 .1) .reads), c .before .before .before .before .pre .1 .0 .0)
 
--- src/expression.rt:180:41
 encode-int-add-word : (t : ℕ) → encode-int-lts.Need-add-word (encode-int-claims t) (encode-int-at t) encode-int.Post
 encode-int-add-word t c = omega (arith, int-live _ _ _ _ _ _ _ ((c .before .before .before .before .before .pre .1 .1) .reads), c .before .before .before .before .before .pre .1 .0 .0)
 
--- src/expression.rt:180:30
 encode-int-word-requires : (t : ℕ) → encode-int-lts.Need-word-requires (encode-int-claims t) (encode-int-at t) encode-int.Post
 encode-int-word-requires t c κs = omega (arith, (read-constant _ _ _ _ _ _ _ ((c .before .before .before .before .before .pre .1 .1) .reads) (c .match .keys1)) .0, c .before .before .before .before .before .pre .1 .0 .0)
 
--- src/expression.rt:180:30
 encode-int-cast-constant : (t : ℕ) → encode-int-lts.Need-cast-constant (encode-int-claims t) (encode-int-at t) encode-int.Post
 encode-int-cast-constant t c = omega (arith, c .word .ensures .1)
 
--- src/expression.rt:180:17
 encode-int-constant-requires : (t : ℕ) → encode-int-lts.Need-constant-requires (encode-int-claims t) (encode-int-at t) encode-int.Post
 encode-int-constant-requires t c κs = tt
 
--- src/expression.rt:185:23
 encode-int-add-t25 : (t : ℕ) → encode-int-lts.Need-add-t25 (encode-int-claims t) (encode-int-at t) encode-int.Post
 encode-int-add-t25 t c = omega (arith, (read-constant _ _ _ _ _ _ _ ((c .before .before .before .before .before .before .before .pre .1 .1) .reads) (c .before .before .match .keys1)) .0, c .before .before .before .before .before .before .before .pre .1 .0 .0)
 
--- src/expression.rt:189:51
 encode-int-add-wide : (t : ℕ) → encode-int-lts.Need-add-wide (encode-int-claims t) (encode-int-at t) encode-int.Post
 encode-int-add-wide t c = omega (arith, int-live _ _ _ _ _ _ _ ((c .before .before .before .before .before .pre .1 .1) .reads), c .before .before .before .before .before .pre .1 .0 .0)
 
--- src/expression.rt:189:46
 encode-int-shared-slice-read-wide : (t : ℕ) → encode-int-lts.Need-shared-slice-read-wide (encode-int-claims t) (encode-int-at t) encode-int.Post
 encode-int-shared-slice-read-wide t c = omega (arith, (read-variable _ _ _ _ _ _ _ ((c .before .before .before .before .before .before .pre .1 .1) .reads) (c .before .match .keys2)) .0, c .before .before .before .before .before .before .pre .1 .0 .0)
 
--- src/expression.rt:189:41
 encode-int-wide-requires : (t : ℕ) → encode-int-lts.Need-wide-requires (encode-int-claims t) (encode-int-at t) encode-int.Post
 encode-int-wide-requires t c κs = tt
 
--- src/expression.rt:189:17
 encode-int-load-variable-requires : (t : ℕ) → encode-int-lts.Need-load-variable-requires (encode-int-claims t) (encode-int-at t) encode-int.Post
 encode-int-load-variable-requires t c κs = (c .before .before .before .before .before .before .before .pre .1 .0 .1, omega (arith, (read-variable _ _ _ _ _ _ _ ((c .before .before .before .before .before .before .before .pre .1 .1) .reads) (c .before .before .match .keys2)) .1, c .wide .ensures .0), subst (λ (v : ℕ). getD (c .before .before .before .before .before .before .before .args .file .now) (3 * v) 0 ≡ 1) (sym (c .wide .ensures .0)) ((read-variable _ _ _ _ _ _ _ ((c .before .before .before .before .before .before .before .pre .1 .1) .reads) (c .before .before .match .keys2)) .2))
 
--- src/expression.rt:194:23
 encode-int-add-t28 : (t : ℕ) → encode-int-lts.Need-add-t28 (encode-int-claims t) (encode-int-at t) encode-int.Post
 encode-int-add-t28 t c = omega (arith, (read-variable _ _ _ _ _ _ _ ((c .before .before .before .before .before .before .before .before .pre .1 .1) .reads) (c .before .before .before .match .keys2)) .0, c .before .before .before .before .before .before .before .before .pre .1 .0 .0)
 
--- src/expression.rt:198:49
 encode-int-add-wide-2 : (t : ℕ) → encode-int-lts.Need-add-wide-2 (encode-int-claims t) (encode-int-at t) encode-int.Post
 encode-int-add-wide-2 t c = omega (arith, int-live _ _ _ _ _ _ _ ((c .before .before .before .before .before .pre .1 .1) .reads), c .before .before .before .before .before .pre .1 .0 .0)
 
--- src/expression.rt:198:44
 encode-int-shared-slice-read-wide-2 : (t : ℕ) → encode-int-lts.Need-shared-slice-read-wide-2 (encode-int-claims t) (encode-int-at t) encode-int.Post
 encode-int-shared-slice-read-wide-2 t c = omega (arith, (read-status _ _ _ _ _ _ _ ((c .before .before .before .before .before .before .pre .1 .1) .reads) (c .before .match .keys3)) .0, c .before .before .before .before .before .before .pre .1 .0 .0)
 
--- src/expression.rt:198:39
 encode-int-wide-requires-2 : (t : ℕ) → encode-int-lts.Need-wide-requires-2 (encode-int-claims t) (encode-int-at t) encode-int.Post
 encode-int-wide-requires-2 t c κs = tt
 
--- src/expression.rt:198:17
 encode-int-load-status-requires : (t : ℕ) → encode-int-lts.Need-load-status-requires (encode-int-claims t) (encode-int-at t) encode-int.Post
 encode-int-load-status-requires t c κs = (c .before .before .before .before .before .before .before .pre .1 .0 .1, omega (arith, (read-status _ _ _ _ _ _ _ ((c .before .before .before .before .before .before .before .pre .1 .1) .reads) (c .before .before .match .keys3)) .1, c .wide2 .ensures .0))
 
--- src/expression.rt:203:23
 encode-int-add-t32 : (t : ℕ) → encode-int-lts.Need-add-t32 (encode-int-claims t) (encode-int-at t) encode-int.Post
 encode-int-add-t32 t c = omega (arith, (read-status _ _ _ _ _ _ _ ((c .before .before .before .before .before .before .before .before .pre .1 .1) .reads) (c .before .before .before .match .keys3)) .0, c .before .before .before .before .before .before .before .before .pre .1 .0 .0)
 
--- src/expression.rt:207:44
 encode-int-add-encode-int : (t : ℕ) → encode-int-lts.Need-add-encode-int (encode-int-claims t) (encode-int-at t) encode-int.Post
-encode-int-add-encode-int t c = omega (arith, int-live _ _ _ _ _ _ _ ((c .before .before .before .before .before .pre .1 .1) .reads), c .before .before .before .before .before .pre .1 .0 .0)
+encode-int-add-encode-int t c = omega (arith, int-live _ _ _ _ _ _ _ ((c .before .before .before .before .before .before .before .pre .1 .1) .reads), c .before .before .before .before .before .before .before .pre .1 .0 .0)
 
--- src/expression.rt:207:65
 encode-int-sub-encode-int : (t : ℕ) → encode-int-lts.Need-sub-encode-int (encode-int-claims t) (encode-int-at t) encode-int.Post
-encode-int-sub-encode-int t c = omega (arith, int-live _ _ _ _ _ _ _ ((c .before .before .before .before .before .pre .1 .1) .reads))
+encode-int-sub-encode-int t c = omega (arith, int-live _ _ _ _ _ _ _ ((c .before .before .before .before .before .before .before .pre .1 .1) .reads))
 
--- src/expression.rt:207:17
 encode-int-encode-int-requires : (t : ℕ) → encode-int-lts.Need-encode-int-requires (encode-int-claims t) (encode-int-at t) encode-int.Post
-encode-int-encode-int-requires t c κs = (omega (arith, int-live _ _ _ _ _ _ _ ((c .before .before .before .before .before .before .pre .1 .1) .reads), c .before .before .before .before .before .before .pre .0), (c .before .before .before .before .before .before .pre .1 .0, two-reads (read-arithmetic _ _ _ _ _ _ _ ((c .before .before .before .before .before .before .pre .1 .1) .reads) (c .before .match .rest .0 .0 .1) (c .before .match .rest .0 .1) (c .before .match .rest .1))))
+encode-int-encode-int-requires t c κs = (omega (arith, int-live _ _ _ _ _ _ _ ((c .before .before .before .before .before .before .before .before .pre .1 .1) .reads), c .before .before .before .before .before .before .before .before .pre .0), (c .before .before .before .before .before .before .before .before .pre .1 .0, two-reads (read-arithmetic _ _ _ _ _ _ _ ((c .before .before .before .before .before .before .before .before .pre .1 .1) .reads) (c .before .before .before .match .rest .0 .0 .1) (c .before .before .before .match .rest .0 .1) (c .before .before .before .match .rest .1))))
 
--- src/expression.rt:215:17
 encode-int-sub-encode-int-2 : (t : ℕ) → encode-int-lts.Need-sub-encode-int-2 (encode-int-claims t) (encode-int-at t) encode-int.Post
-encode-int-sub-encode-int-2 t c = omega (arith, int-live _ _ _ _ _ _ _ ((c .before .before .before .before .before .before .before .before .pre .1 .1) .reads))
+encode-int-sub-encode-int-2 t c = omega (arith, int-live _ _ _ _ _ _ _ ((c .before .before .before .before .before .before .before .before .before .before .pre .1 .1) .reads))
 
--- src/expression.rt:208:17
 encode-int-encode-int-requires-2 : (t : ℕ) → encode-int-lts.Need-encode-int-requires-2 (encode-int-claims t) (encode-int-at t) encode-int.Post
-encode-int-encode-int-requires-2 t c κs = (omega (arith, int-live _ _ _ _ _ _ _ ((c .before .before .before .before .before .before .before .before .before .pre .1 .1) .reads), c .before .before .before .before .before .before .before .before .before .pre .0), (c .before .before .before .before .before .before .before .before .before .pre .1 .0, two-then (read-arithmetic _ _ _ _ _ _ _ ((c .before .before .before .before .before .before .before .before .before .pre .1 .1) .reads) (c .before .before .before .before .match .rest .0 .0 .1) (c .before .before .before .before .match .rest .0 .1) (c .before .before .before .before .match .rest .1)) (c .before .before .encode-int .ensures _ _ ((read-arithmetic _ _ _ _ _ _ _ ((c .before .before .before .before .before .before .before .before .before .pre .1 .1) .reads) (c .before .before .before .before .match .rest .0 .0 .1) (c .before .before .before .before .match .rest .0 .1) (c .before .before .before .before .match .rest .1)) .reads) .1)))
+encode-int-encode-int-requires-2 t c κs = (omega (arith, int-live _ _ _ _ _ _ _ ((c .before .before .before .before .before .before .before .before .before .before .before .pre .1 .1) .reads), c .before .before .before .before .before .before .before .before .before .before .before .pre .0), (c .before .before .before .before .before .before .before .before .before .before .before .pre .1 .0, two-then (read-arithmetic _ _ _ _ _ _ _ ((c .before .before .before .before .before .before .before .before .before .before .before .pre .1 .1) .reads) (c .before .before .before .before .before .before .match .rest .0 .0 .1) (c .before .before .before .before .before .before .match .rest .0 .1) (c .before .before .before .before .before .before .match .rest .1)) (c .before .before .encode-int .ensures _ _ ((read-arithmetic _ _ _ _ _ _ _ ((c .before .before .before .before .before .before .before .before .before .before .before .pre .1 .1) .reads) (c .before .before .before .before .before .before .match .rest .0 .0 .1) (c .before .before .before .before .before .before .match .rest .0 .1) (c .before .before .before .before .before .before .match .rest .1)) .reads) .1)))
 
--- src/expression.rt:223:17
 encode-int-arithmetic-requires : (t : ℕ) → encode-int-lts.Need-arithmetic-requires (encode-int-claims t) (encode-int-at t) encode-int.Post
 encode-int-arithmetic-requires t c κs = tt
 
--- src/expression.rt:160:1
 encode-int-returns : (t : ℕ) → encode-int-lts.Need-returns (encode-int-claims t) (encode-int-at t) encode-int.Post
 encode-int-returns t c = λ e n h. let k = read-constant _ _ _ _ _ e n h (c .before .before .match .keys1) in leaf-emits (intExpr (c .before .before .before .before .before .before .before .args .text .now) (namesOf (c .before .before .before .before .before .before .before .args .file .now) (c .before .before .before .before .before .before .before .args .nv) (c .before .before .before .before .before .before .before .args .nm)) (c .before .before .before .before .before .before .before .args .end) (c .before .before .before .before .before .before .before .args .depth)) (int! (layoutOf (c .before .before .before .before .before .before .before .args .nv)) (slotsOf (c .before .before .before .before .before .before .before .args .file .now) (c .before .before .before .before .before .before .before .args .nv) (c .before .before .before .before .before .before .before .args .nm) (c .before .before .before .before .before .before .before .args .bits .now))) _ _ h (k .1) (constant-give _ _ _) (c .constant .ensures ∙ ap (constantBits 16) (c .before .word .ensures .0)) (sym (k .2))
 
--- src/expression.rt:160:1
 encode-int-returns-2 : (t : ℕ) → encode-int-lts.Need-returns-2 (encode-int-claims t) (encode-int-at t) encode-int.Post
 encode-int-returns-2 t c = λ e n h. let k = read-variable _ _ _ _ _ e n h (c .before .before .before .match .keys2) in leaf-emits (intExpr (c .before .before .before .before .before .before .before .before .args .text .now) (namesOf (c .before .before .before .before .before .before .before .before .args .file .now) (c .before .before .before .before .before .before .before .before .args .nv) (c .before .before .before .before .before .before .before .before .args .nm)) (c .before .before .before .before .before .before .before .before .args .end) (c .before .before .before .before .before .before .before .before .args .depth)) (int! (layoutOf (c .before .before .before .before .before .before .before .before .args .nv)) (slotsOf (c .before .before .before .before .before .before .before .before .args .file .now) (c .before .before .before .before .before .before .before .before .args .nv) (c .before .before .before .before .before .before .before .before .args .nm) (c .before .before .before .before .before .before .before .before .args .bits .now))) _ _ h (k .3) (variable-give _ _ _) (c .load-variable .ensures ∙ ap (integerAt (slotsOf (c .before .before .before .before .before .before .before .before .args .file .now) (c .before .before .before .before .before .before .before .before .args .nv) (c .before .before .before .before .before .before .before .before .args .nm) (c .before .before .before .before .before .before .before .before .args .bits .now))) (c .before .wide .ensures .0)) (sym (k .4))
 
--- src/expression.rt:160:1
 encode-int-returns-3 : (t : ℕ) → encode-int-lts.Need-returns-3 (encode-int-claims t) (encode-int-at t) encode-int.Post
 encode-int-returns-3 t c = λ e n h. let k = read-status _ _ _ _ _ e n h (c .before .before .before .match .keys3) in leaf-emits (intExpr (c .before .before .before .before .before .before .before .before .args .text .now) (namesOf (c .before .before .before .before .before .before .before .before .args .file .now) (c .before .before .before .before .before .before .before .before .args .nv) (c .before .before .before .before .before .before .before .before .args .nm)) (c .before .before .before .before .before .before .before .before .args .end) (c .before .before .before .before .before .before .before .before .args .depth)) (int! (layoutOf (c .before .before .before .before .before .before .before .before .args .nv)) (slotsOf (c .before .before .before .before .before .before .before .before .args .file .now) (c .before .before .before .before .before .before .before .before .args .nv) (c .before .before .before .before .before .before .before .before .args .nm) (c .before .before .before .before .before .before .before .before .args .bits .now))) _ _ h (k .2) (status-give _ _ _) (c .load-status .ensures ∙ ap (λ (m : ℕ). integerAt (slotsOf (c .before .before .before .before .before .before .before .before .args .file .now) (c .before .before .before .before .before .before .before .before .args .nv) (c .before .before .before .before .before .before .before .before .args .nm) (c .before .before .before .before .before .before .before .before .args .bits .now)) (c .before .before .before .before .before .before .before .before .args .nv + m)) (c .before .wide2 .ensures .0)) (sym (k .3))
 
--- src/expression.rt:160:1
 encode-int-same-length : (t : ℕ) → encode-int-lts.Need-same-length (encode-int-claims t) (encode-int-at t) encode-int.Post
 encode-int-same-length t c = omega arith
 
--- src/expression.rt:160:1
 encode-int-returns-4 : (t : ℕ) → encode-int-lts.Need-returns-4 (encode-int-claims t) (encode-int-at t) encode-int.Post
-encode-int-returns-4 t c = λ e n h. let p = read-arithmetic _ _ _ _ _ e n h (c .before .before .before .before .before .before .before .before .before .before .before .before .match .rest .0 .0 .1) (c .before .before .before .before .before .before .before .before .before .before .before .before .match .rest .0 .1) (c .before .before .before .before .before .before .before .before .before .before .before .before .match .rest .1) in two-emits (intExpr (c .before .before .before .before .before .before .before .before .before .before .before .before .before .before .before .before .before .args .text .now) (namesOf (c .before .before .before .before .before .before .before .before .before .before .before .before .before .before .before .before .before .args .file .now) (c .before .before .before .before .before .before .before .before .before .before .before .before .before .before .before .before .before .args .nv) (c .before .before .before .before .before .before .before .before .before .before .before .before .before .before .before .before .before .args .nm)) (c .before .before .before .before .before .before .before .before .before .before .before .before .before .before .before .before .before .args .end) (c .before .before .before .before .before .before .before .before .before .before .before .before .before .before .before .before .before .args .depth - 1)) (arithmeticOf (getD (c .before .before .before .before .before .before .before .before .before .before .before .before .before .before .before .before .before .args .text .now) (c .before .before .before .before .before .before .before .before .before .before .before .before .before .before .before .before .before .args .at) 0)) (int! (layoutOf (c .before .before .before .before .before .before .before .before .before .before .before .before .before .before .before .before .before .args .nv)) (slotsOf (c .before .before .before .before .before .before .before .before .before .before .before .before .before .before .before .before .before .args .file .now) (c .before .before .before .before .before .before .before .before .before .before .before .before .before .before .before .before .before .args .nv) (c .before .before .before .before .before .before .before .before .before .before .before .before .before .before .before .before .before .args .nm) (c .before .before .before .before .before .before .before .before .before .before .before .before .before .before .before .before .before .args .bits .now))) (int! (layoutOf (c .before .before .before .before .before .before .before .before .before .before .before .before .before .before .before .before .before .args .nv)) (slotsOf (c .before .before .before .before .before .before .before .before .before .before .before .before .before .before .before .before .before .args .file .now) (c .before .before .before .before .before .before .before .before .before .before .before .before .before .before .before .before .before .args .nv) (c .before .before .before .before .before .before .before .before .before .before .before .before .before .before .before .before .before .args .nm) (c .before .before .before .before .before .before .before .before .before .before .before .before .before .before .before .before .before .args .bits .now))) (arithmetic! (getD (c .before .before .before .before .before .before .before .before .before .before .before .before .before .before .before .before .before .args .text .now) (c .before .before .before .before .before .before .before .before .before .before .before .before .before .before .before .before .before .args .at) 0)) (arithmetic-tree (layoutOf (c .before .before .before .before .before .before .before .before .before .before .before .before .before .before .before .before .before .args .nv)) (slotsOf (c .before .before .before .before .before .before .before .before .before .before .before .before .before .before .before .before .before .args .file .now) (c .before .before .before .before .before .before .before .before .before .before .before .before .before .before .before .before .before .args .nv) (c .before .before .before .before .before .before .before .before .before .before .before .before .before .before .before .before .before .args .nm) (c .before .before .before .before .before .before .before .before .before .before .before .before .before .before .before .before .before .args .bits .now)) (getD (c .before .before .before .before .before .before .before .before .before .before .before .before .before .before .before .before .before .args .text .now) (c .before .before .before .before .before .before .before .before .before .before .before .before .before .before .before .before .before .args .at) 0)) p (c .before .before .before .before .before .before .before .before .before .before .encode-int .ensures) (c .before .before .before .before .before .before .before .encode-int2 .ensures) (c .before .before .arithmetic .ensures)
+encode-int-returns-4 t c = λ e n h. let p = read-arithmetic _ _ _ _ _ e n h (c .before .before .before .before .before .before .before .before .before .before .before .before .before .before .match .rest .0 .0 .1) (c .before .before .before .before .before .before .before .before .before .before .before .before .before .before .match .rest .0 .1) (c .before .before .before .before .before .before .before .before .before .before .before .before .before .before .match .rest .1) in two-emits (intExpr (c .before .before .before .before .before .before .before .before .before .before .before .before .before .before .before .before .before .before .before .args .text .now) (namesOf (c .before .before .before .before .before .before .before .before .before .before .before .before .before .before .before .before .before .before .before .args .file .now) (c .before .before .before .before .before .before .before .before .before .before .before .before .before .before .before .before .before .before .before .args .nv) (c .before .before .before .before .before .before .before .before .before .before .before .before .before .before .before .before .before .before .before .args .nm)) (c .before .before .before .before .before .before .before .before .before .before .before .before .before .before .before .before .before .before .before .args .end) (c .before .before .before .before .before .before .before .before .before .before .before .before .before .before .before .before .before .before .before .args .depth - 1)) (arithmeticOf (getD (c .before .before .before .before .before .before .before .before .before .before .before .before .before .before .before .before .before .before .before .args .text .now) (c .before .before .before .before .before .before .before .before .before .before .before .before .before .before .before .before .before .before .before .args .at) 0)) (int! (layoutOf (c .before .before .before .before .before .before .before .before .before .before .before .before .before .before .before .before .before .before .before .args .nv)) (slotsOf (c .before .before .before .before .before .before .before .before .before .before .before .before .before .before .before .before .before .before .before .args .file .now) (c .before .before .before .before .before .before .before .before .before .before .before .before .before .before .before .before .before .before .before .args .nv) (c .before .before .before .before .before .before .before .before .before .before .before .before .before .before .before .before .before .before .before .args .nm) (c .before .before .before .before .before .before .before .before .before .before .before .before .before .before .before .before .before .before .before .args .bits .now))) (int! (layoutOf (c .before .before .before .before .before .before .before .before .before .before .before .before .before .before .before .before .before .before .before .args .nv)) (slotsOf (c .before .before .before .before .before .before .before .before .before .before .before .before .before .before .before .before .before .before .before .args .file .now) (c .before .before .before .before .before .before .before .before .before .before .before .before .before .before .before .before .before .before .before .args .nv) (c .before .before .before .before .before .before .before .before .before .before .before .before .before .before .before .before .before .before .before .args .nm) (c .before .before .before .before .before .before .before .before .before .before .before .before .before .before .before .before .before .before .before .args .bits .now))) (arithmetic! (getD (c .before .before .before .before .before .before .before .before .before .before .before .before .before .before .before .before .before .before .before .args .text .now) (c .before .before .before .before .before .before .before .before .before .before .before .before .before .before .before .before .before .before .before .args .at) 0)) (arithmetic-tree (layoutOf (c .before .before .before .before .before .before .before .before .before .before .before .before .before .before .before .before .before .before .before .args .nv)) (slotsOf (c .before .before .before .before .before .before .before .before .before .before .before .before .before .before .before .before .before .before .before .args .file .now) (c .before .before .before .before .before .before .before .before .before .before .before .before .before .before .before .before .before .before .before .args .nv) (c .before .before .before .before .before .before .before .before .before .before .before .before .before .before .before .before .before .before .before .args .nm) (c .before .before .before .before .before .before .before .before .before .before .before .before .before .before .before .before .before .before .before .args .bits .now)) (getD (c .before .before .before .before .before .before .before .before .before .before .before .before .before .before .before .before .before .before .before .args .text .now) (c .before .before .before .before .before .before .before .before .before .before .before .before .before .before .before .before .before .before .before .args .at) 0)) p (c .before .before .before .before .before .before .before .before .before .before .encode-int .ensures) (c .before .before .before .before .before .before .before .encode-int2 .ensures) (c .before .before .arithmetic .ensures)
+
+encode-int-returns-5 : (t : ℕ) → encode-int-lts.Need-returns-5 (encode-int-claims t) (encode-int-at t) encode-int.Post
+encode-int-returns-5 t c = absurd (int-unknown _ _ _ _ _ (ap isRead (c .before .before .before .before .before .before .pre .1 .1 .reads)) (inl (omega arith)))
+
+encode-int-returns-6 : (t : ℕ) → encode-int-lts.Need-returns-6 (encode-int-claims t) (encode-int-at t) encode-int.Post
+encode-int-returns-6 t c = absurd (int-unknown _ _ _ _ _ (ap isRead (c .before .before .before .before .before .before .before .pre .1 .1 .reads)) (inr (omega arith)))
 
 pub +encode-int-spec : {M : Type 1} → statement M
 +encode-int-spec = close μ-encode-int λ t. encode-int-lts.spec (
@@ -192,3 +174,5 @@ pub +encode-int-spec : {M : Type 1} → statement M
     (encode-int-returns-3 t)
     (encode-int-same-length t)
     (encode-int-returns-4 t)
+    (encode-int-returns-5 t)
+    (encode-int-returns-6 t)

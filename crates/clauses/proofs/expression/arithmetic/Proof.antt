@@ -8,27 +8,21 @@ use Rattle.clauses.proofs.expression.arithmetic.Lts as lts
 use Rattle.clauses.proofs.circuit.difference.Reads as difference-reads
 use Rattle.clauses.proofs.circuit.sum.Reads as sum-reads
 
--- src/expression.rt:106:9
 sum-requires : tie.Need-sum-requires
 sum-requires c κs = search needs
 
--- src/expression.rt:108:9
 difference-requires : tie.Need-difference-requires
 difference-requires c κs = search needs
 
--- src/expression.rt:102:1
 same-length : tie.Need-same-length
 same-length c = search needs
 
--- src/expression.rt:102:1
 returns : tie.Need-returns
 returns c = sum-emits _ _ _ _ _ (c .before .before .before .if1 .taken) code-no (c .before .sum .ensures)
 
--- src/expression.rt:102:1
 same-length-2 : tie.Need-same-length-2
 same-length-2 c = search needs
 
--- src/expression.rt:102:1
 returns-2 : tie.Need-returns-2
 returns-2 c = minus-emits _ _ _ _ (c .before .before .before .if1 .left) (c .before .difference .ensures)
 

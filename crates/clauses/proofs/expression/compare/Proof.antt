@@ -9,27 +9,21 @@ use Rattle.clauses.proofs.expression.compare.Lts as lts
 use Rattle.clauses.proofs.circuit.equal.Reads as equal-reads
 use Rattle.clauses.proofs.circuit.less.Reads as less-reads
 
--- src/expression.rt:126:9
 equal-requires : tie.Need-equal-requires
 equal-requires c κs = search needs
 
--- src/expression.rt:128:9
 less-requires : tie.Need-less-requires
 less-requires c κs = search needs
 
--- src/expression.rt:122:1
 same-length : tie.Need-same-length
 same-length c = search needs
 
--- src/expression.rt:122:1
 returns : tie.Need-returns
 returns c = emits-same _ _ (sym (compare-equal _ _ _ _ (c .before .before .before .if1 .taken))) (c .before .equal .ensures)
 
--- src/expression.rt:122:1
 same-length-2 : tie.Need-same-length-2
 same-length-2 c = search needs
 
--- src/expression.rt:122:1
 returns-2 : tie.Need-returns-2
 returns-2 c = emits-same _ _ (sym (compare-less _ _ _ _ (c .before .before .before .if1 .left))) (c .before .less .ensures)
 

@@ -14,35 +14,27 @@ Inv-loop x out₀ n₀ i₀ out n i = Counting x out n i
 abbrev μ-loop : tie.MeasureT-loop
 μ-loop x out₀ n₀ i₀ out n i = 16 - i
 
--- src/expression.rt:94:5
 loop-holds : tie.Need-loop-holds Inv-loop μ-loop
 loop-holds c = counting-start _ _ refl
 
--- src/expression.rt:95:18
 truth-code-requires : tie.Need-truth-code-requires Inv-loop μ-loop
 truth-code-requires c κs = tt
 
--- src/expression.rt:95:9
 mul-out : tie.Need-mul-out Inv-loop μ-loop
 mul-out c = omega arith
 
--- src/expression.rt:95:9
 array-write-out : tie.Need-array-write-out Inv-loop μ-loop
 array-write-out c = omega arith
 
--- src/expression.rt:97:13
 add-i : tie.Need-add-i Inv-loop μ-loop
 add-i c = omega arith
 
--- src/expression.rt:94:5
 loop-less : tie.Need-loop-less Inv-loop μ-loop
 loop-less c = omega arith
 
--- src/expression.rt:94:5
 loop-again : tie.Need-loop-again Inv-loop μ-loop
 loop-again c = counting-on _ _ _ _ _ (c .before .loop-test .taken) (c .truth-code .ensures) (c .before .before .loop .inv)
 
--- src/expression.rt:88:1
 returns : tie.Need-returns Inv-loop μ-loop
 returns c = counting-end _ _ _ _ (c .loop-test .left) (c .before .loop .inv)
 

@@ -12,43 +12,33 @@ Inv-loop bits off w out₀ i₀ out i = Loading bits off w out i
 abbrev μ-loop : tie.MeasureT-loop
 μ-loop bits off w out₀ i₀ out i = w - i
 
--- src/expression.rt:74:5
 loop-holds : tie.Need-loop-holds Inv-loop μ-loop
 loop-holds c = loading-start _ _ _
 
--- src/expression.rt:75:23
 add-out : tie.Need-add-out Inv-loop μ-loop
 add-out c = omega arith
 
--- src/expression.rt:75:18
 mul-out : tie.Need-mul-out Inv-loop μ-loop
 mul-out c = omega arith
 
--- src/expression.rt:75:18
 shared-slice-read-out : tie.Need-shared-slice-read-out Inv-loop μ-loop
 shared-slice-read-out c = omega arith
 
--- src/expression.rt:75:9
 mul-out-2 : tie.Need-mul-out-2 Inv-loop μ-loop
 mul-out-2 c = omega arith
 
--- src/expression.rt:75:9
 array-write-out : tie.Need-array-write-out Inv-loop μ-loop
 array-write-out c = omega arith
 
--- src/expression.rt:76:13
 add-i : tie.Need-add-i Inv-loop μ-loop
 add-i c = omega arith
 
--- src/expression.rt:74:5
 loop-less : tie.Need-loop-less Inv-loop μ-loop
 loop-less c = omega arith
 
--- src/expression.rt:74:5
 loop-again : tie.Need-loop-again Inv-loop μ-loop
 loop-again c = loading-on _ _ _ _ _ (c .before .before .before .pre .0) (c .before .before .before .pre .1) (c .before .loop-test .taken) (c .before .before .loop .inv)
 
--- src/expression.rt:68:1
 returns : tie.Need-returns Inv-loop μ-loop
 returns c = loading-end _ _ _ _ _ (c .before .before .pre .0) (c .before .before .pre .1) (c .loop-test .left) (c .before .loop .inv)
 

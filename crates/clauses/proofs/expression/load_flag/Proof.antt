@@ -1,5 +1,5 @@
 use native.Mathlib.Omega.{arith}
-use mathlib.Core.Path.{refl, sym, ap, _∙_}
+use mathlib.Core.Path.{sym, ap, _∙_}
 use Rattle.clauses.specs.Expression.{lowest}
 use Rattle.clauses.proofs.EmitSlots.{variable-slot, variable-room, boolean-width, lowest-one}
 use borrow.Author.Needs.{needs}
@@ -9,19 +9,15 @@ use Rattle.clauses.proofs.expression.load_flag.Reads as reads
 use Rattle.clauses.proofs.expression.load_flag.Lts as lts
 use Rattle.clauses.proofs.expression.offset.Reads as offset-reads
 
--- src/expression.rt:155:9
 offset-requires : tie.Need-offset-requires
 offset-requires c κs = search needs
 
--- src/expression.rt:156:5
 mul-result : tie.Need-mul-result
 mul-result c = omega (arith, variable-room (c .before .before .before .args .file .now) (c .before .before .before .args .nv) (c .before .before .before .args .nm) (c .before .before .before .args .v) (c .offset .result) 1 (c .before .before .before .pre .1) (c .offset .ensures) (boolean-width (c .before .before .before .args .file .now) (c .before .before .before .args .v) (c .before .before .before .pre .2)), c .before .before .before .pre .0)
 
--- src/expression.rt:156:5
 shared-slice-read-result : tie.Need-shared-slice-read-result
 shared-slice-read-result c = omega (arith, variable-room (c .before .before .before .before .args .file .now) (c .before .before .before .before .args .nv) (c .before .before .before .before .args .nm) (c .before .before .before .before .args .v) (c .before .offset .result) 1 (c .before .before .before .before .pre .1) (c .before .offset .ensures) (boolean-width (c .before .before .before .before .args .file .now) (c .before .before .before .before .args .v) (c .before .before .before .before .pre .2)), c .before .before .before .before .pre .0)
 
--- src/expression.rt:151:1
 returns : tie.Need-returns
 returns c = sym (lowest-one (c .before .before .before .before .args .bits .now) (c .before .offset .result) (let h = variable-room (c .before .before .before .before .args .file .now) (c .before .before .before .before .args .nv) (c .before .before .before .before .args .nm) (c .before .before .before .before .args .v) (c .before .offset .result) 1 (c .before .before .before .before .pre .1) (c .before .offset .ensures) (boolean-width (c .before .before .before .before .args .file .now) (c .before .before .before .before .args .v) (c .before .before .before .before .pre .2)) in let k = c .before .before .before .before .pre .0 .bits in omega arith)) ∙ ap lowest (sym (variable-slot (c .before .before .before .before .args .file .now) (c .before .before .before .before .args .nv) (c .before .before .before .before .args .nm) (c .before .before .before .before .args .bits .now) (c .before .before .before .before .args .v) (c .before .offset .result) 1 (c .before .before .before .before .pre .1) (c .before .offset .ensures) (boolean-width (c .before .before .before .before .args .file .now) (c .before .before .before .before .args .v) (c .before .before .before .before .pre .2))))
 

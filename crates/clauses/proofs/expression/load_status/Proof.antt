@@ -1,6 +1,6 @@
 use native.Mathlib.Omega.{arith}
 use Prim.Native.Nat.{ℕ, _+_, _*_}
-use mathlib.Core.Path.{refl, sym, ap, _∙_}
+use mathlib.Core.Path.{sym, ap, _∙_}
 use Rattle.clauses.specs.Expression.{pad}
 use Rattle.clauses.proofs.EmitSlots.{status-slot, status-room}
 use borrow.Author.Needs.{needs}
@@ -11,23 +11,18 @@ use Rattle.clauses.proofs.expression.load_status.Lts as lts
 use Rattle.clauses.proofs.expression.load.Reads as load-reads
 use Rattle.clauses.proofs.expression.offset.Reads as offset-reads
 
--- src/expression.rt:146:13
 offset-requires : tie.Need-offset-requires
 offset-requires c κs = search needs
 
--- src/expression.rt:146:32
 mul-o : tie.Need-mul-o
 mul-o c = search needs
 
--- src/expression.rt:146:13
 add-o : tie.Need-add-o
 add-o c = omega (arith, status-room (c .before .before .before .args .file .now) (c .before .before .before .args .nv) (c .before .before .before .args .nm) (c .before .before .before .args .m) _ (c .before .before .before .pre .1) (ap (λ (j : ℕ). j + 4 * (c .before .before .before .args .m)) (c .offset .ensures)), c .before .before .before .pre .0)
 
--- src/expression.rt:147:5
 load-requires : tie.Need-load-requires
 load-requires c κs = omega (arith, status-room (c .before .before .before .args .file .now) (c .before .before .before .args .nv) (c .before .before .before .args .nm) (c .before .before .before .args .m) _ (c .before .before .before .pre .1) (ap (λ (j : ℕ). j + 4 * (c .before .before .before .args .m)) (c .offset .ensures)), c .before .before .before .pre .0)
 
--- src/expression.rt:142:1
 returns : tie.Need-returns
 returns c = c .load .ensures ∙ ap (pad 16) (sym (status-slot _ _ _ _ _ _ (c .before .before .before .before .pre .1) (ap (λ (j : ℕ). j + 4 * (c .before .before .before .before .args .m)) (c .before .offset .ensures))))
 

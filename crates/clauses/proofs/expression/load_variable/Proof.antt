@@ -1,5 +1,5 @@
 use native.Mathlib.Omega.{arith}
-use mathlib.Core.Path.{refl, sym, ap, _∙_}
+use mathlib.Core.Path.{sym, ap, _∙_}
 use Rattle.clauses.specs.Expression.{pad}
 use Rattle.clauses.proofs.EmitSlots.{variable-slot, variable-room, integer-width}
 use borrow.Author.Needs.{needs}
@@ -10,15 +10,12 @@ use Rattle.clauses.proofs.expression.load_variable.Lts as lts
 use Rattle.clauses.proofs.expression.load.Reads as load-reads
 use Rattle.clauses.proofs.expression.offset.Reads as offset-reads
 
--- src/expression.rt:137:9
 offset-requires : tie.Need-offset-requires
 offset-requires c κs = search needs
 
--- src/expression.rt:138:5
 load-requires : tie.Need-load-requires
 load-requires c κs = omega (arith, variable-room (c .before .before .before .args .file .now) (c .before .before .before .args .nv) (c .before .before .before .args .nm) (c .before .before .before .args .v) (c .offset .result) 16 (c .before .before .before .pre .1) (c .offset .ensures) (integer-width (c .before .before .before .args .file .now) (c .before .before .before .args .v) (c .before .before .before .pre .2)), c .before .before .before .pre .0)
 
--- src/expression.rt:133:1
 returns : tie.Need-returns
 returns c = c .load .ensures ∙ ap (pad 16) (sym (variable-slot _ _ _ _ _ _ _ (c .before .before .before .before .pre .1) (c .before .offset .ensures) (integer-width (c .before .before .before .before .args .file .now) (c .before .before .before .before .args .v) (c .before .before .before .before .pre .2))))
 

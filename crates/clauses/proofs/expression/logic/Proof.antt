@@ -9,27 +9,21 @@ use Rattle.clauses.proofs.expression.logic.Lts as lts
 use Rattle.clauses.proofs.gate.emit_and.Reads as emit-and-reads
 use Rattle.clauses.proofs.gate.emit_or.Reads as emit-or-reads
 
--- src/expression.rt:116:9
 emit-and-requires : tie.Need-emit-and-requires
 emit-and-requires c κs = search needs
 
--- src/expression.rt:118:9
 emit-or-requires : tie.Need-emit-or-requires
 emit-or-requires c κs = search needs
 
--- src/expression.rt:112:1
 same-length : tie.Need-same-length
 same-length c = search needs
 
--- src/expression.rt:112:1
 returns : tie.Need-returns
 returns c = emits-same _ _ (sym (logic-and _ _ _ _ (c .before .before .before .if1 .taken))) (c .before .emit-and .ensures)
 
--- src/expression.rt:112:1
 same-length-2 : tie.Need-same-length-2
 same-length-2 c = search needs
 
--- src/expression.rt:112:1
 returns-2 : tie.Need-returns-2
 returns-2 c = emits-same _ _ (sym (logic-or _ _ _ _ (c .before .before .before .if1 .left))) (c .before .emit-or .ensures)
 

@@ -13,39 +13,30 @@ Inv-loop file v bits₀ i₀ bits i = Adding file v bits i
 abbrev μ-loop : tie.MeasureT-loop
 μ-loop file v bits₀ i₀ bits i = v - i
 
--- src/expression.rt:60:5
 loop-holds : tie.Need-loop-holds Inv-loop μ-loop
 loop-holds c = adding-start _ _
 
--- src/expression.rt:61:34
 mul-width : tie.Need-mul-width Inv-loop μ-loop
 mul-width c = omega arith
 
--- src/expression.rt:61:29
 shared-slice-read-width : tie.Need-shared-slice-read-width Inv-loop μ-loop
 shared-slice-read-width c = omega arith
 
--- src/expression.rt:61:23
 width-requires : tie.Need-width-requires Inv-loop μ-loop
 width-requires c κs = tt
 
--- src/expression.rt:61:16
 add-bits : tie.Need-add-bits Inv-loop μ-loop
 add-bits c = omega (arith, wd-bound (c .before .before .before .before .before .args .file .now) (c .before .before .before .loop .i) (c .width .result) (c .width .ensures))
 
--- src/expression.rt:62:13
 add-i : tie.Need-add-i Inv-loop μ-loop
 add-i c = omega arith
 
--- src/expression.rt:60:5
 loop-less : tie.Need-loop-less Inv-loop μ-loop
 loop-less c = omega arith
 
--- src/expression.rt:60:5
 loop-again : tie.Need-loop-again Inv-loop μ-loop
 loop-again c = adding-on _ _ _ _ _ (c .before .before .loop-test .taken) (c .width .ensures) (c .before .before .before .loop .inv)
 
--- src/expression.rt:54:1
 returns : tie.Need-returns Inv-loop μ-loop
 returns c = adding-end _ _ _ _ (c .loop-test .left) (c .before .loop .inv)
 

@@ -4,11 +4,9 @@ use Rattle.clauses.proofs.expression.truth_code.Tie as tie
 use Rattle.clauses.proofs.expression.truth_code.Reads as reads
 use Rattle.clauses.proofs.expression.truth_code.Lts as lts
 
--- src/expression.rt:81:1
 returns : tie.Need-returns
 returns c = truth-no _ (c .if1 .taken)
 
--- src/expression.rt:81:1
 returns-2 : tie.Need-returns-2
 returns-2 c = truth-yes _ (c .if1 .left)
 

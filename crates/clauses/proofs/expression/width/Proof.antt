@@ -1,17 +1,12 @@
-use mathlib.Core.Path.{ap}
-use mathlib.Core.Bool.{Bool, cond}
-use Prim.Native.Nat.{ℕ}
 use borrow.Author.Tests.{eq-eqb, ne-eqb}
 use Rattle.clauses.proofs.expression.width.Statement.{statement}
 use Rattle.clauses.proofs.expression.width.Tie as tie
 use Rattle.clauses.proofs.expression.width.Reads as reads
 use Rattle.clauses.proofs.expression.width.Lts as lts
 
--- src/expression.rt:47:1
 returns : tie.Need-returns
 returns c = simp (eq-eqb _ _ (c .if1 .taken))
 
--- src/expression.rt:47:1
 returns-2 : tie.Need-returns-2
 returns-2 c = simp (ne-eqb _ _ (c .if1 .left))
 

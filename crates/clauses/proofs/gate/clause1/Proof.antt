@@ -7,19 +7,15 @@ use Rattle.clauses.proofs.gate.clause1.Lts as lts
 use Rattle.clauses.proofs.literal.put_end.Reads as put-end-reads
 use Rattle.clauses.proofs.literal.put_literal.Reads as put-literal-reads
 
--- src/gate.rt:22:9
 put-literal-requires : tie.Need-put-literal-requires
 put-literal-requires c κs = search needs
 
--- src/gate.rt:23:5
 put-end-requires : tie.Need-put-end-requires
 put-end-requires c κs = search needs
 
--- src/gate.rt:19:1
 same-length : tie.Need-same-length
 same-length c = search needs
 
--- src/gate.rt:19:1
 returns : tie.Need-returns
 returns c = puts-then (c .before .before .before .before .put-literal .ensures) (c .before .put-end .ensures)
 

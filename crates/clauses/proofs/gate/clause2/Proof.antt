@@ -7,19 +7,15 @@ use Rattle.clauses.proofs.gate.clause2.Lts as lts
 use Rattle.clauses.proofs.gate.clause1.Reads as clause1-reads
 use Rattle.clauses.proofs.literal.put_literal.Reads as put-literal-reads
 
--- src/gate.rt:29:9
 put-literal-requires : tie.Need-put-literal-requires
 put-literal-requires c κs = search needs
 
--- src/gate.rt:30:5
 clause1-requires : tie.Need-clause1-requires
 clause1-requires c κs = search needs
 
--- src/gate.rt:26:1
 same-length : tie.Need-same-length
 same-length c = search needs
 
--- src/gate.rt:26:1
 returns : tie.Need-returns
 returns c = puts-then (c .before .before .before .before .put-literal .ensures) (c .before .clause1 .ensures)
 

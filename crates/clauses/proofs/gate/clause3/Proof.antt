@@ -7,19 +7,15 @@ use Rattle.clauses.proofs.gate.clause3.Lts as lts
 use Rattle.clauses.proofs.gate.clause2.Reads as clause2-reads
 use Rattle.clauses.proofs.literal.put_literal.Reads as put-literal-reads
 
--- src/gate.rt:36:9
 put-literal-requires : tie.Need-put-literal-requires
 put-literal-requires c κs = search needs
 
--- src/gate.rt:37:5
 clause2-requires : tie.Need-clause2-requires
 clause2-requires c κs = search needs
 
--- src/gate.rt:33:1
 same-length : tie.Need-same-length
 same-length c = search needs
 
--- src/gate.rt:33:1
 returns : tie.Need-returns
 returns c = puts-then (c .before .before .before .before .put-literal .ensures) (c .before .clause2 .ensures)
 

@@ -10,43 +10,33 @@ use Rattle.clauses.proofs.literal.negate.Reads as negate-reads
 use Rattle.clauses.proofs.literal.next.Reads as next-reads
 use Rattle.clauses.proofs.literal.positive.Reads as positive-reads
 
--- src/gate.rt:44:9
 positive-requires : tie.Need-positive-requires
 positive-requires c κs = search needs
 
--- src/gate.rt:45:9
 negate-requires : tie.Need-negate-requires
 negate-requires c κs = search needs
 
--- src/gate.rt:46:9
 negate-requires-2 : tie.Need-negate-requires-2
 negate-requires-2 c κs = search needs
 
--- src/gate.rt:47:9
 negate-requires-3 : tie.Need-negate-requires-3
 negate-requires-3 c κs = search needs
 
--- src/gate.rt:48:9
 clause2-requires : tie.Need-clause2-requires
 clause2-requires c κs = search needs
 
--- src/gate.rt:49:9
 clause2-requires-2 : tie.Need-clause2-requires-2
 clause2-requires-2 c κs = search needs
 
--- src/gate.rt:50:9
 clause3-requires : tie.Need-clause3-requires
 clause3-requires c κs = search needs
 
--- src/gate.rt:51:9
 next-requires : tie.Need-next-requires
 next-requires c κs = search needs
 
--- src/gate.rt:41:1
 same-length : tie.Need-same-length
 same-length c = search needs
 
--- src/gate.rt:41:1
 returns : tie.Need-returns
 returns c = and-emits _ _ _ _ _ _ _ (c .before .before .before .before .before .before .before .before .before .before .before .before .before .positive .ensures) (c .next .ensures) (c .before .before .before .before .before .before .before .before .before .before .before .before .negate .ensures) (c .before .before .before .before .before .before .before .before .before .before .before .negate2 .ensures) (c .before .before .before .before .before .before .before .before .before .before .negate3 .ensures) (c .before .before .before .before .before .before .before .before .clause2 .ensures) (c .before .before .before .before .before .clause22 .ensures) (c .before .before .clause3 .ensures)
 

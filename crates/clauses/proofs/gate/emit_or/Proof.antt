@@ -7,27 +7,21 @@ use Rattle.clauses.proofs.gate.emit_or.Lts as lts
 use Rattle.clauses.proofs.gate.emit_and.Reads as emit-and-reads
 use Rattle.clauses.proofs.literal.negate.Reads as negate-reads
 
--- src/gate.rt:104:9
 negate-requires : tie.Need-negate-requires
 negate-requires c κs = search needs
 
--- src/gate.rt:105:9
 negate-requires-2 : tie.Need-negate-requires-2
 negate-requires-2 c κs = search needs
 
--- src/gate.rt:106:9
 emit-and-requires : tie.Need-emit-and-requires
 emit-and-requires c κs = search needs
 
--- src/gate.rt:107:9
 negate-requires-3 : tie.Need-negate-requires-3
 negate-requires-3 c κs = search needs
 
--- src/gate.rt:101:1
 same-length : tie.Need-same-length
 same-length c = search needs
 
--- src/gate.rt:101:1
 returns : tie.Need-returns
 returns c = or-emits _ _ _ _ _ _ _ (c .before .before .before .before .before .negate .ensures) (c .before .before .before .before .negate2 .ensures) (c .negate3 .ensures) (c .before .before .emit-and .ensures)
 

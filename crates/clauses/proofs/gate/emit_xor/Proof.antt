@@ -9,47 +9,36 @@ use Rattle.clauses.proofs.literal.negate.Reads as negate-reads
 use Rattle.clauses.proofs.literal.next.Reads as next-reads
 use Rattle.clauses.proofs.literal.positive.Reads as positive-reads
 
--- src/gate.rt:63:9
 positive-requires : tie.Need-positive-requires
 positive-requires c κs = search needs
 
--- src/gate.rt:64:9
 negate-requires : tie.Need-negate-requires
 negate-requires c κs = search needs
 
--- src/gate.rt:65:9
 negate-requires-2 : tie.Need-negate-requires-2
 negate-requires-2 c κs = search needs
 
--- src/gate.rt:66:9
 negate-requires-3 : tie.Need-negate-requires-3
 negate-requires-3 c κs = search needs
 
--- src/gate.rt:67:9
 clause3-requires : tie.Need-clause3-requires
 clause3-requires c κs = search needs
 
--- src/gate.rt:68:9
 clause3-requires-2 : tie.Need-clause3-requires-2
 clause3-requires-2 c κs = search needs
 
--- src/gate.rt:69:9
 clause3-requires-3 : tie.Need-clause3-requires-3
 clause3-requires-3 c κs = search needs
 
--- src/gate.rt:70:9
 clause3-requires-4 : tie.Need-clause3-requires-4
 clause3-requires-4 c κs = search needs
 
--- src/gate.rt:71:9
 next-requires : tie.Need-next-requires
 next-requires c κs = search needs
 
--- src/gate.rt:60:1
 same-length : tie.Need-same-length
 same-length c = search needs
 
--- src/gate.rt:60:1
 returns : tie.Need-returns
 returns c = xor-emits _ _ _ _ _ _ _ (c .before .before .before .before .before .before .before .before .before .before .before .before .before .before .before .before .positive .ensures) (c .next .ensures) (c .before .before .before .before .before .before .before .before .before .before .before .before .before .before .before .negate .ensures) (c .before .before .before .before .before .before .before .before .before .before .before .before .before .before .negate2 .ensures) (c .before .before .before .before .before .before .before .before .before .before .before .before .before .negate3 .ensures) (c .before .before .before .before .before .before .before .before .before .before .before .clause3 .ensures) (c .before .before .before .before .before .before .before .before .clause32 .ensures) (c .before .before .before .before .before .clause33 .ensures) (c .before .before .clause34 .ensures)
 

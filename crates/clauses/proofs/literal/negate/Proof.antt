@@ -6,19 +6,15 @@ use Rattle.clauses.proofs.literal.negate.Tie as tie
 use Rattle.clauses.proofs.literal.negate.Reads as reads
 use Rattle.clauses.proofs.literal.negate.Lts as lts
 
--- src/literal.rt:22:21
 add-result : tie.Need-add-result
 add-result c = search needs
 
--- src/literal.rt:22:36
 sub-result : tie.Need-sub-result
 sub-result c = search needs
 
--- src/literal.rt:19:1
 returns : tie.Need-returns
 returns c = negate-even _ (c .before .args .l) (c .if1 .taken) refl
 
--- src/literal.rt:19:1
 returns-2 : tie.Need-returns-2
 returns-2 c = negate-odd (c .before .args .l) (c .if1 .left)
 

@@ -7,15 +7,12 @@ use Rattle.clauses.proofs.literal.positive.Tie as tie
 use Rattle.clauses.proofs.literal.positive.Reads as reads
 use Rattle.clauses.proofs.literal.positive.Lts as lts
 
--- src/literal.rt:29:29
 mul-result : tie.Need-mul-result
 mul-result c = search needs
 
--- src/literal.rt:26:1
 returns : tie.Need-returns
 returns c = λ h. code-even _ _ refl
 
--- src/literal.rt:26:1
 returns-2 : tie.Need-returns-2
 returns-2 c = λ h. absurd (omega arith)
 

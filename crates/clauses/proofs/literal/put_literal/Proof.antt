@@ -11,19 +11,15 @@ use Rattle.clauses.proofs.literal.put_literal.Lts as lts
 use Rattle.clauses.proofs.literal.signed.Reads as signed-reads
 use Rattle.clauses.proofs.literal.store.Reads as store-reads
 
--- src/literal.rt:66:21
 signed-requires : tie.Need-signed-requires
 signed-requires c κs = search needs
 
--- src/literal.rt:66:5
 store-requires : tie.Need-store-requires
 store-requires c κs = search needs
 
--- src/literal.rt:63:1
 same-length : tie.Need-same-length
 same-length c = search needs
 
--- src/literal.rt:63:1
 returns : tie.Need-returns
 returns c = puts-same (ap (λ (z : ℤ). z ∷ []) (word-back _ (c .before .before .before .before .args .l) (omega arith) (c .before .before .signed .ensures))) (c .before .store .ensures)
 

@@ -7,19 +7,15 @@ use Rattle.clauses.proofs.literal.signed.Tie as tie
 use Rattle.clauses.proofs.literal.signed.Reads as reads
 use Rattle.clauses.proofs.literal.signed.Lts as lts
 
--- src/literal.rt:42:13
 cast-v : tie.Need-cast-v
 cast-v c = search needs
 
--- src/literal.rt:43:32
 sub-result : tie.Need-sub-result
 sub-result c = minus-fits (c .before .args .l / 2) (omega arith)
 
--- src/literal.rt:39:1
 returns : tie.Need-returns
 returns c = signed-even (c .before .args .l) (omega arith) (c .if1 .taken)
 
--- src/literal.rt:39:1
 returns-2 : tie.Need-returns-2
 returns-2 c = signed-odd (c .before .args .l) (omega arith) (c .if1 .left)
 

@@ -1,4 +1,4 @@
-use mathlib.Core.Path.{refl, sym, ap}
+use mathlib.Core.Path.{sym, ap}
 use lib.IntN.{ℤ}
 use lib.ListN.{set}
 use mir.Facts.{toZ-ofZ}
@@ -10,31 +10,24 @@ use Rattle.clauses.proofs.literal.store.Reads as reads
 use Rattle.clauses.proofs.literal.store.Lts as lts
 use Rattle.clauses.proofs.literal.advance.Reads as advance-reads
 
--- src/literal.rt:57:9
 advance-requires : tie.Need-advance-requires
 advance-requires c κs = search needs
 
--- src/literal.rt:57:9
 returns : tie.Need-returns
 returns c = puts-one _ _ _ _ _ (sym (set-past _ _ _ (c .before .if1 .taken))) (c .advance .ensures)
 
--- src/literal.rt:59:5
 mul-word : tie.Need-mul-word
 mul-word c = search needs
 
--- src/literal.rt:59:5
 slice-set-from-word : tie.Need-slice-set-from-word
 slice-set-from-word c = search needs
 
--- src/literal.rt:60:5
 advance-requires-2 : tie.Need-advance-requires-2
 advance-requires-2 c κs = search needs
 
--- src/literal.rt:53:1
 same-length : tie.Need-same-length
 same-length c = search needs
 
--- src/literal.rt:53:1
 returns-2 : tie.Need-returns-2
 returns-2 c = puts-one _ _ _ _ _ (ap (λ (z : ℤ). set (c .before .before .args .buf .now) (c .before .before .args .cur) z) (toZ-ofZ (c .before .before .fits .word))) (c .advance2 .ensures)
 

@@ -1,19 +1,11 @@
 use native.Mathlib.Omega.{arith}
-use Prim.Native.Nat.{ℕ, _+_, _*_, _≤_, _<_}
-use mathlib.Core.Path.{_≡_, refl, sym, ap, ap₂, subst, _∙_}
-use mathlib.Core.List.{[], _∷_}
-use lib.ListN.{length, getD, set, length-set}
-use Rattle.design.specs.DesignFile.{c-matrix, c-status, c-event, c-target, events as eventCount}
-use Rattle.design.specs.Check.{matricesOffset}
-use Rattle.design.proofs.Sections.{eventIn}
-use Rattle.clauses.specs.Literal.{Literal, negate}
-use Rattle.clauses.specs.Expression.{constantBits, integerAt, bool! }
+use Prim.Native.Nat.{ℕ, _+_, _*_}
+use mathlib.Core.Path.{_≡_, sym, ap, ap₂, _∙_}
+use mathlib.Core.List.{[]}
+use lib.ListN.{length}
 use Rattle.clauses.specs.FlatState.{slotsOf, layoutOf}
-use Rattle.clauses.proofs.EmitBuilds.{emits-same}
-use Rattle.clauses.proofs.EmitWords.{code-yes}
 use Rattle.clauses.proofs.EmitSlots.{status-room}
-use Rattle.clauses.proofs.EmitStates.{slotted-again, boolean-room, boolean-set}
-use Rattle.clauses.proofs.EmitCells.{sizes, kinds, few-bits, slotted, event-slot, event-inside, event-got, event-reads, normal-fields, is, guard-none, guard-got, action-got, event-emits, enable-emits, guard-true, muxes-first, target-set, cell-emits, external-emits, cell-event}
+use Rattle.clauses.proofs.EmitCells.{sizes, kinds, few-bits, slotted, normal-fields, is, action-got, muxes-first, target-set, cell-emits}
 use borrow.Author.Needs.{needs}
 use Rattle.clauses.proofs.mover.encode_cell.Statement.{statement}
 use Rattle.clauses.proofs.mover.encode_cell.Tie as tie
@@ -28,99 +20,75 @@ use Rattle.clauses.proofs.mover.encode_enable.Reads as encode-enable-re
 use Rattle.design.proofs.bytes.wide.Reads as wide-reads
 use Rattle.design.proofs.bytes.word.Reads as word-reads
 
--- src/mover.rt:182:9
 encode-enable-requires : tie.Need-encode-enable-requires
 encode-enable-requires c κs = c .before .before .pre
 
--- src/mover.rt:184:18
 add-middle : tie.Need-add-middle
 add-middle c = omega (arith, (normal-fields (c .before .before .before .before .before .args .file .now) (c .before .before .before .before .before .args .events .now) (c .before .before .before .before .before .args .nv) (c .before .before .before .before .before .args .nm) (c .before .before .before .before .before .pre .0) (c .before .before .before .before .before .args .p) (c .before .before .before .before .before .pre .2)) .header, (normal-fields (c .before .before .before .before .before .args .file .now) (c .before .before .before .before .before .args .events .now) (c .before .before .before .before .before .args .nv) (c .before .before .before .before .before .args .nm) (c .before .before .before .before .before .pre .0) (c .before .before .before .before .before .args .p) (c .before .before .before .before .before .pre .2)) .past, sizes (c .before .before .before .before .before .args .file .now) (c .before .before .before .before .before .args .events .now) (c .before .before .before .before .before .args .nv) (c .before .before .before .before .before .args .nm) (c .before .before .before .before .before .pre .0))
 
--- src/mover.rt:184:36
 add-wide : tie.Need-add-wide
 add-wide c = omega (arith, (normal-fields (c .before .before .before .before .before .args .file .now) (c .before .before .before .before .before .args .events .now) (c .before .before .before .before .before .args .nv) (c .before .before .before .before .before .args .nm) (c .before .before .before .before .before .pre .0) (c .before .before .before .before .before .args .p) (c .before .before .before .before .before .pre .2)) .header, (normal-fields (c .before .before .before .before .before .args .file .now) (c .before .before .before .before .before .args .events .now) (c .before .before .before .before .before .args .nv) (c .before .before .before .before .before .args .nm) (c .before .before .before .before .before .pre .0) (c .before .before .before .before .before .args .p) (c .before .before .before .before .before .pre .2)) .past, sizes (c .before .before .before .before .before .args .file .now) (c .before .before .before .before .before .args .events .now) (c .before .before .before .before .before .args .nv) (c .before .before .before .before .before .args .nm) (c .before .before .before .before .before .pre .0))
 
--- src/mover.rt:184:31
 shared-slice-read-wide : tie.Need-shared-slice-read-wide
 shared-slice-read-wide c = omega (arith, (normal-fields (c .before .before .before .before .before .before .args .file .now) (c .before .before .before .before .before .before .args .events .now) (c .before .before .before .before .before .before .args .nv) (c .before .before .before .before .before .before .args .nm) (c .before .before .before .before .before .before .pre .0) (c .before .before .before .before .before .before .args .p) (c .before .before .before .before .before .before .pre .2)) .header, (normal-fields (c .before .before .before .before .before .before .args .file .now) (c .before .before .before .before .before .before .args .events .now) (c .before .before .before .before .before .before .args .nv) (c .before .before .before .before .before .before .args .nm) (c .before .before .before .before .before .before .pre .0) (c .before .before .before .before .before .before .args .p) (c .before .before .before .before .before .before .pre .2)) .past, sizes (c .before .before .before .before .before .before .args .file .now) (c .before .before .before .before .before .before .args .events .now) (c .before .before .before .before .before .before .args .nv) (c .before .before .before .before .before .before .args .nm) (c .before .before .before .before .before .before .pre .0))
 
--- src/mover.rt:184:26
 wide-requires : tie.Need-wide-requires
 wide-requires c κs = tt
 
--- src/mover.rt:184:18
 add-middle-2 : tie.Need-add-middle-2
 add-middle-2 c = omega (arith, (normal-fields (c .before .before .before .before .before .before .before .args .file .now) (c .before .before .before .before .before .before .before .args .events .now) (c .before .before .before .before .before .before .before .args .nv) (c .before .before .before .before .before .before .before .args .nm) (c .before .before .before .before .before .before .before .pre .0) (c .before .before .before .before .before .before .before .args .p) (c .before .before .before .before .before .before .before .pre .2)) .past, sizes (c .before .before .before .before .before .before .before .args .file .now) (c .before .before .before .before .before .before .before .args .events .now) (c .before .before .before .before .before .before .before .args .nv) (c .before .before .before .before .before .before .before .args .nm) (c .before .before .before .before .before .before .before .pre .0), c .wide .ensures .0)
 
--- src/mover.rt:185:36
 add-word : tie.Need-add-word
 add-word c = omega (arith, (normal-fields (c .before .before .before .before .before .before .before .args .file .now) (c .before .before .before .before .before .before .before .args .events .now) (c .before .before .before .before .before .before .before .args .nv) (c .before .before .before .before .before .before .before .args .nm) (c .before .before .before .before .before .before .before .pre .0) (c .before .before .before .before .before .before .before .args .p) (c .before .before .before .before .before .before .before .pre .2)) .header, (normal-fields (c .before .before .before .before .before .before .before .args .file .now) (c .before .before .before .before .before .before .before .args .events .now) (c .before .before .before .before .before .before .before .args .nv) (c .before .before .before .before .before .before .before .args .nm) (c .before .before .before .before .before .before .before .pre .0) (c .before .before .before .before .before .before .before .args .p) (c .before .before .before .before .before .before .before .pre .2)) .past, sizes (c .before .before .before .before .before .before .before .args .file .now) (c .before .before .before .before .before .before .before .args .events .now) (c .before .before .before .before .before .before .before .args .nv) (c .before .before .before .before .before .before .before .args .nm) (c .before .before .before .before .before .before .before .pre .0))
 
--- src/mover.rt:185:25
 word-requires : tie.Need-word-requires
 word-requires c κs = omega (arith, (normal-fields (c .before .before .before .before .before .before .before .args .file .now) (c .before .before .before .before .before .before .before .args .events .now) (c .before .before .before .before .before .before .before .args .nv) (c .before .before .before .before .before .before .before .args .nm) (c .before .before .before .before .before .before .before .pre .0) (c .before .before .before .before .before .before .before .args .p) (c .before .before .before .before .before .before .before .pre .2)) .header, (normal-fields (c .before .before .before .before .before .before .before .args .file .now) (c .before .before .before .before .before .before .before .args .events .now) (c .before .before .before .before .before .before .before .args .nv) (c .before .before .before .before .before .before .before .args .nm) (c .before .before .before .before .before .before .before .pre .0) (c .before .before .before .before .before .before .before .args .p) (c .before .before .before .before .before .before .before .pre .2)) .past, sizes (c .before .before .before .before .before .before .before .args .file .now) (c .before .before .before .before .before .before .before .args .events .now) (c .before .before .before .before .before .before .before .args .nv) (c .before .before .before .before .before .before .before .args .nm) (c .before .before .before .before .before .before .before .pre .0))
 
--- src/mover.rt:185:16
 add-past : tie.Need-add-past
 add-past c = omega (arith, (normal-fields (c .before .before .before .before .before .before .before .before .args .file .now) (c .before .before .before .before .before .before .before .before .args .events .now) (c .before .before .before .before .before .before .before .before .args .nv) (c .before .before .before .before .before .before .before .before .args .nm) (c .before .before .before .before .before .before .before .before .pre .0) (c .before .before .before .before .before .before .before .before .args .p) (c .before .before .before .before .before .before .before .before .pre .2)) .past, sizes (c .before .before .before .before .before .before .before .before .args .file .now) (c .before .before .before .before .before .before .before .before .args .events .now) (c .before .before .before .before .before .before .before .before .args .nv) (c .before .before .before .before .before .before .before .before .args .nm) (c .before .before .before .before .before .before .before .before .pre .0), c .before .wide .ensures .0, c .word .ensures)
 
--- src/mover.rt:186:9
 encode-list-requires : tie.Need-encode-list-requires
 encode-list-requires c κs = ((omega (arith, (normal-fields (c .before .before .before .before .before .before .before .before .before .before .args .file .now) (c .before .before .before .before .before .before .before .before .before .before .args .events .now) (c .before .before .before .before .before .before .before .before .before .before .args .nv) (c .before .before .before .before .before .before .before .before .before .before .args .nm) (c .before .before .before .before .before .before .before .before .before .before .pre .0) (c .before .before .before .before .before .before .before .before .before .before .args .p) (c .before .before .before .before .before .before .before .before .before .before .pre .2)) .past, sizes (c .before .before .before .before .before .before .before .before .before .before .args .file .now) (c .before .before .before .before .before .before .before .before .before .before .args .events .now) (c .before .before .before .before .before .before .before .before .before .before .args .nv) (c .before .before .before .before .before .before .before .before .before .before .args .nm) (c .before .before .before .before .before .before .before .before .before .before .pre .0), c .before .before .before .wide .ensures .0, c .before .before .word .ensures .0), slotted (c .before .before .before .before .before .before .before .before .before .before .args .file .now) (c .before .before .before .before .before .before .before .before .before .before .args .events .now) (c .before .before .before .before .before .before .before .before .before .before .args .nv) (c .before .before .before .before .before .before .before .before .before .before .args .nm) (c .before .before .before .before .before .before .before .before .before .before .pre .0) _ (c .before .before .before .before .before .before .before .before .before .before .pre .1), (c .before .before .before .before .before .before .before .before .before .before .pre .1)), record { tree = c .before .before .before .before .before .before .before .before .before .before .pre .2 .cell .action; past = _; reads = (action-got (c .before .before .before .before .before .before .before .before .before .before .args .file .now) (c .before .before .before .before .before .before .before .before .before .before .args .events .now) (c .before .before .before .before .before .before .before .before .before .before .args .nv) (c .before .before .before .before .before .before .before .before .before .before .args .nm) (c .before .before .before .before .before .before .before .before .before .before .pre .0) (c .before .before .before .before .before .before .before .before .before .before .args .p) (c .before .before .before .before .before .before .before .before .before .before .pre .2) _ _ (ap (λ (k : ℕ). (c .before .before .before .before .before .before .before .before .before .before .args .p) + 8 + k) (c .before .before .before .wide .ensures .0)) (ap₂ (λ (a b : ℕ). a + b) (ap (λ (k : ℕ). (c .before .before .before .before .before .before .before .before .before .before .args .p) + 8 + k) (c .before .before .before .wide .ensures .0)) (c .before .before .word .ensures .0))) })
 
--- src/mover.rt:198:13
 offset-requires : tie.Need-offset-requires
 offset-requires c κs = omega (arith, kinds (c .before .before .before .before .before .before .before .before .before .before .before .before .args .file .now) (c .before .before .before .before .before .before .before .before .before .before .before .before .args .events .now) (c .before .before .before .before .before .before .before .before .before .before .before .before .args .nv) (c .before .before .before .before .before .before .before .before .before .before .before .before .args .nm) (c .before .before .before .before .before .before .before .before .before .before .before .before .pre .0), sizes (c .before .before .before .before .before .before .before .before .before .before .before .before .args .file .now) (c .before .before .before .before .before .before .before .before .before .before .before .before .args .events .now) (c .before .before .before .before .before .before .before .before .before .before .before .before .args .nv) (c .before .before .before .before .before .before .before .before .before .before .before .before .args .nm) (c .before .before .before .before .before .before .before .before .before .before .before .before .pre .0))
 
--- src/mover.rt:198:41
 shared-slice-read-wide-2 : tie.Need-shared-slice-read-wide-2
 shared-slice-read-wide-2 c = omega (arith, (normal-fields (c .before .before .before .before .before .before .before .before .before .before .before .before .before .before .args .file .now) (c .before .before .before .before .before .before .before .before .before .before .before .before .before .before .args .events .now) (c .before .before .before .before .before .before .before .before .before .before .before .before .before .before .args .nv) (c .before .before .before .before .before .before .before .before .before .before .before .before .before .before .args .nm) (c .before .before .before .before .before .before .before .before .before .before .before .before .before .before .pre .0) (c .before .before .before .before .before .before .before .before .before .before .before .before .before .before .args .p) (c .before .before .before .before .before .before .before .before .before .before .before .before .before .before .pre .2)) .header, (normal-fields (c .before .before .before .before .before .before .before .before .before .before .before .before .before .before .args .file .now) (c .before .before .before .before .before .before .before .before .before .before .before .before .before .before .args .events .now) (c .before .before .before .before .before .before .before .before .before .before .before .before .before .before .args .nv) (c .before .before .before .before .before .before .before .before .before .before .before .before .before .before .args .nm) (c .before .before .before .before .before .before .before .before .before .before .before .before .before .before .pre .0) (c .before .before .before .before .before .before .before .before .before .before .before .before .before .before .args .p) (c .before .before .before .before .before .before .before .before .before .before .before .before .before .before .pre .2)) .past, sizes (c .before .before .before .before .before .before .before .before .before .before .before .before .before .before .args .file .now) (c .before .before .before .before .before .before .before .before .before .before .before .before .before .before .args .events .now) (c .before .before .before .before .before .before .before .before .before .before .before .before .before .before .args .nv) (c .before .before .before .before .before .before .before .before .before .before .before .before .before .before .args .nm) (c .before .before .before .before .before .before .before .before .before .before .before .before .before .before .pre .0))
 
--- src/mover.rt:198:36
 wide-requires-2 : tie.Need-wide-requires-2
 wide-requires-2 c κs = tt
 
--- src/mover.rt:198:32
 mul-o : tie.Need-mul-o
 mul-o c = omega (arith, c .wide2 .ensures)
 
--- src/mover.rt:198:13
 add-o : tie.Need-add-o
 add-o c = omega (arith, status-room (c .before .before .before .before .before .before .before .before .before .before .before .before .before .before .before .args .file .now) (c .before .before .before .before .before .before .before .before .before .before .before .before .before .before .before .args .nv) (c .before .before .before .before .before .before .before .before .before .before .before .before .before .before .before .args .nm) (c .wide2 .result) _ (omega (arith, c .wide2 .ensures .0, (normal-fields (c .before .before .before .before .before .before .before .before .before .before .before .before .before .before .before .args .file .now) (c .before .before .before .before .before .before .before .before .before .before .before .before .before .before .before .args .events .now) (c .before .before .before .before .before .before .before .before .before .before .before .before .before .before .before .args .nv) (c .before .before .before .before .before .before .before .before .before .before .before .before .before .before .before .args .nm) (c .before .before .before .before .before .before .before .before .before .before .before .before .before .before .before .pre .0) (c .before .before .before .before .before .before .before .before .before .before .before .before .before .before .before .args .p) (c .before .before .before .before .before .before .before .before .before .before .before .before .before .before .before .pre .2)) .matrix, (c .before .before .before .before .before .before .before .before .before .before .before .before .before .before .before .pre .0) .matrices)) (ap (λ (k : ℕ). k + 4 * c .wide2 .result) (c .before .before .offset .ensures)), (slotted (c .before .before .before .before .before .before .before .before .before .before .before .before .before .before .before .args .file .now) (c .before .before .before .before .before .before .before .before .before .before .before .before .before .before .before .args .events .now) (c .before .before .before .before .before .before .before .before .before .before .before .before .before .before .before .args .nv) (c .before .before .before .before .before .before .before .before .before .before .before .before .before .before .before .args .nm) (c .before .before .before .before .before .before .before .before .before .before .before .before .before .before .before .pre .0) (c .before .before .before .before .before .before .before .before .before .before .before .before .before .before .before .args .bits .now) (c .before .before .before .before .before .before .before .before .before .before .before .before .before .before .before .pre .1)) .bits, (c .before .before .before .before .before .before .before .before .before .before .before .before .before .before .before .pre .1))
 
--- src/mover.rt:199:50
 add-wide-2 : tie.Need-add-wide-2
 add-wide-2 c = omega (arith, (normal-fields (c .before .before .before .before .before .before .before .before .before .before .before .before .before .before .before .before .args .file .now) (c .before .before .before .before .before .before .before .before .before .before .before .before .before .before .before .before .args .events .now) (c .before .before .before .before .before .before .before .before .before .before .before .before .before .before .before .before .args .nv) (c .before .before .before .before .before .before .before .before .before .before .before .before .before .before .before .before .args .nm) (c .before .before .before .before .before .before .before .before .before .before .before .before .before .before .before .before .pre .0) (c .before .before .before .before .before .before .before .before .before .before .before .before .before .before .before .before .args .p) (c .before .before .before .before .before .before .before .before .before .before .before .before .before .before .before .before .pre .2)) .header, (normal-fields (c .before .before .before .before .before .before .before .before .before .before .before .before .before .before .before .before .args .file .now) (c .before .before .before .before .before .before .before .before .before .before .before .before .before .before .before .before .args .events .now) (c .before .before .before .before .before .before .before .before .before .before .before .before .before .before .before .before .args .nv) (c .before .before .before .before .before .before .before .before .before .before .before .before .before .before .before .before .args .nm) (c .before .before .before .before .before .before .before .before .before .before .before .before .before .before .before .before .pre .0) (c .before .before .before .before .before .before .before .before .before .before .before .before .before .before .before .before .args .p) (c .before .before .before .before .before .before .before .before .before .before .before .before .before .before .before .before .pre .2)) .past, sizes (c .before .before .before .before .before .before .before .before .before .before .before .before .before .before .before .before .args .file .now) (c .before .before .before .before .before .before .before .before .before .before .before .before .before .before .before .before .args .events .now) (c .before .before .before .before .before .before .before .before .before .before .before .before .before .before .before .before .args .nv) (c .before .before .before .before .before .before .before .before .before .before .before .before .before .before .before .before .args .nm) (c .before .before .before .before .before .before .before .before .before .before .before .before .before .before .before .before .pre .0))
 
--- src/mover.rt:199:45
 shared-slice-read-wide-3 : tie.Need-shared-slice-read-wide-3
 shared-slice-read-wide-3 c = omega (arith, (normal-fields (c .before .before .before .before .before .before .before .before .before .before .before .before .before .before .before .before .before .args .file .now) (c .before .before .before .before .before .before .before .before .before .before .before .before .before .before .before .before .before .args .events .now) (c .before .before .before .before .before .before .before .before .before .before .before .before .before .before .before .before .before .args .nv) (c .before .before .before .before .before .before .before .before .before .before .before .before .before .before .before .before .before .args .nm) (c .before .before .before .before .before .before .before .before .before .before .before .before .before .before .before .before .before .pre .0) (c .before .before .before .before .before .before .before .before .before .before .before .before .before .before .before .before .before .args .p) (c .before .before .before .before .before .before .before .before .before .before .before .before .before .before .before .before .before .pre .2)) .header, (normal-fields (c .before .before .before .before .before .before .before .before .before .before .before .before .before .before .before .before .before .args .file .now) (c .before .before .before .before .before .before .before .before .before .before .before .before .before .before .before .before .before .args .events .now) (c .before .before .before .before .before .before .before .before .before .before .before .before .before .before .before .before .before .args .nv) (c .before .before .before .before .before .before .before .before .before .before .before .before .before .before .before .before .before .args .nm) (c .before .before .before .before .before .before .before .before .before .before .before .before .before .before .before .before .before .pre .0) (c .before .before .before .before .before .before .before .before .before .before .before .before .before .before .before .before .before .args .p) (c .before .before .before .before .before .before .before .before .before .before .before .before .before .before .before .before .before .pre .2)) .past, sizes (c .before .before .before .before .before .before .before .before .before .before .before .before .before .before .before .before .before .args .file .now) (c .before .before .before .before .before .before .before .before .before .before .before .before .before .before .before .before .before .args .events .now) (c .before .before .before .before .before .before .before .before .before .before .before .before .before .before .before .before .before .args .nv) (c .before .before .before .before .before .before .before .before .before .before .before .before .before .before .before .before .before .args .nm) (c .before .before .before .before .before .before .before .before .before .before .before .before .before .before .before .before .before .pre .0))
 
--- src/mover.rt:199:40
 wide-requires-3 : tie.Need-wide-requires-3
 wide-requires-3 c κs = tt
 
--- src/mover.rt:199:40
 cast-constant : tie.Need-cast-constant
 cast-constant c = omega (arith, c .wide3 .ensures .1)
 
--- src/mover.rt:199:31
 constant-requires : tie.Need-constant-requires
 constant-requires c κs = tt
 
--- src/mover.rt:199:5
 store-word-requires : tie.Need-store-word-requires
 store-word-requires c κs = (omega (arith, status-room (c .before .before .before .before .before .before .before .before .before .before .before .before .before .before .before .before .before .before .before .args .file .now) (c .before .before .before .before .before .before .before .before .before .before .before .before .before .before .before .before .before .before .before .args .nv) (c .before .before .before .before .before .before .before .before .before .before .before .before .before .before .before .before .before .before .before .args .nm) (c .before .before .before .before .wide2 .result) _ (omega (arith, c .before .before .before .before .wide2 .ensures .0, (normal-fields (c .before .before .before .before .before .before .before .before .before .before .before .before .before .before .before .before .before .before .before .args .file .now) (c .before .before .before .before .before .before .before .before .before .before .before .before .before .before .before .before .before .before .before .args .events .now) (c .before .before .before .before .before .before .before .before .before .before .before .before .before .before .before .before .before .before .before .args .nv) (c .before .before .before .before .before .before .before .before .before .before .before .before .before .before .before .before .before .before .before .args .nm) (c .before .before .before .before .before .before .before .before .before .before .before .before .before .before .before .before .before .before .before .pre .0) (c .before .before .before .before .before .before .before .before .before .before .before .before .before .before .before .before .before .before .before .args .p) (c .before .before .before .before .before .before .before .before .before .before .before .before .before .before .before .before .before .before .before .pre .2)) .matrix, (c .before .before .before .before .before .before .before .before .before .before .before .before .before .before .before .before .before .before .before .pre .0) .matrices)) (ap (λ (k : ℕ). k + 4 * c .before .before .before .before .wide2 .result) (c .before .before .before .before .before .before .offset .ensures)), (slotted (c .before .before .before .before .before .before .before .before .before .before .before .before .before .before .before .before .before .before .before .args .file .now) (c .before .before .before .before .before .before .before .before .before .before .before .before .before .before .before .before .before .before .before .args .events .now) (c .before .before .before .before .before .before .before .before .before .before .before .before .before .before .before .before .before .before .before .args .nv) (c .before .before .before .before .before .before .before .before .before .before .before .before .before .before .before .before .before .before .before .args .nm) (c .before .before .before .before .before .before .before .before .before .before .before .before .before .before .before .before .before .before .before .pre .0) (c .before .before .before .before .before .before .before .before .before .before .before .before .before .before .before .before .before .before .before .args .bits .now) (c .before .before .before .before .before .before .before .before .before .before .before .before .before .before .before .before .before .before .before .pre .1)) .bits, (c .before .before .before .before .before .before .before .before .before .before .before .before .before .before .before .before .before .before .before .pre .1)), omega arith, c .before .before .before .before .before .before .before .before .encode-list .ensures .1)
 
--- src/mover.rt:200:9
 muxes-requires : tie.Need-muxes-requires
 muxes-requires c κs = (slotted (c .before .before .before .before .before .before .before .before .before .before .before .before .before .before .before .before .before .before .before .before .before .before .args .file .now) (c .before .before .before .before .before .before .before .before .before .before .before .before .before .before .before .before .before .before .before .before .before .before .args .events .now) (c .before .before .before .before .before .before .before .before .before .before .before .before .before .before .before .before .before .before .before .before .before .before .args .nv) (c .before .before .before .before .before .before .before .before .before .before .before .before .before .before .before .before .before .before .before .before .before .before .args .nm) (c .before .before .before .before .before .before .before .before .before .before .before .before .before .before .before .before .before .before .before .before .before .before .pre .0) _ (c .before .before .store-word .ensures .1), c .before .before .store-word .ensures .1, (c .before .before .before .before .before .before .before .before .before .before .before .before .before .before .before .before .before .before .before .before .before .before .pre .1))
 
--- src/mover.rt:168:1
 same-length : tie.Need-same-length
 same-length c = omega (arith, c .buf3 .given, c .before .before .before .before .before .before .before .before .before .before .before .before .buf2 .given, c .before .before .before .before .before .before .before .before .before .before .before .before .before .before .before .before .before .before .before .before .buf .given)
 
--- src/mover.rt:168:1
 returns : tie.Need-returns
 returns c = λ x. let i = is (c .before .before .before .before .before .before .before .before .before .before .before .before .before .before .before .before .before .before .before .before .before .before .before .before .args .file .now) (c .before .before .before .before .before .before .before .before .before .before .before .before .before .before .before .before .before .before .before .before .before .before .before .before .args .events .now) (c .before .before .before .before .before .before .before .before .before .before .before .before .before .before .before .before .before .before .before .before .before .before .before .before .args .nv) (c .before .before .before .before .before .before .before .before .before .before .before .before .before .before .before .before .before .before .before .before .before .before .before .before .args .nm) (c .before .before .before .before .before .before .before .before .before .before .before .before .before .before .before .before .before .before .before .before .before .before .before .before .pre .0) (c .before .before .before .before .before .before .before .before .before .before .before .before .before .before .before .before .before .before .before .before .before .before .before .before .args .p) x in cell-emits (layoutOf (c .before .before .before .before .before .before .before .before .before .before .before .before .before .before .before .before .before .before .before .before .before .before .before .before .args .nv)) (slotsOf (c .before .before .before .before .before .before .before .before .before .before .before .before .before .before .before .before .before .before .before .before .before .before .before .before .args .file .now) (c .before .before .before .before .before .before .before .before .before .before .before .before .before .before .before .before .before .before .before .before .before .before .before .before .args .nv) (c .before .before .before .before .before .before .before .before .before .before .before .before .before .before .before .before .before .before .before .before .before .before .before .before .args .nm) (c .before .before .before .before .before .before .before .before .before .before .before .before .before .before .before .before .before .before .before .before .before .before .before .before .args .bits .now)) (x .cell) (c .before .before .before .before .before .before .before .before .before .before .before .before .before .before .before .before .before .before .before .before .before .encode-enable .ensures x) (c .before .before .before .before .before .before .before .before .before .before .before .before .before .encode-list .ensures .0 _ _ (action-got (c .before .before .before .before .before .before .before .before .before .before .before .before .before .before .before .before .before .before .before .before .before .before .before .before .args .file .now) (c .before .before .before .before .before .before .before .before .before .before .before .before .before .before .before .before .before .before .before .before .before .before .before .before .args .events .now) (c .before .before .before .before .before .before .before .before .before .before .before .before .before .before .before .before .before .before .before .before .before .before .before .before .args .nv) (c .before .before .before .before .before .before .before .before .before .before .before .before .before .before .before .before .before .before .before .before .before .before .before .before .args .nm) (c .before .before .before .before .before .before .before .before .before .before .before .before .before .before .before .before .before .before .before .before .before .before .before .before .pre .0) (c .before .before .before .before .before .before .before .before .before .before .before .before .before .before .before .before .before .before .before .before .before .before .before .before .args .p) x _ _ (ap (λ (k : ℕ). (c .before .before .before .before .before .before .before .before .before .before .before .before .before .before .before .before .before .before .before .before .before .before .before .before .args .p) + 8 + k) (c .before .before .before .before .before .before .before .before .before .before .before .before .before .before .before .before .before .wide .ensures .0)) (ap₂ (λ (a b : ℕ). a + b) (ap (λ (k : ℕ). (c .before .before .before .before .before .before .before .before .before .before .before .before .before .before .before .before .before .before .before .before .before .before .before .before .args .p) + 8 + k) (c .before .before .before .before .before .before .before .before .before .before .before .before .before .before .before .before .before .wide .ensures .0)) (c .before .before .before .before .before .before .before .before .before .before .before .before .before .before .before .before .word .ensures .0))) .0) (target-set (c .before .before .before .before .before .before .before .before .before .before .before .before .before .before .before .before .before .before .before .before .before .before .before .before .args .file .now) (c .before .before .before .before .before .before .before .before .before .before .before .before .before .before .before .before .before .before .before .before .before .before .before .before .args .nv) (c .before .before .before .before .before .before .before .before .before .before .before .before .before .before .before .before .before .before .before .before .before .before .before .before .args .nm) _ (few-bits (c .before .before .before .before .before .before .before .before .before .before .before .before .before .before .before .before .before .before .before .before .before .before .before .before .args .file .now) (c .before .before .before .before .before .before .before .before .before .before .before .before .before .before .before .before .before .before .before .before .before .before .before .before .args .events .now) (c .before .before .before .before .before .before .before .before .before .before .before .before .before .before .before .before .before .before .before .before .before .before .before .before .args .nv) (c .before .before .before .before .before .before .before .before .before .before .before .before .before .before .before .before .before .before .before .before .before .before .before .before .args .nm) (c .before .before .before .before .before .before .before .before .before .before .before .before .before .before .before .before .before .before .before .before .before .before .before .before .pre .0)) (c .before .before .before .before .before .before .before .before .before .before .before .before .before .encode-list .ensures .1) (x .cell .matrix) (c .before .before .before .before .before .before .before .before .before .wide2 .result) _ (x .cell .target) (c .before .before .before .before .before .before .wide3 .result) (c .before .before .before .before .before .constant .result) _ (c .before .before .before .before .before .before .before .before .before .wide2 .ensures .0 ∙ sym (i .matrix)) (c .before .before .before .before .before .before .wide3 .ensures .0 ∙ sym (i .target)) (omega (arith, i .matrix, (normal-fields (c .before .before .before .before .before .before .before .before .before .before .before .before .before .before .before .before .before .before .before .before .before .before .before .before .args .file .now) (c .before .before .before .before .before .before .before .before .before .before .before .before .before .before .before .before .before .before .before .before .before .before .before .before .args .events .now) (c .before .before .before .before .before .before .before .before .before .before .before .before .before .before .before .before .before .before .before .before .before .before .before .before .args .nv) (c .before .before .before .before .before .before .before .before .before .before .before .before .before .before .before .before .before .before .before .before .before .before .before .before .args .nm) (c .before .before .before .before .before .before .before .before .before .before .before .before .before .before .before .before .before .before .before .before .before .before .before .before .pre .0) (c .before .before .before .before .before .before .before .before .before .before .before .before .before .before .before .before .before .before .before .before .before .before .before .before .args .p) (c .before .before .before .before .before .before .before .before .before .before .before .before .before .before .before .before .before .before .before .before .before .before .before .before .pre .2)) .matrix, (c .before .before .before .before .before .before .before .before .before .before .before .before .before .before .before .before .before .before .before .before .before .before .before .before .pre .0) .matrices)) (ap (λ (k : ℕ). k + 4 * c .before .before .before .before .before .before .before .before .before .wide2 .result) (c .before .before .before .before .before .before .before .before .before .before .before .offset .ensures)) (c .before .before .before .before .before .constant .ensures) (let h : length (c .before .before .before .before .before .constant .result) ≡ 16 = search needs in h) (c .before .before .before .before .store-word .ensures .0)) (muxes-first (c .before .before .before .before .before .before .before .before .before .before .before .before .before .before .before .before .before .before .before .before .before .before .before .before .args .file .now) (c .before .before .before .before .before .before .before .before .before .before .before .before .before .before .before .before .before .before .before .before .before .before .before .before .args .nv) (c .before .before .before .before .before .before .before .before .before .before .before .before .before .before .before .before .before .before .before .before .before .before .before .before .args .nm) _ _ (c .before .before .before .before .before .before .before .before .before .before .before .before .before .before .before .before .before .before .before .before .before .before .before .before .args .bits .now) (few-bits (c .before .before .before .before .before .before .before .before .before .before .before .before .before .before .before .before .before .before .before .before .before .before .before .before .args .file .now) (c .before .before .before .before .before .before .before .before .before .before .before .before .before .before .before .before .before .before .before .before .before .before .before .before .args .events .now) (c .before .before .before .before .before .before .before .before .before .before .before .before .before .before .before .before .before .before .before .before .before .before .before .before .args .nv) (c .before .before .before .before .before .before .before .before .before .before .before .before .before .before .before .before .before .before .before .before .before .before .before .before .args .nm) (c .before .before .before .before .before .before .before .before .before .before .before .before .before .before .before .before .before .before .before .before .before .before .before .before .pre .0)) (c .before .before .before .before .store-word .ensures .1) (c .before .before .before .before .before .before .before .before .before .before .before .before .before .before .before .before .before .before .before .before .before .before .before .before .pre .1) (c .before .muxes .ensures .0))
 

@@ -1,18 +1,7 @@
-use Prim.Native.Nat.{ℕ, _+_, _*_, _≤_, _<_}
-use mathlib.Core.Path.{_≡_, refl, sym, ap, ap₂, subst, _∙_}
-use mathlib.Core.List.{[], _∷_}
-use lib.ListN.{length, getD, set, length-set}
-use Rattle.design.specs.DesignFile.{c-matrix, c-status, c-event, c-target, events as eventCount}
-use Rattle.design.specs.Check.{matricesOffset}
-use Rattle.design.proofs.Sections.{eventIn}
-use Rattle.clauses.specs.Literal.{Literal, negate}
-use Rattle.clauses.specs.Expression.{constantBits, integerAt, bool! }
+use mathlib.Core.List.{[]}
 use Rattle.clauses.specs.FlatState.{slotsOf, layoutOf}
 use Rattle.clauses.proofs.EmitBuilds.{emits-same}
-use Rattle.clauses.proofs.EmitWords.{code-yes}
-use Rattle.clauses.proofs.EmitSlots.{status-room}
-use Rattle.clauses.proofs.EmitStates.{slotted-again, boolean-room, boolean-set}
-use Rattle.clauses.proofs.EmitCells.{sizes, kinds, slotted, event-slot, event-inside, event-got, event-reads, normal-fields, is, guard-none, guard-got, action-got, event-emits, enable-emits, guard-true, muxes-first, target-set, cell-emits, external-emits, cell-event}
+use Rattle.clauses.proofs.EmitCells.{normal-fields, enable-emits, cell-event}
 use borrow.Author.Needs.{needs}
 use Rattle.clauses.proofs.mover.encode_enable.Statement.{statement}
 use Rattle.clauses.proofs.mover.encode_enable.Tie as tie
@@ -22,23 +11,18 @@ use Rattle.clauses.proofs.gate.emit_and.Reads as emit-and-reads
 use Rattle.clauses.proofs.mover.encode_guard.Reads as encode-guard-reads
 use Rattle.clauses.proofs.mover.status_and_event.Reads as status-and-event-reads
 
--- src/mover.rt:162:9
 status-and-event-requires : tie.Need-status-and-event-requires
 status-and-event-requires c κs = ((c .before .before .pre .0), (c .before .before .pre .1), (normal-fields (c .before .before .args .file .now) (c .before .before .args .events .now) (c .before .before .args .nv) (c .before .before .args .nm) (c .before .before .pre .0) (c .before .before .args .p) (c .before .before .pre .2)))
 
--- src/mover.rt:163:9
 encode-guard-requires : tie.Need-encode-guard-requires
 encode-guard-requires c κs = c .before .before .before .before .before .pre
 
--- src/mover.rt:164:5
 emit-and-requires : tie.Need-emit-and-requires
 emit-and-requires c κs = tt
 
--- src/mover.rt:148:1
 same-length : tie.Need-same-length
 same-length c = search needs
 
--- src/mover.rt:148:1
 returns : tie.Need-returns
 returns c = λ x. enable-emits (layoutOf (c .before .before .before .before .before .before .before .before .before .before .args .nv)) (slotsOf (c .before .before .before .before .before .before .before .before .before .before .args .file .now) (c .before .before .before .before .before .before .before .before .before .before .args .nv) (c .before .before .before .before .before .before .before .before .before .before .args .nm) (c .before .before .before .before .before .before .before .before .before .before .args .bits .now)) (x .cell) _ _ _ (emits-same _ _ (cell-event (c .before .before .before .before .before .before .before .before .before .before .args .file .now) (c .before .before .before .before .before .before .before .before .before .before .args .events .now) (c .before .before .before .before .before .before .before .before .before .before .args .nv) (c .before .before .before .before .before .before .before .before .before .before .args .nm) (c .before .before .before .before .before .before .before .before .before .before .pre .0) (c .before .before .before .before .before .before .before .before .before .before .args .p) x (layoutOf (c .before .before .before .before .before .before .before .before .before .before .args .nv)) (slotsOf (c .before .before .before .before .before .before .before .before .before .before .args .file .now) (c .before .before .before .before .before .before .before .before .before .before .args .nv) (c .before .before .before .before .before .before .before .before .before .before .args .nm) (c .before .before .before .before .before .before .before .before .before .before .args .bits .now)) _) (c .before .before .before .before .before .before .before .status-and-event .ensures (x .tree) (x .parts))) (c .before .before .before .before .encode-guard .ensures x) (c .before .emit-and .ensures)
 

@@ -1,19 +1,9 @@
 use native.Mathlib.Omega.{arith}
-use Prim.Native.Nat.{ℕ, _+_, _*_, _≤_, _<_}
-use mathlib.Core.Path.{_≡_, refl, sym, ap, ap₂, subst, _∙_}
-use mathlib.Core.List.{[], _∷_}
-use lib.ListN.{length, getD, set, length-set}
-use Rattle.design.specs.DesignFile.{c-matrix, c-status, c-event, c-target, events as eventCount}
-use Rattle.design.specs.Check.{matricesOffset}
-use Rattle.design.proofs.Sections.{eventIn}
-use Rattle.clauses.specs.Literal.{Literal, negate}
-use Rattle.clauses.specs.Expression.{constantBits, integerAt, bool! }
-use Rattle.clauses.specs.FlatState.{slotsOf, layoutOf}
-use Rattle.clauses.proofs.EmitBuilds.{emits-same}
-use Rattle.clauses.proofs.EmitWords.{code-yes}
-use Rattle.clauses.proofs.EmitSlots.{status-room}
-use Rattle.clauses.proofs.EmitStates.{slotted-again, boolean-room, boolean-set}
-use Rattle.clauses.proofs.EmitCells.{sizes, kinds, slotted, event-slot, event-inside, event-got, event-reads, normal-fields, is, guard-none, guard-got, action-got, event-emits, enable-emits, guard-true, muxes-first, target-set, cell-emits, external-emits, cell-event}
+use Prim.Native.Nat.{ℕ, _+_, _*_}
+use mathlib.Core.Path.{refl, ap}
+use mathlib.Core.List.{[]}
+use lib.ListN.{getD}
+use Rattle.clauses.proofs.EmitCells.{sizes, slotted, event-slot, event-inside, event-got, event-reads}
 use borrow.Author.Needs.{needs}
 use Rattle.clauses.proofs.mover.encode_event.Statement.{statement}
 use Rattle.clauses.proofs.mover.encode_event.Tie as tie
@@ -22,55 +12,42 @@ use Rattle.clauses.proofs.mover.encode_event.Lts as lts
 use Rattle.clauses.proofs.expression.encode_bool.Reads as encode-bool-reads
 use Rattle.design.proofs.bytes.wide.Reads as wide-reads
 
--- src/mover.rt:58:21
 mul-at : tie.Need-mul-at
 mul-at c = omega (arith, event-slot (c .before .args .file .now) (c .before .args .events .now) (c .before .args .nv) (c .before .args .nm) (c .before .pre .0) (c .before .args .m) (c .before .args .e) (c .before .pre .2) (c .before .pre .3), sizes (c .before .args .file .now) (c .before .args .events .now) (c .before .args .nv) (c .before .args .nm) (c .before .pre .0))
 
--- src/mover.rt:58:21
 add-at : tie.Need-add-at
 add-at c = omega (arith, event-slot (c .before .args .file .now) (c .before .args .events .now) (c .before .args .nv) (c .before .args .nm) (c .before .pre .0) (c .before .args .m) (c .before .args .e) (c .before .pre .2) (c .before .pre .3), sizes (c .before .args .file .now) (c .before .args .events .now) (c .before .args .nv) (c .before .args .nm) (c .before .pre .0))
 
--- src/mover.rt:58:14
 mul-at-2 : tie.Need-mul-at-2
 mul-at-2 c = omega (arith, event-slot (c .before .args .file .now) (c .before .args .events .now) (c .before .args .nv) (c .before .args .nm) (c .before .pre .0) (c .before .args .m) (c .before .args .e) (c .before .pre .2) (c .before .pre .3), sizes (c .before .args .file .now) (c .before .args .events .now) (c .before .args .nv) (c .before .args .nm) (c .before .pre .0))
 
--- src/mover.rt:58:14
 element-copy-out-at : tie.Need-element-copy-out-at
 element-copy-out-at c = omega (arith, event-slot (c .before .args .file .now) (c .before .args .events .now) (c .before .args .nv) (c .before .args .nm) (c .before .pre .0) (c .before .args .m) (c .before .args .e) (c .before .pre .2) (c .before .pre .3), sizes (c .before .args .file .now) (c .before .args .events .now) (c .before .args .nv) (c .before .args .nm) (c .before .pre .0))
 
--- src/mover.rt:58:14
 cast-at : tie.Need-cast-at
 cast-at c = omega (arith, event-inside (c .before .before .args .file .now) (c .before .before .args .events .now) (c .before .before .args .nv) (c .before .before .args .nm) (c .before .before .pre .0) (c .before .before .args .m) (c .before .before .args .e) (c .before .before .pre .2) (c .before .before .pre .3), sizes (c .before .before .args .file .now) (c .before .before .args .events .now) (c .before .before .args .nv) (c .before .before .args .nm) (c .before .before .pre .0))
 
--- src/mover.rt:59:16
 add-past : tie.Need-add-past
 add-past c = omega (arith, event-inside (c .before .before .args .file .now) (c .before .before .args .events .now) (c .before .before .args .nv) (c .before .before .args .nm) (c .before .before .pre .0) (c .before .before .args .m) (c .before .before .args .e) (c .before .before .pre .2) (c .before .before .pre .3), sizes (c .before .before .args .file .now) (c .before .before .args .events .now) (c .before .before .args .nv) (c .before .before .args .nm) (c .before .before .pre .0))
 
--- src/mover.rt:59:30
 shared-slice-read-wide : tie.Need-shared-slice-read-wide
 shared-slice-read-wide c = omega (arith, event-inside (c .before .before .before .args .file .now) (c .before .before .before .args .events .now) (c .before .before .before .args .nv) (c .before .before .before .args .nm) (c .before .before .before .pre .0) (c .before .before .before .args .m) (c .before .before .before .args .e) (c .before .before .before .pre .2) (c .before .before .before .pre .3), sizes (c .before .before .before .args .file .now) (c .before .before .before .args .events .now) (c .before .before .before .args .nv) (c .before .before .before .args .nm) (c .before .before .before .pre .0))
 
--- src/mover.rt:59:25
 wide-requires : tie.Need-wide-requires
 wide-requires c κs = tt
 
--- src/mover.rt:59:16
 add-past-2 : tie.Need-add-past-2
 add-past-2 c = omega (arith, event-inside (c .before .before .before .before .args .file .now) (c .before .before .before .before .args .events .now) (c .before .before .before .before .args .nv) (c .before .before .before .before .args .nm) (c .before .before .before .before .pre .0) (c .before .before .before .before .args .m) (c .before .before .before .before .args .e) (c .before .before .before .before .pre .2) (c .before .before .before .before .pre .3), sizes (c .before .before .before .before .args .file .now) (c .before .before .before .before .args .events .now) (c .before .before .before .before .args .nv) (c .before .before .before .before .args .nm) (c .before .before .before .before .pre .0), c .wide .ensures .0)
 
--- src/mover.rt:63:9
 add-encode-bool : tie.Need-add-encode-bool
 add-encode-bool c = omega (arith, event-inside (c .before .before .before .before .args .file .now) (c .before .before .before .before .args .events .now) (c .before .before .before .before .args .nv) (c .before .before .before .before .args .nm) (c .before .before .before .before .pre .0) (c .before .before .before .before .args .m) (c .before .before .before .before .args .e) (c .before .before .before .before .pre .2) (c .before .before .before .before .pre .3), sizes (c .before .before .before .before .args .file .now) (c .before .before .before .before .args .events .now) (c .before .before .before .before .args .nv) (c .before .before .before .before .args .nm) (c .before .before .before .before .pre .0))
 
--- src/mover.rt:60:9
 encode-bool-requires : tie.Need-encode-bool-requires
 encode-bool-requires c κs = ((omega (arith, event-inside (c .before .before .before .before .before .before .args .file .now) (c .before .before .before .before .before .before .args .events .now) (c .before .before .before .before .before .before .args .nv) (c .before .before .before .before .before .before .args .nm) (c .before .before .before .before .before .before .pre .0) (c .before .before .before .before .before .before .args .m) (c .before .before .before .before .before .before .args .e) (c .before .before .before .before .before .before .pre .2) (c .before .before .before .before .before .before .pre .3), sizes (c .before .before .before .before .before .before .args .file .now) (c .before .before .before .before .before .before .args .events .now) (c .before .before .before .before .before .before .args .nv) (c .before .before .before .before .before .before .args .nm) (c .before .before .before .before .before .before .pre .0), c .before .before .wide .ensures .0), slotted (c .before .before .before .before .before .before .args .file .now) (c .before .before .before .before .before .before .args .events .now) (c .before .before .before .before .before .before .args .nv) (c .before .before .before .before .before .before .args .nm) (c .before .before .before .before .before .before .pre .0) _ (c .before .before .before .before .before .before .pre .1)), event-reads (c .before .before .before .before .before .before .args .file .now) (c .before .before .before .before .before .before .args .events .now) (c .before .before .before .before .before .before .args .nv) (c .before .before .before .before .before .before .args .nm) (c .before .before .before .before .before .before .pre .0) (c .before .before .before .before .before .before .args .m) (c .before .before .before .before .before .before .args .e) (c .before .before .before .before .before .before .pre .2) (c .before .before .before .before .before .before .pre .3) _ _ (ap (λ (x : ℕ). getD (c .before .before .before .before .before .before .args .events .now) (16 * (c .before .before .before .before .before .before .args .m) + (c .before .before .before .before .before .before .args .e)) 0 + 1 + x) (c .before .before .wide .ensures .0)) refl)
 
--- src/mover.rt:43:1
 same-length : tie.Need-same-length
 same-length c = search needs
 
--- src/mover.rt:43:1
 returns : tie.Need-returns
 returns c = λ d w. c .before .encode-bool .ensures _ _ (event-got (c .before .before .before .before .before .before .before .before .args .file .now) (c .before .before .before .before .before .before .before .before .args .events .now) (c .before .before .before .before .before .before .before .before .args .nv) (c .before .before .before .before .before .before .before .before .args .nm) (c .before .before .before .before .before .before .before .before .pre .0) (c .before .before .before .before .before .before .before .before .args .m) (c .before .before .before .before .before .before .before .before .args .e) (c .before .before .before .before .before .before .before .before .pre .2) (c .before .before .before .before .before .before .before .before .pre .3) d w _ _ (ap (λ (x : ℕ). getD (c .before .before .before .before .before .before .before .before .args .events .now) (16 * (c .before .before .before .before .before .before .before .before .args .m) + (c .before .before .before .before .before .before .before .before .args .e)) 0 + 1 + x) (c .before .before .before .before .wide .ensures .0)) refl) .0
 

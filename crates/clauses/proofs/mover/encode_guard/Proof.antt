@@ -1,19 +1,8 @@
 use native.Mathlib.Omega.{arith}
-use Prim.Native.Nat.{ℕ, _+_, _*_, _≤_, _<_}
-use mathlib.Core.Path.{_≡_, refl, sym, ap, ap₂, subst, _∙_}
-use mathlib.Core.List.{[], _∷_}
-use lib.ListN.{length, getD, set, length-set}
-use Rattle.design.specs.DesignFile.{c-matrix, c-status, c-event, c-target, events as eventCount}
-use Rattle.design.specs.Check.{matricesOffset}
-use Rattle.design.proofs.Sections.{eventIn}
-use Rattle.clauses.specs.Literal.{Literal, negate}
-use Rattle.clauses.specs.Expression.{constantBits, integerAt, bool! }
+use mathlib.Core.Path.{sym, _∙_}
+use mathlib.Core.List.{[]}
 use Rattle.clauses.specs.FlatState.{slotsOf, layoutOf}
-use Rattle.clauses.proofs.EmitBuilds.{emits-same}
-use Rattle.clauses.proofs.EmitWords.{code-yes}
-use Rattle.clauses.proofs.EmitSlots.{status-room}
-use Rattle.clauses.proofs.EmitStates.{slotted-again, boolean-room, boolean-set}
-use Rattle.clauses.proofs.EmitCells.{sizes, kinds, slotted, event-slot, event-inside, event-got, event-reads, normal-fields, is, guard-none, guard-got, action-got, event-emits, enable-emits, guard-true, muxes-first, target-set, cell-emits, external-emits, cell-event}
+use Rattle.clauses.proofs.EmitCells.{sizes, slotted, normal-fields, guard-none, guard-got, guard-true}
 use borrow.Author.Needs.{needs}
 use Rattle.clauses.proofs.mover.encode_guard.Statement.{statement}
 use Rattle.clauses.proofs.mover.encode_guard.Tie as tie
@@ -22,43 +11,33 @@ use Rattle.clauses.proofs.mover.encode_guard.Lts as lts
 use Rattle.clauses.proofs.expression.encode_bool.Reads as encode-bool-reads
 use Rattle.design.proofs.bytes.wide.Reads as wide-reads
 
--- src/mover.rt:119:23
 add-wide : tie.Need-add-wide
 add-wide c = omega (arith, (normal-fields (c .before .args .file .now) (c .before .args .events .now) (c .before .args .nv) (c .before .args .nm) (c .before .pre .0) (c .before .args .p) (c .before .pre .2)) .header, sizes (c .before .args .file .now) (c .before .args .events .now) (c .before .args .nv) (c .before .args .nm) (c .before .pre .0))
 
--- src/mover.rt:119:18
 shared-slice-read-wide : tie.Need-shared-slice-read-wide
 shared-slice-read-wide c = omega (arith, (normal-fields (c .before .before .args .file .now) (c .before .before .args .events .now) (c .before .before .args .nv) (c .before .before .args .nm) (c .before .before .pre .0) (c .before .before .args .p) (c .before .before .pre .2)) .header, sizes (c .before .before .args .file .now) (c .before .before .args .events .now) (c .before .before .args .nv) (c .before .before .args .nm) (c .before .before .pre .0))
 
--- src/mover.rt:119:9
 wide-requires : tie.Need-wide-requires
 wide-requires c κs = tt
 
--- src/mover.rt:121:9
 returns : tie.Need-returns
 returns c = λ x. guard-true (layoutOf (c .before .before .before .before .args .nv)) (slotsOf (c .before .before .before .before .args .file .now) (c .before .before .before .before .args .nv) (c .before .before .before .before .args .nm) (c .before .before .before .before .args .bits .now)) _ _ _ _ (guard-none (c .before .before .before .before .args .file .now) (c .before .before .before .before .args .events .now) (c .before .before .before .before .args .nv) (c .before .before .before .before .args .nm) (c .before .before .before .before .pre .0) (c .before .before .before .before .args .p) x (sym (c .before .wide .ensures .0) ∙ c .if1 .taken))
 
--- src/mover.rt:130:9
 add-encode-bool : tie.Need-add-encode-bool
 add-encode-bool c = omega (arith, (normal-fields (c .before .before .before .before .args .file .now) (c .before .before .before .before .args .events .now) (c .before .before .before .before .args .nv) (c .before .before .before .before .args .nm) (c .before .before .before .before .pre .0) (c .before .before .before .before .args .p) (c .before .before .before .before .pre .2)) .header, sizes (c .before .before .before .before .args .file .now) (c .before .before .before .before .args .events .now) (c .before .before .before .before .args .nv) (c .before .before .before .before .args .nm) (c .before .before .before .before .pre .0))
 
--- src/mover.rt:131:9
 add-encode-bool-2 : tie.Need-add-encode-bool-2
 add-encode-bool-2 c = omega (arith, (normal-fields (c .before .before .before .before .args .file .now) (c .before .before .before .before .args .events .now) (c .before .before .before .before .args .nv) (c .before .before .before .before .args .nm) (c .before .before .before .before .pre .0) (c .before .before .before .before .args .p) (c .before .before .before .before .pre .2)) .past, sizes (c .before .before .before .before .args .file .now) (c .before .before .before .before .args .events .now) (c .before .before .before .before .args .nv) (c .before .before .before .before .args .nm) (c .before .before .before .before .pre .0), c .before .wide .ensures .0)
 
--- src/mover.rt:131:9
 add-encode-bool-3 : tie.Need-add-encode-bool-3
 add-encode-bool-3 c = omega (arith, (normal-fields (c .before .before .before .before .args .file .now) (c .before .before .before .before .args .events .now) (c .before .before .before .before .args .nv) (c .before .before .before .before .args .nm) (c .before .before .before .before .pre .0) (c .before .before .before .before .args .p) (c .before .before .before .before .pre .2)) .past, sizes (c .before .before .before .before .args .file .now) (c .before .before .before .before .args .events .now) (c .before .before .before .before .args .nv) (c .before .before .before .before .args .nm) (c .before .before .before .before .pre .0), c .before .wide .ensures .0)
 
--- src/mover.rt:127:9
 encode-bool-requires : tie.Need-encode-bool-requires
 encode-bool-requires c κs = ((omega (arith, (normal-fields (c .before .before .before .before .before .before .args .file .now) (c .before .before .before .before .before .before .args .events .now) (c .before .before .before .before .before .before .args .nv) (c .before .before .before .before .before .before .args .nm) (c .before .before .before .before .before .before .pre .0) (c .before .before .before .before .before .before .args .p) (c .before .before .before .before .before .before .pre .2)) .past, sizes (c .before .before .before .before .before .before .args .file .now) (c .before .before .before .before .before .before .args .events .now) (c .before .before .before .before .before .before .args .nv) (c .before .before .before .before .before .before .args .nm) (c .before .before .before .before .before .before .pre .0), c .before .before .before .wide .ensures .0), slotted (c .before .before .before .before .before .before .args .file .now) (c .before .before .before .before .before .before .args .events .now) (c .before .before .before .before .before .before .args .nv) (c .before .before .before .before .before .before .args .nm) (c .before .before .before .before .before .before .pre .0) _ (c .before .before .before .before .before .before .pre .1)), record { tree = c .before .before .before .before .before .before .pre .2 .cell .guard; past = _; reads = guard-got (c .before .before .before .before .before .before .args .file .now) (c .before .before .before .before .before .before .args .events .now) (c .before .before .before .before .before .before .args .nv) (c .before .before .before .before .before .before .args .nm) (c .before .before .before .before .before .before .pre .0) (c .before .before .before .before .before .before .args .p) (c .before .before .before .before .before .before .pre .2) _ (c .before .before .before .wide .ensures .0) (c .before .before .if1 .left) })
 
--- src/mover.rt:105:1
 same-length : tie.Need-same-length
 same-length c = search needs
 
--- src/mover.rt:105:1
 returns-2 : tie.Need-returns-2
 returns-2 c = λ x. c .before .encode-bool .ensures _ _ (guard-got (c .before .before .before .before .before .before .before .before .args .file .now) (c .before .before .before .before .before .before .before .before .args .events .now) (c .before .before .before .before .before .before .before .before .args .nv) (c .before .before .before .before .before .before .before .before .args .nm) (c .before .before .before .before .before .before .before .before .pre .0) (c .before .before .before .before .before .before .before .before .args .p) x _ (c .before .before .before .before .before .wide .ensures .0) (c .before .before .before .before .if1 .left)) .0
 

@@ -1,13 +1,8 @@
 use native.Mathlib.Omega.{arith}
-use Prim.Native.Nat.{ℕ, _+_, _*_, _-_, _≤_, _<_}
-use mathlib.Core.Path.{_≡_, refl, sym, ap, ap₂, subst, _∙_}
-use lib.ListN.{length, getD}
-use Rattle.clauses.specs.Writing.{fromCode}
+use Prim.Native.Nat.{_-_}
 use Rattle.clauses.specs.FlatState.{slotsOf, layoutOf}
-use Rattle.clauses.proofs.EmitBuilds.{emits-same}
-use Rattle.clauses.proofs.EmitWords.{code-yes}
-use Rattle.clauses.proofs.EmitCells.{sizes, kinds, slotted}
-use Rattle.clauses.proofs.EmitSteps.{cell-here, place-small, few-cells, all-few, cell-is, external-is, raised-kind, Moving, moving-start, moving-on, moving-end, Scanning, scanning-start, scanning-on, scanning-end, scan-fields, link-pass, link-emits, invariant-got, property-0, property-1, cell-in, mover-total}
+use Rattle.clauses.proofs.EmitCells.{kinds}
+use Rattle.clauses.proofs.EmitSteps.{cell-here, place-small, few-cells, cell-is, external-is, raised-kind}
 use borrow.Author.Needs.{needs}
 use Rattle.clauses.proofs.movers.encode_mover.Statement.{statement}
 use Rattle.clauses.proofs.movers.encode_mover.Tie as tie
@@ -17,45 +12,35 @@ use Rattle.clauses.proofs.mover.encode_cell.Reads as encode-cell-reads
 use Rattle.clauses.proofs.mover.encode_external.Reads as encode-external-reads
 use Rattle.step.proofs.mover.external.Reads as external-reads
 
--- src/movers.rt:39:17
 mul-p : tie.Need-mul-p
 mul-p c = omega (arith, few-cells (c .before .before .args .file .now) (c .before .before .args .events .now) (c .before .before .args .cells .now) (c .before .before .args .nv) (c .before .before .args .nm) (c .before .before .args .count) (c .before .before .pre .0) (c .before .before .pre .2))
 
--- src/movers.rt:39:17
 element-copy-out-p : tie.Need-element-copy-out-p
 element-copy-out-p c = omega (arith, few-cells (c .before .before .args .file .now) (c .before .before .args .events .now) (c .before .before .args .cells .now) (c .before .before .args .nv) (c .before .before .args .nm) (c .before .before .args .count) (c .before .before .pre .0) (c .before .before .pre .2))
 
--- src/movers.rt:39:17
 cast-p : tie.Need-cast-p
 cast-p c = omega (arith, place-small (c .before .before .before .args .file .now) (c .before .before .before .args .events .now) (c .before .before .before .args .cells .now) (c .before .before .before .args .nv) (c .before .before .before .args .nm) (c .before .before .before .args .count) (c .before .before .before .pre .0) (c .before .before .before .pre .2) (c .before .before .before .args .i) (c .before .if1 .taken))
 
--- src/movers.rt:40:9
 encode-cell-requires : tie.Need-encode-cell-requires
 encode-cell-requires c κs = ((c .before .before .before .before .pre .0), (c .before .before .before .before .pre .1), cell-here (c .before .before .before .before .args .file .now) (c .before .before .before .before .args .events .now) (c .before .before .before .before .args .cells .now) (c .before .before .before .before .args .nv) (c .before .before .before .before .args .nm) (c .before .before .before .before .args .count) (c .before .before .before .before .pre .0) (c .before .before .before .before .pre .2) (c .before .before .before .before .args .i) (c .before .before .if1 .taken))
 
--- src/movers.rt:42:13
 external-requires : tie.Need-external-requires
-external-requires c κs = (kinds (c .before .before .args .file .now) (c .before .before .args .events .now) (c .before .before .args .nv) (c .before .before .args .nm) (c .before .before .pre .0), omega (arith, c .before .before .pre .4, c .if1 .left))
+external-requires c κs = (kinds (c .before .before .args .file .now) (c .before .before .args .events .now) (c .before .before .args .nv) (c .before .before .args .nm) (c .before .before .pre .0), omega (arith, c .before .before .pre .3, c .if1 .left))
 
--- src/movers.rt:43:9
 encode-external-requires : tie.Need-encode-external-requires
-encode-external-requires c κs = ((c .before .before .before .before .pre .0), (c .before .before .before .before .pre .1), c .before .external .ensures .1, raised-kind (c .before .before .before .before .args .file .now) (c .before .before .before .before .args .events .now) (c .before .before .before .before .args .cells .now) (c .before .before .before .before .args .nv) (c .before .before .before .before .args .nm) (c .before .before .before .before .args .count) (c .before .before .before .before .pre .0) (c .before .before .before .before .pre .2) (c .before .before .before .before .args .i) _ (c .before .before .if1 .left) (c .before .before .before .before .pre .4) (c .before .external .ensures .0))
+encode-external-requires c κs = ((c .before .before .before .before .pre .0), (c .before .before .before .before .pre .1), c .before .external .ensures .1, raised-kind (c .before .before .before .before .args .file .now) (c .before .before .before .before .args .events .now) (c .before .before .before .before .args .cells .now) (c .before .before .before .before .args .nv) (c .before .before .before .before .args .nm) (c .before .before .before .before .args .count) (c .before .before .before .before .pre .0) (c .before .before .before .before .pre .2) (c .before .before .before .before .args .i) _ (c .before .before .if1 .left) (c .before .before .before .before .pre .3) (c .before .external .ensures .0))
 
--- src/movers.rt:22:1
 same-length : tie.Need-same-length
 same-length c = search needs
 
--- src/movers.rt:22:1
 returns : tie.Need-returns
 returns c = cell-is (c .before .before .before .before .before .before .args .file .now) (c .before .before .before .before .before .before .args .events .now) (c .before .before .before .before .before .before .args .cells .now) (c .before .before .before .before .before .before .args .nv) (c .before .before .before .before .before .before .args .nm) (c .before .before .before .before .before .before .args .count) (c .before .before .before .before .before .before .pre .0) (c .before .before .before .before .before .before .pre .2) (layoutOf (c .before .before .before .before .before .before .args .nv)) (slotsOf (c .before .before .before .before .before .before .args .file .now) (c .before .before .before .before .before .before .args .nv) (c .before .before .before .before .before .before .args .nm) (c .before .before .before .before .before .before .args .bits .now)) (c .before .before .before .before .before .before .args .i) (c .before .before .before .before .if1 .taken) (c .before .encode-cell .ensures)
 
--- src/movers.rt:22:1
 same-length-2 : tie.Need-same-length-2
 same-length-2 c = search needs
 
--- src/movers.rt:22:1
 returns-2 : tie.Need-returns-2
-returns-2 c = external-is (c .before .before .before .before .before .before .args .file .now) (c .before .before .before .before .before .before .args .events .now) (c .before .before .before .before .before .before .args .cells .now) (c .before .before .before .before .before .before .args .nv) (c .before .before .before .before .before .before .args .nm) (c .before .before .before .before .before .before .args .count) (c .before .before .before .before .before .before .pre .0) (c .before .before .before .before .before .before .pre .2) (layoutOf (c .before .before .before .before .before .before .args .nv)) (slotsOf (c .before .before .before .before .before .before .args .file .now) (c .before .before .before .before .before .before .args .nv) (c .before .before .before .before .before .before .args .nm) (c .before .before .before .before .before .before .args .bits .now)) (c .before .before .before .before .before .before .args .i) (c .before .before .before .before .if1 .left) _ (c .before .before .before .external .ensures .0) (c .before .before .before .before .before .before .pre .4) (c .before .encode-external .ensures)
+returns-2 c = external-is (c .before .before .before .before .before .before .args .file .now) (c .before .before .before .before .before .before .args .events .now) (c .before .before .before .before .before .before .args .cells .now) (c .before .before .before .before .before .before .args .nv) (c .before .before .before .before .before .before .args .nm) (c .before .before .before .before .before .before .args .count) (c .before .before .before .before .before .before .pre .0) (c .before .before .before .before .before .before .pre .2) (layoutOf (c .before .before .before .before .before .before .args .nv)) (slotsOf (c .before .before .before .before .before .before .args .file .now) (c .before .before .before .before .before .before .args .nv) (c .before .before .before .before .before .before .args .nm) (c .before .before .before .before .before .before .args .bits .now)) (c .before .before .before .before .before .before .args .i) (c .before .before .before .before .if1 .left) _ (c .before .before .before .external .ensures .0) (c .before .before .before .before .before .before .pre .3) (c .before .encode-external .ensures)
 
 pub encode-mover-spec : {M : Type 1} → statement M
 encode-mover-spec =

@@ -1,13 +1,8 @@
 use native.Mathlib.Omega.{arith}
-use Prim.Native.Nat.{ℕ, _+_, _*_, _-_, _≤_, _<_}
-use mathlib.Core.Path.{_≡_, refl, sym, ap, ap₂, subst, _∙_}
-use lib.ListN.{length, getD}
-use Rattle.clauses.specs.Writing.{fromCode}
-use Rattle.clauses.specs.FlatState.{slotsOf, layoutOf}
-use Rattle.clauses.proofs.EmitBuilds.{emits-same}
-use Rattle.clauses.proofs.EmitWords.{code-yes}
-use Rattle.clauses.proofs.EmitCells.{sizes, kinds, slotted}
-use Rattle.clauses.proofs.EmitSteps.{cell-here, place-small, few-cells, all-few, cell-is, external-is, raised-kind, Moving, moving-start, moving-on, moving-end, Scanning, scanning-start, scanning-on, scanning-end, scan-fields, link-pass, link-emits, invariant-got, property-0, property-1, cell-in, mover-total}
+use Prim.Native.Nat.{_-_}
+use mathlib.Core.Path.{_≡_, refl}
+use lib.ListN.{length}
+use Rattle.clauses.proofs.EmitSteps.{Moving, moving-start, moving-on, moving-end, mover-total}
 use Rattle.clauses.proofs.movers.encode_step.Statement.{statement}
 use Rattle.clauses.proofs.movers.encode_step.Tie as tie
 use Rattle.clauses.proofs.movers.encode_step.Reads as reads
@@ -20,41 +15,32 @@ Inv-loop file events cells count all nv nm bits firsts₀ buf₀ cur var at₀ g
 abbrev μ-loop : tie.MeasureT-loop
 μ-loop file events cells count all nv nm bits firsts₀ buf₀ cur var at₀ g₀ i₀ firsts buf at g i = all - i
 
--- src/movers.rt:68:5
 loop-holds : tie.Need-loop-holds Inv-loop μ-loop
-loop-holds c = (moving-start (c .before .args .file .now) (c .before .args .nv) (c .before .args .nm) (c .before .args .all) (c .before .args .bits .now) _ _ _ _ (c .before .pre .6), refl)
+loop-holds c = (moving-start (c .before .args .file .now) (c .before .args .nv) (c .before .args .nm) (c .before .args .all) (c .before .args .bits .now) _ _ _ _ (c .before .pre .5), refl)
 
--- src/movers.rt:69:13
 encode-mover-requires : tie.Need-encode-mover-requires Inv-loop μ-loop
-encode-mover-requires c κs = ((c .before .before .before .before .pre .0), (c .before .before .before .before .pre .1), c .before .before .before .before .pre .2, c .before .before .before .before .pre .3, omega (arith, c .before .before .before .before .pre .4, c .before .loop-test .taken))
+encode-mover-requires c κs = ((c .before .before .before .before .pre .0), (c .before .before .before .before .pre .1), c .before .before .before .before .pre .2, omega (arith, c .before .before .before .before .pre .3, c .before .loop-test .taken))
 
--- src/movers.rt:70:9
 mul-firsts : tie.Need-mul-firsts Inv-loop μ-loop
-mul-firsts c = omega (arith, c .before .before .before .before .before .before .pre .5, c .before .before .before .loop-test .taken)
+mul-firsts c = omega (arith, c .before .before .before .before .before .before .pre .4, c .before .before .before .loop-test .taken)
 
--- src/movers.rt:70:9
 element-write-firsts : tie.Need-element-write-firsts Inv-loop μ-loop
-element-write-firsts c = omega (arith, c .before .before .before .before .before .before .pre .5, c .before .before .before .loop-test .taken)
+element-write-firsts c = omega (arith, c .before .before .before .before .before .before .pre .4, c .before .before .before .loop-test .taken)
 
--- src/movers.rt:73:13
 add-i : tie.Need-add-i Inv-loop μ-loop
-add-i c = omega (arith, c .before .before .before .before .before .before .pre .5, c .before .before .before .loop-test .taken)
+add-i c = omega (arith, c .before .before .before .before .before .before .pre .4, c .before .before .before .loop-test .taken)
 
--- src/movers.rt:68:5
 loop-less : tie.Need-loop-less Inv-loop μ-loop
 loop-less c = omega arith
 
--- src/movers.rt:68:5
 loop-again : tie.Need-loop-again Inv-loop μ-loop
-loop-again c = (moving-on (c .before .before .before .before .before .before .args .file .now) (c .before .before .before .before .before .before .args .nv) (c .before .before .before .before .before .before .args .nm) (c .before .before .before .before .before .before .args .all) (c .before .before .before .before .before .before .args .bits .now) _ (c .before .before .before .loop-test .taken) (c .before .before .before .before .before .before .pre .5) (mover-total (c .before .before .before .before .before .before .args .file .now) (c .before .before .before .before .before .before .args .events .now) (c .before .before .before .before .before .before .args .nv) (c .before .before .before .before .before .before .args .nm) (c .before .before .before .before .before .before .pre .0) (c .before .before .before .before .before .before .args .cells .now) (c .before .before .before .before .before .before .args .count) (c .before .before .before .before .before .before .args .all) (c .before .before .before .before .before .before .pre .2) (c .before .before .before .before .before .before .pre .4)) (c .before .before .before .before .loop .inv .0) _ (c .before .encode-mover .ensures), omega arith)
+loop-again c = (moving-on (c .before .before .before .before .before .before .args .file .now) (c .before .before .before .before .before .before .args .nv) (c .before .before .before .before .before .before .args .nm) (c .before .before .before .before .before .before .args .all) (c .before .before .before .before .before .before .args .bits .now) _ (c .before .before .before .loop-test .taken) (c .before .before .before .before .before .before .pre .4) (mover-total (c .before .before .before .before .before .before .args .file .now) (c .before .before .before .before .before .before .args .events .now) (c .before .before .before .before .before .before .args .nv) (c .before .before .before .before .before .before .args .nm) (c .before .before .before .before .before .before .pre .0) (c .before .before .before .before .before .before .args .cells .now) (c .before .before .before .before .before .before .args .count) (c .before .before .before .before .before .before .args .all) (c .before .before .before .before .before .before .pre .2) (c .before .before .before .before .before .before .pre .3)) (c .before .before .before .before .loop .inv .0) _ (c .before .encode-mover .ensures), omega arith)
 
--- src/movers.rt:48:1
 same-length : tie.Need-same-length Inv-loop μ-loop
 same-length c = c .before .loop .inv .1
 
--- src/movers.rt:48:1
 returns : tie.Need-returns Inv-loop μ-loop
-returns c = (moving-end (c .before .before .before .args .file .now) (c .before .before .before .args .nv) (c .before .before .before .args .nm) (c .before .before .before .args .all) (c .before .before .before .args .bits .now) _ (c .loop-test .left) (mover-total (c .before .before .before .args .file .now) (c .before .before .before .args .events .now) (c .before .before .before .args .nv) (c .before .before .before .args .nm) (c .before .before .before .pre .0) (c .before .before .before .args .cells .now) (c .before .before .before .args .count) (c .before .before .before .args .all) (c .before .before .before .pre .2) (c .before .before .before .pre .4)) (c .before .loop .inv .0), (c .before .loop .inv .0) .size)
+returns c = (moving-end (c .before .before .before .args .file .now) (c .before .before .before .args .nv) (c .before .before .before .args .nm) (c .before .before .before .args .all) (c .before .before .before .args .bits .now) _ (c .loop-test .left) (mover-total (c .before .before .before .args .file .now) (c .before .before .before .args .events .now) (c .before .before .before .args .nv) (c .before .before .before .args .nm) (c .before .before .before .pre .0) (c .before .before .before .args .cells .now) (c .before .before .before .args .count) (c .before .before .before .args .all) (c .before .before .before .pre .2) (c .before .before .before .pre .3)) (c .before .loop .inv .0), (c .before .loop .inv .0) .size)
 
 pub encode-step-spec : {M : Type 1} → statement M
 encode-step-spec =

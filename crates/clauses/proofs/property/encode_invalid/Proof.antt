@@ -1,13 +1,11 @@
 use native.Mathlib.Omega.{arith}
-use Prim.Native.Nat.{ℕ, _+_, _*_, _-_, _≤_, _<_}
-use mathlib.Core.Path.{_≡_, refl, sym, ap, ap₂, subst, _∙_}
-use lib.ListN.{length, getD}
+use Prim.Native.Nat.{ℕ, _+_, _-_}
+use mathlib.Core.Path.{_≡_, refl, ap₂}
+use lib.ListN.{length}
 use Rattle.clauses.specs.Writing.{fromCode}
-use Rattle.clauses.specs.FlatState.{slotsOf, layoutOf}
-use Rattle.clauses.proofs.EmitBuilds.{emits-same}
 use Rattle.clauses.proofs.EmitWords.{code-yes}
-use Rattle.clauses.proofs.EmitCells.{sizes, kinds, slotted}
-use Rattle.clauses.proofs.EmitSteps.{cell-here, place-small, few-cells, all-few, cell-is, external-is, raised-kind, Moving, moving-start, moving-on, moving-end, Scanning, scanning-start, scanning-on, scanning-end, scan-fields, link-pass, link-emits, invariant-got, property-0, property-1, cell-in, mover-total}
+use Rattle.clauses.proofs.EmitCells.{sizes}
+use Rattle.clauses.proofs.EmitSteps.{Scanning, scanning-start, scanning-on, scanning-end, cell-in}
 use Rattle.clauses.proofs.property.encode_invalid.Statement.{statement}
 use Rattle.clauses.proofs.property.encode_invalid.Tie as tie
 use Rattle.clauses.proofs.property.encode_invalid.Reads as reads
@@ -23,71 +21,54 @@ Inv-loop file events nv nm bits buf₀ cur var count p₀ part₀ at₀ g₀ i�
 abbrev μ-loop : tie.MeasureT-loop
 μ-loop file events nv nm bits buf₀ cur var count p₀ part₀ at₀ g₀ i₀ buf p part at g i = count - i
 
--- src/property.rt:74:9
 trailer-word-requires : tie.Need-trailer-word-requires Inv-loop μ-loop
 trailer-word-requires c κs = omega (arith, sizes (c .before .args .file .now) (c .before .args .events .now) (c .before .args .nv) (c .before .args .nm) (c .before .pre .0))
 
--- src/property.rt:75:9
 trailer-word-requires-2 : tie.Need-trailer-word-requires-2 Inv-loop μ-loop
 trailer-word-requires-2 c κs = omega (arith, sizes (c .before .before .args .file .now) (c .before .before .args .events .now) (c .before .before .args .nv) (c .before .before .args .nm) (c .before .before .pre .0))
 
--- src/property.rt:80:5
 loop-holds : tie.Need-loop-holds Inv-loop μ-loop
 loop-holds c = (scanning-start (c .before .before .before .args .file .now) (c .before .before .before .args .nv) (c .before .before .before .args .nm) (c .before .before .before .args .bits .now) _ _ _ _ _ (c .trailer-word2 .ensures .0) code-yes, refl)
 
--- src/property.rt:81:13
 encode-link-requires : tie.Need-encode-link-requires Inv-loop μ-loop
 encode-link-requires c κs = ((c .before .before .before .before .before .before .pre .0), (c .before .before .before .before .before .before .pre .1), (cell-in (c .before .before .before .before .before .before .args .file .now) (c .before .before .before .before .before .before .args .events .now) (c .before .before .before .before .before .before .args .nv) (c .before .before .before .before .before .before .args .nm) (c .before .before .before .before .before .before .pre .0) _ _ (omega (arith, c .before .loop-test .taken, c .before .before .before .before .trailer-word .ensures)) ((c .before .before .loop .inv .0) .place)))
 
--- src/property.rt:85:13
 add-p : tie.Need-add-p Inv-loop μ-loop
 add-p c = omega (arith, (cell-in (c .before .before .before .before .before .before .before .before .args .file .now) (c .before .before .before .before .before .before .before .before .args .events .now) (c .before .before .before .before .before .before .before .before .args .nv) (c .before .before .before .before .before .before .before .before .args .nm) (c .before .before .before .before .before .before .before .before .pre .0) _ _ (omega (arith, c .before .before .before .loop-test .taken, c .before .before .before .before .before .before .trailer-word .ensures)) ((c .before .before .before .before .loop .inv .0) .place)) .header, (cell-in (c .before .before .before .before .before .before .before .before .args .file .now) (c .before .before .before .before .before .before .before .before .args .events .now) (c .before .before .before .before .before .before .before .before .args .nv) (c .before .before .before .before .before .before .before .before .args .nm) (c .before .before .before .before .before .before .before .before .pre .0) _ _ (omega (arith, c .before .before .before .loop-test .taken, c .before .before .before .before .before .before .trailer-word .ensures)) ((c .before .before .before .before .loop .inv .0) .place)) .past, sizes (c .before .before .before .before .before .before .before .before .args .file .now) (c .before .before .before .before .before .before .before .before .args .events .now) (c .before .before .before .before .before .before .before .before .args .nv) (c .before .before .before .before .before .before .before .before .args .nm) (c .before .before .before .before .before .before .before .before .pre .0))
 
--- src/property.rt:85:31
 add-wide : tie.Need-add-wide Inv-loop μ-loop
 add-wide c = omega (arith, (cell-in (c .before .before .before .before .before .before .before .before .args .file .now) (c .before .before .before .before .before .before .before .before .args .events .now) (c .before .before .before .before .before .before .before .before .args .nv) (c .before .before .before .before .before .before .before .before .args .nm) (c .before .before .before .before .before .before .before .before .pre .0) _ _ (omega (arith, c .before .before .before .loop-test .taken, c .before .before .before .before .before .before .trailer-word .ensures)) ((c .before .before .before .before .loop .inv .0) .place)) .header, (cell-in (c .before .before .before .before .before .before .before .before .args .file .now) (c .before .before .before .before .before .before .before .before .args .events .now) (c .before .before .before .before .before .before .before .before .args .nv) (c .before .before .before .before .before .before .before .before .args .nm) (c .before .before .before .before .before .before .before .before .pre .0) _ _ (omega (arith, c .before .before .before .loop-test .taken, c .before .before .before .before .before .before .trailer-word .ensures)) ((c .before .before .before .before .loop .inv .0) .place)) .past, sizes (c .before .before .before .before .before .before .before .before .args .file .now) (c .before .before .before .before .before .before .before .before .args .events .now) (c .before .before .before .before .before .before .before .before .args .nv) (c .before .before .before .before .before .before .before .before .args .nm) (c .before .before .before .before .before .before .before .before .pre .0))
 
--- src/property.rt:85:26
 shared-slice-read-wide : tie.Need-shared-slice-read-wide Inv-loop μ-loop
 shared-slice-read-wide c = omega (arith, (cell-in (c .before .before .before .before .before .before .before .before .before .args .file .now) (c .before .before .before .before .before .before .before .before .before .args .events .now) (c .before .before .before .before .before .before .before .before .before .args .nv) (c .before .before .before .before .before .before .before .before .before .args .nm) (c .before .before .before .before .before .before .before .before .before .pre .0) _ _ (omega (arith, c .before .before .before .before .loop-test .taken, c .before .before .before .before .before .before .before .trailer-word .ensures)) ((c .before .before .before .before .before .loop .inv .0) .place)) .header, (cell-in (c .before .before .before .before .before .before .before .before .before .args .file .now) (c .before .before .before .before .before .before .before .before .before .args .events .now) (c .before .before .before .before .before .before .before .before .before .args .nv) (c .before .before .before .before .before .before .before .before .before .args .nm) (c .before .before .before .before .before .before .before .before .before .pre .0) _ _ (omega (arith, c .before .before .before .before .loop-test .taken, c .before .before .before .before .before .before .before .trailer-word .ensures)) ((c .before .before .before .before .before .loop .inv .0) .place)) .past, sizes (c .before .before .before .before .before .before .before .before .before .args .file .now) (c .before .before .before .before .before .before .before .before .before .args .events .now) (c .before .before .before .before .before .before .before .before .before .args .nv) (c .before .before .before .before .before .before .before .before .before .args .nm) (c .before .before .before .before .before .before .before .before .before .pre .0))
 
--- src/property.rt:85:21
 wide-requires : tie.Need-wide-requires Inv-loop μ-loop
 wide-requires c κs = tt
 
--- src/property.rt:85:13
 add-p-2 : tie.Need-add-p-2 Inv-loop μ-loop
 add-p-2 c = omega (arith, (cell-in (c .before .before .before .before .before .before .before .before .before .before .args .file .now) (c .before .before .before .before .before .before .before .before .before .before .args .events .now) (c .before .before .before .before .before .before .before .before .before .before .args .nv) (c .before .before .before .before .before .before .before .before .before .before .args .nm) (c .before .before .before .before .before .before .before .before .before .before .pre .0) _ _ (omega (arith, c .before .before .before .before .before .loop-test .taken, c .before .before .before .before .before .before .before .before .trailer-word .ensures)) ((c .before .before .before .before .before .before .loop .inv .0) .place)) .past, sizes (c .before .before .before .before .before .before .before .before .before .before .args .file .now) (c .before .before .before .before .before .before .before .before .before .before .args .events .now) (c .before .before .before .before .before .before .before .before .before .before .args .nv) (c .before .before .before .before .before .before .before .before .before .before .args .nm) (c .before .before .before .before .before .before .before .before .before .before .pre .0), c .wide .ensures)
 
--- src/property.rt:85:52
 add-word : tie.Need-add-word Inv-loop μ-loop
 add-word c = omega (arith, (cell-in (c .before .before .before .before .before .before .before .before .before .before .args .file .now) (c .before .before .before .before .before .before .before .before .before .before .args .events .now) (c .before .before .before .before .before .before .before .before .before .before .args .nv) (c .before .before .before .before .before .before .before .before .before .before .args .nm) (c .before .before .before .before .before .before .before .before .before .before .pre .0) _ _ (omega (arith, c .before .before .before .before .before .loop-test .taken, c .before .before .before .before .before .before .before .before .trailer-word .ensures)) ((c .before .before .before .before .before .before .loop .inv .0) .place)) .header, (cell-in (c .before .before .before .before .before .before .before .before .before .before .args .file .now) (c .before .before .before .before .before .before .before .before .before .before .args .events .now) (c .before .before .before .before .before .before .before .before .before .before .args .nv) (c .before .before .before .before .before .before .before .before .before .before .args .nm) (c .before .before .before .before .before .before .before .before .before .before .pre .0) _ _ (omega (arith, c .before .before .before .before .before .loop-test .taken, c .before .before .before .before .before .before .before .before .trailer-word .ensures)) ((c .before .before .before .before .before .before .loop .inv .0) .place)) .past, sizes (c .before .before .before .before .before .before .before .before .before .before .args .file .now) (c .before .before .before .before .before .before .before .before .before .before .args .events .now) (c .before .before .before .before .before .before .before .before .before .before .args .nv) (c .before .before .before .before .before .before .before .before .before .before .args .nm) (c .before .before .before .before .before .before .before .before .before .before .pre .0))
 
--- src/property.rt:85:41
 word-requires : tie.Need-word-requires Inv-loop μ-loop
 word-requires c κs = omega (arith, (cell-in (c .before .before .before .before .before .before .before .before .before .before .args .file .now) (c .before .before .before .before .before .before .before .before .before .before .args .events .now) (c .before .before .before .before .before .before .before .before .before .before .args .nv) (c .before .before .before .before .before .before .before .before .before .before .args .nm) (c .before .before .before .before .before .before .before .before .before .before .pre .0) _ _ (omega (arith, c .before .before .before .before .before .loop-test .taken, c .before .before .before .before .before .before .before .before .trailer-word .ensures)) ((c .before .before .before .before .before .before .loop .inv .0) .place)) .header, (cell-in (c .before .before .before .before .before .before .before .before .before .before .args .file .now) (c .before .before .before .before .before .before .before .before .before .before .args .events .now) (c .before .before .before .before .before .before .before .before .before .before .args .nv) (c .before .before .before .before .before .before .before .before .before .before .args .nm) (c .before .before .before .before .before .before .before .before .before .before .pre .0) _ _ (omega (arith, c .before .before .before .before .before .loop-test .taken, c .before .before .before .before .before .before .before .before .trailer-word .ensures)) ((c .before .before .before .before .before .before .loop .inv .0) .place)) .past, sizes (c .before .before .before .before .before .before .before .before .before .before .args .file .now) (c .before .before .before .before .before .before .before .before .before .before .args .events .now) (c .before .before .before .before .before .before .before .before .before .before .args .nv) (c .before .before .before .before .before .before .before .before .before .before .args .nm) (c .before .before .before .before .before .before .before .before .before .before .pre .0))
 
--- src/property.rt:85:13
 add-p-3 : tie.Need-add-p-3 Inv-loop μ-loop
 add-p-3 c = omega (arith, (cell-in (c .before .before .before .before .before .before .before .before .before .before .before .args .file .now) (c .before .before .before .before .before .before .before .before .before .before .before .args .events .now) (c .before .before .before .before .before .before .before .before .before .before .before .args .nv) (c .before .before .before .before .before .before .before .before .before .before .before .args .nm) (c .before .before .before .before .before .before .before .before .before .before .before .pre .0) _ _ (omega (arith, c .before .before .before .before .before .before .loop-test .taken, c .before .before .before .before .before .before .before .before .before .trailer-word .ensures)) ((c .before .before .before .before .before .before .before .loop .inv .0) .place)) .past, sizes (c .before .before .before .before .before .before .before .before .before .before .before .args .file .now) (c .before .before .before .before .before .before .before .before .before .before .before .args .events .now) (c .before .before .before .before .before .before .before .before .before .before .before .args .nv) (c .before .before .before .before .before .before .before .before .before .before .before .args .nm) (c .before .before .before .before .before .before .before .before .before .before .before .pre .0), c .before .wide .ensures, c .word .ensures)
 
--- src/property.rt:86:13
 add-i : tie.Need-add-i Inv-loop μ-loop
 add-i c = omega (arith, c .before .before .before .before .before .before .loop-test .taken, c .before .before .before .before .before .before .before .before .before .trailer-word .ensures)
 
--- src/property.rt:80:5
 loop-less : tie.Need-loop-less Inv-loop μ-loop
 loop-less c = omega arith
 
--- src/property.rt:80:5
 loop-again : tie.Need-loop-again Inv-loop μ-loop
 loop-again c = (scanning-on (c .before .before .before .before .before .before .before .before .before .before .before .args .file .now) (c .before .before .before .before .before .before .before .before .before .before .before .args .nv) (c .before .before .before .before .before .before .before .before .before .before .before .args .nm) (c .before .before .before .before .before .before .before .before .before .before .before .args .bits .now) _ (omega (arith, c .before .before .before .before .before .before .loop-test .taken, c .before .before .before .before .before .before .before .before .before .trailer-word .ensures)) (c .before .before .before .before .before .before .before .loop .inv .0) _ (ap₂ (λ (a b : ℕ). (c .before .before .before .before .before .before .before .loop .p) + 8 + a + b) (c .before .wide .ensures .0) (c .word .ensures .0)) _ (c .before .before .before .before .encode-link .ensures), omega arith)
 
--- src/property.rt:61:1
 same-length : tie.Need-same-length Inv-loop μ-loop
 same-length c = c .before .loop .inv .1
 
--- src/property.rt:61:1
 returns : tie.Need-returns Inv-loop μ-loop
 returns c = scanning-end (c .before .before .before .before .before .args .file .now) (c .before .before .before .before .before .args .nv) (c .before .before .before .before .before .args .nm) (c .before .before .before .before .before .args .bits .now) _ (omega (arith, c .loop-test .left, c .before .before .before .trailer-word .ensures)) (c .before .loop .inv .0)
 

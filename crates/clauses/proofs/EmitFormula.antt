@@ -1,0 +1,211 @@
+-- The parts of the formula, from what the functions that write them put. Assumes nothing.
+use mathlib.Core.Path.{_≡_, refl, sym, ap, subst, _∙_}
+use mathlib.Core.Bool.{Bool, cond}
+use mathlib.Core.List.{List, [], _∷_, _++_, map}
+use Prim.Native.Nat.{ℕ, zero, suc, _+_, _-_, _*_, _^_, _<_, _≤_}
+use native.Mathlib.Omega.{arith}
+use native.Mathlib.Nat.{mul-le-mul}
+use native.Mathlib.Numerals.{add-one}
+use lib.ListN.{length, getD, take}
+use lib.IntN.{ℤ}
+use borrow.Author.Tests.{le-leb, lt-leb, le-ltb, lt-ltb}
+use Rattle.design.specs.Tree.{Design, movers}
+use Rattle.design.specs.Check.{Checked, check, variableCount, matrixCount}
+use Rattle.design.specs.Places.{Accepted, EventsIndexed, CellsIndexed}
+use Rattle.design.specs.WellFormed.{WellFormed}
+use Rattle.design.proofs.WellFormed.{well-formed}
+use Rattle.design.specs.Sections.{Parts}
+use Rattle.design.proofs.Sections.{whole}
+use Rattle.design.proofs.Places.{read}
+use Rattle.step.specs.Ready.{externalsFrom}
+use Rattle.clauses.specs.Literal.{Literal, Clause}
+use Rattle.clauses.specs.Words.{clauseWords, words}
+use Rattle.clauses.specs.Expression.{Slots}
+use Rattle.clauses.specs.Action.{movers! }
+use Rattle.clauses.specs.Formula.{variablesFrom, flat, pairs, allTies, S, w, P, G, F, n, property!, stateAt, frame, firstPart, propertyClauses, stepClauses, framePart, lastClause, part, partsFrom, formula}
+use Rattle.clauses.specs.Writing.{fromCodes, Puts, Emits}
+use Rattle.clauses.specs.FlatState.{slotsOf, layoutOf}
+use Rattle.clauses.specs.FrameSizes.{frameSizes, SmallFrame, frameLength}
+use Rattle.clauses.specs.Ready.{Ready, FrameReady, resultFrom}
+use Rattle.clauses.specs.declared.frame.FrameSizes.{FrameSizes}
+use Rattle.clauses.proofs.Frames.{P-is, G-is}
+use Rattle.clauses.proofs.Within.{frame-suc, last-past}
+use Rattle.clauses.proofs.Limits.{small-of-file}
+use Rattle.clauses.proofs.FrameNumbers.{length-is}
+use Rattle.clauses.proofs.EmitWords.{append-nil, puts-same, words-append}
+use Rattle.clauses.proofs.EmitSteps.{layout-is, mover-total}
+use Rattle.clauses.proofs.EmitClauses.{PutsLeft, puts-start, puts-on, puts-end}
+use Rattle.clauses.proofs.EmitFrames.{state-is, result-bits, firsts-within}
+use Rattle.clauses.proofs.EmitRoom.{puts-clauses, property-puts, step-puts}
+
+-- the numbers of a frame
+pub record Numbers (d : Design) (p : ℕ) (s : FrameSizes) : Type 0 where
+  pub bits : s .bits ≡ S d
+  pub movers : s .movers ≡ w d
+  pub property : s .property .ands + s .property .wides ≡ P d p
+  pub length : frameLength s ≡ S d + P d p + w d + G d p
+
+pub numbers : (d : Design) (p : ℕ) (s : FrameSizes) → WellFormed d → s ≡ frameSizes d p → Numbers d p s
+unfolding frameSizes
+numbers d p s wf e = subst (Numbers d p) (sym e) (record {
+  bits = refl;
+  movers = refl;
+  property = sym (P-is d p);
+  length = omega (arith, P-is d p, G-is d wf p);
+})
+
+pub frame-starts : (d : Design) (p : ℕ) (s : FrameSizes) → WellFormed d → s ≡ frameSizes d p → (j : ℕ) → 2 + j * frameLength s ≡ frame d p j
+unfolding frame F
+frame-starts d p s wf e j = ap (λ (k : ℕ). 2 + j * k) (numbers d p s wf e .length)
+
+-- where frame j starts, as a product of machine numbers
+pub start-is : (s : FrameSizes) → SmallFrame s → (j l t : ℕ) → j ≤ 100 → l ≡ frameLength s → t ≡ j * l → (t ≡ j * frameLength s) × (t ≤ 1414460800)
+start-is s h j l t few e q =
+    let z : t ≡ j * frameLength s = q ∙ ap (λ (k : ℕ). j * k) e in
+    let f : frameLength s ≤ 14144608 = omega (arith, h .bits, h .movers, h .gates) in
+    let m : j * frameLength s ≤ 100 * 14144608 = mul-le-mul few f in
+    (z, omega arith)
+
+module _ (file events cells : List ℕ) (count nv nm : ℕ) (s : FrameSizes) (h : FrameReady file events cells count nv nm s) where
+  -- the step out of the frame at v
+  pub step-written : (v flags after var all bits : ℕ) (codes firsts : List ℕ) {x0 x1 x2 x3 x4 : List ℤ} {c0 c1 c2 c3 c4 u : ℕ}
+      → all ≡ s .movers → bits ≡ s .bits → flags ≡ v + (s .bits + s .property .ands + s .property .wides) → after ≡ v + frameLength s → var ≡ flags + all → length firsts ≡ 64
+      → (flags + all ≤ 2147483648 → Puts (clauseWords (variablesFrom flags all)) x0 x1 c0 c1)
+      → (flags + all ≤ 2147483648 → Puts (words (pairs (variablesFrom flags all))) x1 x2 c1 c2)
+      → ((d : Design) (w : Parts file d) → Emits var (movers! (layoutOf nv) (slotsOf file nv nm codes) (movers d) var) x2 x3 c2 (map (resultFrom file nv nm) (take all firsts)) c3 u)
+      → (flags + all ≤ 2147483648 → after + bits ≤ 2147483648 → ((k : ℕ) → k < all → getD firsts k 0 + bits ≤ 2147483648) → (R : ℕ → Slots) → ((v : ℕ) → flat (R v) ≡ variablesFrom v bits)
+      → Puts (words (allTies (variablesFrom flags all) (map R (take all firsts)) (variablesFrom after bits))) x3 x4 c3 c4)
+      → (d : Design) (p j : ℕ) → check file ≡ Checked.accepted d → s ≡ frameSizes d p → j < 100 → v ≡ frame d p j → slotsOf file nv nm codes ≡ stateAt d v → Puts (words (stepClauses d p j)) x0 x4 c0 c4
+  unfolding w
+  step-written v flags after var all bits codes firsts {x0} {x1} {x2} {x3} {x4} {c0} {c1} {c2} {c3} {c4} {u} ea eb ef et ev long any prs gates ties d p j ok es low at state =
+      let wf = well-formed file (h .bytes) d ok in
+      let ps = whole file d ok .parts in
+      let N = numbers d p s wf es in
+      let few = small-of-file file (h .bytes) d ok p (suc j) (omega arith) .variables in
+      let q : all ≡ w d = ea ∙ N .movers in
+      let r : bits ≡ S d = eb ∙ N .bits in
+      let fl : flags ≡ frame d p j + S d + P d p = omega (arith, N .bits, N .property) in
+      let ft : after ≡ frame d p (suc j) = omega (arith, N .length, frame-suc d p j) in
+      let fit : flags + all ≤ 2147483648 = omega (arith, last-past d p (suc j), frame-suc d p j) in
+      let fit′ : after + bits ≤ 2147483648 = omega (arith, last-past d p (suc j)) in
+      let R = resultFrom file nv nm in
+      let sl = state ∙ ap (stateAt d) at in
+      step-puts d p j flags after var (layoutOf nv) (slotsOf file nv nm codes) (map R (take all firsts)) wf few sl (layout-is file events nv nm (h .ready) d ps) fl ft (omega arith)
+      (subst (λ (k : ℕ). Puts (clauseWords (variablesFrom flags k)) x0 x1 c0 c1) q (any fit))
+      (subst (λ (k : ℕ). Puts (words (pairs (variablesFrom flags k))) x1 x2 c1 c2) q (prs fit))
+      (gates d ps)
+      (λ out room. subst (λ (k : ℕ). Puts (words (allTies (variablesFrom flags k) (map R (take all firsts)) (variablesFrom after (S d)))) x3 x4 c3 c4) q
+      (subst (λ (k : ℕ). Puts (words (allTies (variablesFrom flags all) (map R (take all firsts)) (variablesFrom after k))) x3 x4 c3 c4) r
+      (ties fit fit′
+      (λ k l. let z = firsts-within file events nv nm (h .ready) d ps wf v (slotsOf file nv nm codes) var all firsts state q (omega arith) out room k l in omega arith)
+      R (λ x. result-bits file events nv nm (h .ready) d ps x ∙ ap (variablesFrom x) (sym r)))))
+
+  -- the state's literals of frame j, and its property's gates
+  module _ (p j v bits : ℕ) (codes : List ℕ) (ev : v ≡ 2 + j * frameLength s) (eb : bits ≡ s .bits) (few : j ≤ 100) (long : length codes ≡ 544)
+      (vars : v + bits ≤ 2147483648 → take bits (fromCodes codes) ≡ variablesFrom v bits) (d : Design) (ok : check file ≡ Checked.accepted d) (es : s ≡ frameSizes d p) where
+    wf : WellFormed d
+    wf = well-formed file (h .bytes) d ok
+
+    pub frame-at : v ≡ frame d p j
+    frame-at = ev ∙ frame-starts d p s wf es j
+
+    low : n d p j < 2 ^ 31
+    low = small-of-file file (h .bytes) d ok p j few .variables
+
+    pub state-at : slotsOf file nv nm codes ≡ stateAt d v
+    state-at =
+        let r : bits ≡ S d = eb ∙ numbers d p s wf es .bits in
+        let t = vars (omega (arith, last-past d p j, low, frame-at)) in
+        state-is file events nv nm (h .ready) d (whole file d ok .parts) codes v long (subst (λ (k : ℕ). take k (fromCodes codes) ≡ variablesFrom v k) r t)
+
+    pub property-written : {var : ℕ} {xs ys : List ℤ} {cur : ℕ} {out : Literal} {c u : ℕ} → var ≡ v + bits
+        → ((d : Design) (w : Parts file d) → Emits var (property! d p (slotsOf file nv nm codes) var) xs ys cur out c u) → Puts (words (propertyClauses d p j)) xs ys cur c
+    property-written {var} e gates =
+        property-puts d p j var (slotsOf file nv nm codes) low (state-at ∙ ap (stateAt d) frame-at) (omega (arith, numbers d p s wf es .bits, frame-at)) (gates d (whole file d ok .parts))
+
+-- a frame's part
+module _ (d : Design) (p k j : ℕ) {xs ys : List ℤ} {cur c : ℕ} (a : Puts (words (propertyClauses d p j)) xs ys cur c) where
+  pub frame-last : k ≤ j → Puts (words (framePart d p k j)) xs ys cur c
+  unfolding framePart
+  frame-last l = subst (λ (cs : List Clause). Puts (words cs) xs ys cur c) (sym (ap (λ (t : Bool). propertyClauses d p j ++ cond t (stepClauses d p j) []) (le-ltb j k l) ∙ append-nil (propertyClauses d p j))) a
+
+  pub frame-more : j < k → {zs : List ℤ} {c′ : ℕ} → Puts (words (stepClauses d p j)) ys zs c c′ → Puts (words (framePart d p k j)) xs zs cur c′
+  unfolding framePart
+  frame-more l {zs} {c′} b = subst (λ (cs : List Clause). Puts (words cs) xs zs cur c′) (sym (ap (λ (t : Bool). propertyClauses d p j ++ cond t (stepClauses d p j) []) (lt-ltb j k l))) (puts-clauses (propertyClauses d p j) (stepClauses d p j) a b)
+
+-- a part by its number
+module _ (d : Design) (p k : ℕ) where
+  first-is : (i : ℕ) → i ≡ 0 → firstPart d p ≡ part d p k i
+  unfolding part
+  first-is zero e = refl
+  first-is (suc j) e = absurd (omega arith)
+
+  frame-is : (i : ℕ) → (i ≡ 0 → ⊥) → i ≤ k + 1 → framePart d p k (i - 1) ≡ part d p k i
+  unfolding part
+  frame-is zero z l = absurd (z refl)
+  frame-is (suc j) z l =
+      ap (framePart d p k) (let q : suc j - 1 ≡ j = omega arith in q)
+      ∙ sym (ap (λ (t : Bool). cond t (framePart d p k j) (lastClause d p k ∷ [])) (le-leb j k (let q : j ≤ k = omega arith in q)))
+
+  last-is : (i : ℕ) → k + 1 < i → lastClause d p k ∷ [] ≡ part d p k i
+  unfolding part
+  last-is zero l = absurd (omega arith)
+  last-is (suc j) l = sym (ap (λ (t : Bool). cond t (framePart d p k j) (lastClause d p k ∷ [])) (lt-leb j k (let q : k < j = omega arith in q)))
+
+module _ (file events cells : List ℕ) (count nv nm : ℕ) (s : FrameSizes) (h : FrameReady file events cells count nv nm s) (p k i : ℕ)
+    {xs ys : List ℤ} {cur c : ℕ} (d : Design) (ok : check file ≡ Checked.accepted d) (es : s ≡ frameSizes d p) where
+  pub first-part : i ≡ 0 → ((d : Design) (w : Parts file d) (p : ℕ) → Puts (words (firstPart d p)) xs ys cur c) → Puts (words (part d p k i)) xs ys cur c
+  first-part e f = puts-same (ap words (first-is d p k i e)) (f d (whole file d ok .parts) p)
+
+  pub frame-part : (i ≡ 0 → ⊥) → i ≤ k + 1 → ((d : Design) → check file ≡ Checked.accepted d → s ≡ frameSizes d p → Puts (words (framePart d p k (i - 1))) xs ys cur c) → Puts (words (part d p k i)) xs ys cur c
+  frame-part z l f = puts-same (ap words (frame-is d p k i z l)) (f d ok es)
+
+  pub last-part : (stride : ℕ) → stride ≡ frameLength s → k ≤ 100 → k + 1 < i
+      → ((d : Design) (w : Parts file d) → stride ≡ F d p → n d p k < 2147483648 → Puts (words (lastClause d p k ∷ [])) xs ys cur c) → Puts (words (part d p k i)) xs ys cur c
+  last-part stride e few l f =
+      let q : stride ≡ F d p = e ∙ ap frameLength es ∙ length-is d (well-formed file (h .bytes) d ok) p in
+      puts-same (ap words (last-is d p k i l)) (f d (whole file d ok .parts) q (omega (arith, small-of-file file (h .bytes) d ok p k few .variables)))
+
+-- All parts, one after the other.
+module _ (file : List ℕ) (s : FrameSizes) (p k : ℕ) (xs₀ : List ℤ) where
+  pub record PartsLeft (xs : List ℤ) (cur i : ℕ) : Type 0 where
+    pub within : i ≤ k + 3
+    pub long : length xs ≡ length xs₀
+    pub left : (d : Design) → check file ≡ Checked.accepted d → s ≡ frameSizes d p → PutsLeft (words (formula d p k)) xs₀ 0 (words (partsFrom d p k (k + 3 - i) i)) xs cur
+
+  pub parts-start : PartsLeft xs₀ 0 0
+  unfolding formula
+  parts-start = record {
+    within = omega arith;
+    long = refl;
+    left = λ d ok es. subst (λ (m : ℕ). PutsLeft (words (formula d p k)) xs₀ 0 (words (partsFrom d p k m 0)) xs₀ 0) (let q : k + 3 ≡ k + 3 - 0 = omega arith in q) (puts-start (words (formula d p k)) xs₀ 0);
+  }
+
+  pub parts-on : {xs ys : List ℤ} {cur i c : ℕ} → i < k + 3 → PartsLeft xs cur i → length ys ≡ length xs
+      → ((d : Design) → check file ≡ Checked.accepted d → s ≡ frameSizes d p → Puts (words (part d p k i)) xs ys cur c) → PartsLeft ys c (i + 1)
+  unfolding partsFrom
+  parts-on {i = i} l g e f = record {
+    within = omega arith;
+    long = e ∙ g .long;
+    left = λ d ok es.
+        let m = k + 3 - (i + 1) in
+        let one : words (partsFrom d p k (k + 3 - i) i) ≡ words (part d p k i) ++ words (partsFrom d p k m (i + 1)) =
+        ap (λ (j : ℕ). words (partsFrom d p k j i)) (let q : k + 3 - i ≡ suc (k + 3 - (i + 1)) = omega arith in q)
+        ∙ words-append (part d p k i) (partsFrom d p k m (suc i)) ∙ ap (λ (j : ℕ). words (part d p k i) ++ words (partsFrom d p k m j)) (sym (add-one i)) in
+        puts-on (words (part d p k i)) (words (partsFrom d p k m (i + 1))) one (g .left d ok es) (f d ok es);
+  }
+
+  pub parts-end : {xs : List ℤ} {cur i : ℕ} → k + 3 ≤ i → PartsLeft xs cur i → (d : Design) → check file ≡ Checked.accepted d → s ≡ frameSizes d p → Puts (words (formula d p k)) xs₀ xs 0 cur
+  unfolding partsFrom
+  parts-end {i = i} l g d ok es = puts-end (ap (λ (j : ℕ). words (partsFrom d p k j i)) (let q : k + 3 - i ≡ 0 = omega arith in q)) (g .left d ok es)
+
+-- what the writer of parts is given, from the tables that were made
+pub frame-ready : (file events cells : List ℕ) (count nv nm p : ℕ) (s : FrameSizes) → Accepted file → ((i : ℕ) → getD file i 0 < 256) → EventsIndexed file events → nv ≡ variableCount file → nm ≡ matrixCount file
+    → CellsIndexed file cells count → SmallFrame s → ((d : Design) → check file ≡ Checked.accepted d → s ≡ frameSizes d p) → FrameReady file events cells count nv nm s
+unfolding w
+frame-ready file events cells count nv nm p s h bytes ei v m ci small sizes =
+    let r : Ready file events nv nm = record { accepted = h; events = ei; variables = v; matrices = m } in
+    let t = read file h in
+    let wf = well-formed file bytes (t .tree) (t .is) in
+    let q = mover-total file events nv nm r cells count (count + length (externalsFrom file 0 nv)) ci refl (t .tree) (t .all .parts) in
+    record { ready = r; bytes = bytes; normals = ci; small = small; movers = numbers (t .tree) p s wf (sizes (t .tree) (t .is)) .movers ∙ q }

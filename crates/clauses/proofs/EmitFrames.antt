@@ -1,0 +1,178 @@
+-- The state's variables of a frame, as the file and as the design name them; the ties of all movers. Assumes nothing.
+use Prim.Native.Nat.{ℕ, zero, suc, _+_, _-_, _*_, _<_, _≤_}
+use mathlib.Core.Path.{_≡_, refl, sym, ap, ap₂, subst, _∙_}
+use mathlib.Core.Bool.{cond}
+use mathlib.Core.List.{List, [], _∷_, _++_, map}
+use native.Mathlib.Omega.{arith}
+use lib.Dec.{eqb}
+use lib.ListN.{length, getD, take, drop, replicate}
+use lib.Seq.{take-at, drop-at, getD-take, length-take-le}
+use lib.IntN.{ℤ}
+use Rattle.design.specs.Tree.{Variable, Design, Mover, movers}
+use Rattle.design.specs.State.{Layout, width, statusWidth, widths}
+use Rattle.design.specs.WellFormed.{MoversOk, WellFormed}
+use Rattle.design.specs.DesignFile.{kind, at8, variableAt}
+use Rattle.design.specs.Check.{trailer}
+use Rattle.design.specs.Sections.{Run, Parts}
+use Rattle.design.proofs.Places.{read}
+use Rattle.step.proofs.Externals.{variable-is}
+use Rattle.step.proofs.Replays.{matrix-count}
+use Rattle.clauses.specs.Literal.{positive}
+use Rattle.clauses.specs.Words.{words}
+use Rattle.clauses.specs.Circuit.{Bits}
+use Rattle.clauses.specs.Expression.{Slots}
+use Rattle.clauses.specs.Action.{movers! }
+use Rattle.clauses.specs.Formula.{total, variablesFrom, slotsFrom, flat, ties, allTies, S, stateAt}
+use Rattle.clauses.specs.Cost.{gatesIn, moverCost, moversCost}
+use Rattle.clauses.specs.Writing.{fromCodes, variableLimit, Puts}
+use Rattle.clauses.specs.FlatState.{widthsFrom, widthsOf, cut, slotsOf, layoutOf}
+use Rattle.clauses.specs.Ready.{Ready, resultFrom}
+use Rattle.clauses.proofs.Costs.{movers-costs, gates-counted}
+use Rattle.clauses.proofs.StateBits.{length-variables, variables-append, flat-slots}
+use Rattle.clauses.proofs.Frames.{state-wide}
+use Rattle.clauses.proofs.Runs.{S-is}
+use Rattle.clauses.proofs.Results.{movers-out, resultFrom as firstMux}
+use Rattle.clauses.proofs.EmitWords.{words-append}
+use Rattle.clauses.proofs.EmitLists.{codes-length, drop-one, drop-none}
+use Rattle.clauses.proofs.EmitStates.{cut-take, state-size}
+use Rattle.clauses.proofs.EmitCells.{few-bits}
+use Rattle.clauses.proofs.EmitSteps.{layout-is}
+use Rattle.clauses.proofs.EmitClauses.{PutsLeft, puts-start, puts-on, puts-end, one-more, no-more, Along, along-start, along-on, along-less}
+
+-- the widths that the kind bytes say are those of the tree
+pub kind-width : (k : ℕ) → k ≤ 2 → cond (eqb k 1) 16 1 ≡ width (kind k)
+kind-width zero h = refl
+kind-width (suc zero) h = refl
+kind-width (suc (suc zero)) h = refl
+kind-width (suc (suc (suc k))) h = absurd (omega arith)
+
+pub widths-run : (file : List ℕ) (end v at past : ℕ) (xs : List Variable) → at ≡ 3 * v → Run (variableAt file end) at xs past → widthsFrom file v (length xs) ≡ map (λ (x : Variable). width (x .kind)) xs
+unfolding widthsFrom
+widths-run file end v at past [] q r = refl
+widths-run file end v at past (x ∷ xs) q r =
+    let (k, s, n) = variable-is file end at (r .0) x (r .1) in
+    ap₂ (λ (a : ℕ) (l : List ℕ). a ∷ l) (ap (λ (j : ℕ). cond (eqb (getD file j 0) 1) 16 1) (sym q) ∙ kind-width (at8 file at) s ∙ ap width (sym k)) (widths-run file end (suc v) (r .0) past xs (omega arith) (r .2))
+
+-- consecutive variables, cut into slots
+pub cut-variables : (ws : List ℕ) (v : ℕ) → cut ws (variablesFrom v (total ws)) ≡ slotsFrom v ws
+unfolding cut
+cut-variables [] v = refl
+cut-variables (w ∷ ws) v =
+    let a = variablesFrom v w in
+    let b = variablesFrom (v + w) (total ws) in
+    ap (λ (z : Bits). take w z ∷ cut ws (drop w z)) (variables-append v w (total ws))
+    ∙ ap₂ (λ (x y : Bits). x ∷ cut ws y) (take-at a b w (length-variables v w)) (drop-at a b w (length-variables v w))
+    ∙ ap (λ (r : Slots). a ∷ r) (cut-variables ws (v + w))
+
+module _ (file : List ℕ) (nv nm : ℕ) where
+  pub result-slots : (v : ℕ) → resultFrom file nv nm v ≡ slotsFrom v (widthsOf file nv nm)
+  unfolding resultFrom
+  result-slots v = cut-variables (widthsOf file nv nm) v
+
+  pub result-flat : (v : ℕ) → flat (resultFrom file nv nm v) ≡ variablesFrom v (total (widthsOf file nv nm))
+  result-flat v = ap flat (result-slots v) ∙ flat-slots v (widthsOf file nv nm)
+
+module _ (file table : List ℕ) (nv nm : ℕ) (h : Ready file table nv nm) (d : Design) (w : Parts file d) where
+  pub widths-are : widthsOf file nv nm ≡ widths d
+  unfolding widthsOf widths
+  widths-are =
+      ap₂ (λ (a b : List ℕ). a ++ b) (ap (widthsFrom file 0) (h .variables ∙ sym (w .variable-count)) ∙ widths-run file (trailer file) 0 0 _ (d .variables) refl (w .variable-run))
+      (ap (λ (n : ℕ). replicate n statusWidth) (h .matrices ∙ sym (matrix-count file d w)))
+
+  pub bits-are : total (widthsOf file nv nm) ≡ S d
+  unfolding S
+  bits-are = ap total widths-are
+
+  -- a frame's state, from the literals of its variables
+  pub state-is : (codes : List ℕ) (v : ℕ) → length codes ≡ 544 → take (S d) (fromCodes codes) ≡ variablesFrom v (S d) → slotsOf file nv nm codes ≡ stateAt d v
+  unfolding slotsOf stateAt
+  state-is codes v l e =
+      let ws = widthsOf file nv nm in
+      cut-take ws (fromCodes codes) (omega (arith, few-bits file table nv nm h, codes-length codes))
+      ∙ ap (cut ws) (ap (λ (k : ℕ). take k (fromCodes codes)) bits-are ∙ e ∙ ap (variablesFrom v) (sym bits-are))
+      ∙ cut-variables ws v ∙ ap (slotsFrom v) widths-are
+
+  pub result-bits : (v : ℕ) → flat (resultFrom file nv nm v) ≡ variablesFrom v (S d)
+  result-bits v = result-flat file nv nm v ∙ ap (variablesFrom v) bits-are
+
+-- The ties of all movers, a mover at a time. `R` names a result by its first variable.
+pub record Tied (f all b n : ℕ) (firsts : List ℕ) (xs₀ : List ℤ) (cur₀ : ℕ) (xs : List ℤ) (cur x i : ℕ) : Type 0 where
+  pub along : Along f all x i
+  pub left : f + all ≤ variableLimit → b + n ≤ variableLimit → ((k : ℕ) → k < all → getD firsts k 0 + n ≤ variableLimit) → (R : ℕ → Slots) → ((v : ℕ) → flat (R v) ≡ variablesFrom v n)
+      → PutsLeft (words (allTies (variablesFrom f all) (map R (take all firsts)) (variablesFrom b n))) xs₀ cur₀ (words (allTies (variablesFrom x (all - i)) (map R (drop i (take all firsts))) (variablesFrom b n))) xs cur
+
+module _ (f all b n : ℕ) (firsts : List ℕ) (xs₀ : List ℤ) (cur₀ : ℕ) where
+  abbrev whole : (ℕ → Slots) → List ℤ
+  whole R = words (allTies (variablesFrom f all) (map R (take all firsts)) (variablesFrom b n))
+
+  pub tied-start : Tied f all b n firsts xs₀ cur₀ xs₀ cur₀ f 0
+  tied-start = record {
+    along = along-start f all;
+    left = λ h g k R e.
+        subst (λ (t : List ℤ). PutsLeft (whole R) xs₀ cur₀ t xs₀ cur₀)
+        (ap₂ (λ (j : ℕ) (l : List ℕ). words (allTies (variablesFrom f j) (map R l) (variablesFrom b n))) (let q : all ≡ all - 0 = omega arith in q) (sym (drop-none (take all firsts))))
+        (puts-start (whole R) xs₀ cur₀);
+  }
+
+  pub tied-on : {xs : List ℤ} {cur x i : ℕ} → i < all → all ≤ length firsts → Tied f all b n firsts xs₀ cur₀ xs cur x i → (y : ℕ) → (x < variableLimit → y ≡ x + 1)
+      → {ys : List ℤ} {c : ℕ} → (x + 1 ≤ variableLimit → getD firsts i 0 + n ≤ variableLimit → b + n ≤ variableLimit → Puts (words (ties (positive x) (variablesFrom (getD firsts i 0) n) (variablesFrom b n))) xs ys cur c)
+      → Tied f all b n firsts xs₀ cur₀ ys c y (i + 1)
+  tied-on {xs} {cur} {x} {i} l few z y ey {ys} {c} p = record {
+    along = along-on y l (z .along) ey;
+    left = λ h g k R e.
+        let bx = along-less l h (z .along) in
+        let v = getD firsts i 0 in
+        let B = variablesFrom b n in
+        let j = all - i - 1 in
+        let m : all - i - 1 ≡ all - (i + 1) = omega arith in
+        let vs = drop (i + 1) (take all firsts) in
+        let rest = allTies (variablesFrom (x + 1) j) (map R vs) B in
+        let one = words (ties (positive x) (variablesFrom v n) B) in
+        let cons : drop i (take all firsts) ≡ v ∷ vs = drop-one (take all firsts) i (omega (arith, length-take-le all firsts few)) ∙ ap (λ (t : ℕ). t ∷ vs) (getD-take all firsts i 0 l) in
+        let e1 : words (allTies (variablesFrom x (all - i)) (map R (drop i (take all firsts))) B) ≡ one ++ words rest =
+        ap₂ (λ (s : Bits) (t : List ℕ). words (allTies s (map R t) B)) (one-more x (all - i) (omega arith)) cons
+        ∙ words-append (ties (positive x) (flat (R v)) B) rest ∙ ap (λ (s : Bits). words (ties (positive x) s B) ++ words rest) (e v) in
+        let q = puts-on one (words rest) e1 (z .left h g k R e) (p (omega arith) (k i l) g) in
+        subst (λ (t : Bits). PutsLeft (whole R) xs₀ cur₀ (words (allTies t (map R vs) B)) ys c) (ap₂ variablesFrom (sym (ey bx)) m) q;
+  }
+
+  pub tied-end : {xs : List ℤ} {cur x i : ℕ} → all ≤ i → Tied f all b n firsts xs₀ cur₀ xs cur x i → f + all ≤ variableLimit → b + n ≤ variableLimit
+      → ((k : ℕ) → k < all → getD firsts k 0 + n ≤ variableLimit) → (R : ℕ → Slots) → ((v : ℕ) → flat (R v) ≡ variablesFrom v n) → Puts (whole R) xs₀ xs cur₀ cur
+  tied-end {x = x} {i = i} l z h g k R e = puts-end (ap (λ (s : Bits). words (allTies s (map R (drop i (take all firsts))) (variablesFrom b n))) (no-more x (all - i) (omega arith))) (z .left h g k R e)
+
+-- The variables of a mover's result are gates of the step.
+last-mux : (bits : ℕ) (ms : List Mover) (c n : ℕ) → c < length ms → firstMux bits ms c n + bits ≤ n + gatesIn (moversCost bits ms)
+unfolding moversCost moverCost
+last-mux bits [] c n h = absurd (omega arith)
+last-mux bits (m ∷ ms) zero n h = omega arith
+last-mux bits (m ∷ ms) (suc c) n h = omega (arith, last-mux bits ms c (n + gatesIn (moverCost bits m)) (omega arith))
+
+same-first : (v u n : ℕ) → 0 < n → variablesFrom v n ≡ variablesFrom u n → v ≡ u
+same-first v u zero h e = absurd (omega arith)
+same-first v u (suc n) h e = cc
+
+map-at : (R : ℕ → Slots) (l : List ℕ) (c : ℕ) → c < length l → getD (map R l) c [] ≡ R (getD l c 0)
+map-at R [] c h = absurd (omega arith)
+map-at R (x ∷ l) zero h = refl
+map-at R (x ∷ l) (suc c) h = map-at R l c (omega arith)
+
+module _ (file table : List ℕ) (nv nm : ℕ) (h : Ready file table nv nm) (d : Design) (w : Parts file d) (wf : WellFormed d) where
+  some-bits : 0 < S d
+  some-bits = omega (arith, bits-are file table nv nm h d w, state-size file nv nm (total (widthsFrom file 0 nv)) refl, read file (h .accepted) .all .matrix, h .matrices)
+
+  pub firsts-within : (v : ℕ) (s : Slots) (n all : ℕ) (firsts : List ℕ) → s ≡ stateAt d v → all ≡ length (movers d) → all ≤ length firsts
+      → map (resultFrom file nv nm) (take all firsts) ≡ (movers! (layoutOf nv) s (movers d) n) .out → n + length ((movers! (layoutOf nv) s (movers d) n) .gates) ≤ variableLimit
+      → (k : ℕ) → k < all → getD firsts k 0 + S d ≤ variableLimit
+  firsts-within v s n all firsts es ea few out room k l =
+      let ws = widths d in
+      let L = layout-is file table nv nm h d w in
+      let wide : map length s ≡ ws = ap (map length) es ∙ state-wide d v in
+      let b = movers! (layoutOf nv) s (movers d) n in
+      let c = subst (λ (y : Layout). MoversOk ws y (movers d)) L (wf .movers) in
+      let costs = movers-costs ws (layoutOf nv) s wide (movers d) n c in
+      let one : flat (getD (b .out) k []) ≡ variablesFrom (firstMux (total ws) (movers d) k n) (S d) = movers-out ws (layoutOf nv) s wide (movers d) k n (omega arith) c ∙ ap (variablesFrom (firstMux (total ws) (movers d) k n)) (S-is d) in
+      let two : flat (getD (b .out) k []) ≡ variablesFrom (getD firsts k 0) (S d) =
+      ap (λ (o : List Slots). flat (getD o k [])) (sym out) ∙ ap flat (map-at (resultFrom file nv nm) (take all firsts) k (omega (arith, length-take-le all firsts few)) ∙ ap (resultFrom file nv nm) (getD-take all firsts k 0 l))
+      ∙ result-bits file table nv nm h d w (getD firsts k 0) in
+      let q = same-first (getD firsts k 0) (firstMux (total ws) (movers d) k n) (S d) some-bits (sym two ∙ one) in
+      omega (arith, last-mux (total ws) (movers d) k n (omega arith), gates-counted (b .gates), costs .ands, costs .wides, S-is d)

@@ -1,0 +1,110 @@
+-- Arithmetic on the sizes of a frame, and that it gives the formula's numbers.
+use mathlib.Core.Path.{_≡_, refl, sym, ap, ap₂, _∙_}
+use Prim.Native.Nat.{ℕ, zero, suc, _+_, _*_, _-_, _/_, _≤_, _<_}
+use native.Mathlib.Omega.{arith}
+use native.Mathlib.Nat.{mul-le-mul}
+use lib.ListN.{length}
+use borrow.Author.Tests.{le-leb, lt-leb, le-ltb, lt-ltb}
+use Rattle.design.specs.Tree.{Design}
+use Rattle.design.specs.WellFormed.{WellFormed}
+use Rattle.clauses.specs.Words.{words}
+use Rattle.clauses.specs.Formula.{S, w, F, n, part}
+use Rattle.clauses.specs.Cost.{gatesIn, clausesIn, wordsIn, pairCount, firstWords, stepWordCount, partWordCount}
+use Rattle.clauses.specs.FrameSizes.{costIn, frameSizes, SmallFrame, frameLength, stepClausesOf, stepWordsOf, partWordsOf, variablesOf, formulaSizes}
+use Rattle.clauses.specs.declared.frame.FrameSizes.{FrameSizes}
+use Rattle.clauses.specs.declared.frame.FormulaSizes.{FormulaSizes}
+use Rattle.clauses.proofs.Frames.{P-is, G-is}
+use Rattle.clauses.proofs.Sizes as sizes
+use Rattle.clauses.proofs.Limits.{pairs-twice}
+
+pub product-small : (k x : ℕ) → k ≤ 101 → x ≤ 1099511627776 → k * x ≤ 111050674405376
+product-small k x p q = let h : k * x ≤ 101 * 1099511627776 = mul-le-mul p q in omega arith
+
+pub pairs-halved : (m t : ℕ) → m ≤ 64 → t ≡ m * (m - 1) → (t / 2 ≡ pairCount m) × (t / 2 ≤ 4096)
+pairs-halved m t l e =
+    let q = pairs-twice m in
+    let p : m * (m - 1) ≤ 64 * 64 = mul-le-mul l (let z : m - 1 ≤ 64 = omega arith in z) in
+    (omega arith, omega arith)
+
+module _ (s : FrameSizes) (h : SmallFrame s) where
+  pub ties-small : s .movers * s .bits ≤ 34816
+  ties-small = let p : s .movers * s .bits ≤ 64 * 544 = mul-le-mul (h .movers) (h .bits) in omega arith
+
+  frames-small : (k : ℕ) → k ≤ 100 → k * frameLength s ≤ 1414460800
+  frames-small k l =
+      let p : frameLength s ≤ 14144608 = omega (arith, h .bits, h .movers, h .gates) in
+      let q : k * frameLength s ≤ 100 * 14144608 = mul-le-mul l p in
+      omega arith
+
+  pub variables-sum : (k f t : ℕ) → k ≤ 100 → f ≡ frameLength s → t ≡ k * f
+      → (1 + t + s .bits + gatesIn (costIn (s .property)) ≡ variablesOf s k) × (1 + t + s .bits + gatesIn (costIn (s .property)) < 2147483648)
+  variables-sum k f t l e q =
+      let z : t ≡ k * frameLength s = q ∙ ap (λ (x : ℕ). k * x) e in
+      (omega arith, omega (arith, frames-small k l, h .bits, h .gates))
+
+-- the words of a part by its number
+module _ (s : FrameSizes) (k : ℕ) where
+  pub part-first : (i : ℕ) → i ≡ 0 → 2 + 2 * s .bits ≡ partWordsOf s k i
+  part-first zero e = refl
+  part-first (suc j) e = absurd (omega arith)
+
+  pub part-last : (i : ℕ) → k + 1 < i → k + 2 ≡ partWordsOf s k i
+  part-last zero l = absurd (omega arith)
+  part-last (suc j) l = rw (lt-leb j k (let z : k < j = omega arith in z))
+
+  pub part-end : (i n : ℕ) → k + 1 ≡ i → n ≡ wordsIn (costIn (s .property)) → n ≡ partWordsOf s k i
+  part-end zero n e q = absurd (omega arith)
+  part-end (suc j) n e q = rw (le-leb j k (let z : j ≤ k = omega arith in z), le-ltb j k (let z : k ≤ j = omega arith in z)) (omega arith)
+
+  pub part-step : (i n : ℕ) → (i ≡ 0 → ⊥) → i ≤ k + 1 → (k + 1 ≡ i → ⊥) → n ≡ wordsIn (costIn (s .property)) + stepWordsOf s → n ≡ partWordsOf s k i
+  part-step zero n z l e q = absurd (z refl)
+  part-step (suc j) n z l e q = rw (le-leb j k (let y : j ≤ k = omega arith in y), lt-ltb j k (let y : j < k = omega arith in y)) q
+
+pub formula-same : (s : FrameSizes) (k v c m : ℕ) → v ≡ formulaSizes s k .variables → c ≡ formulaSizes s k .clauses → m ≡ formulaSizes s k .words
+    → record {
+  bits = s .bits;
+  property = gatesIn (costIn (s .property));
+  movers = s .movers;
+  step = gatesIn (costIn (s .step));
+  variables = v;
+  clauses = c;
+  words = m;
+} ≡ formulaSizes s k
+formula-same s k v c m p q r =
+    ap₂ (λ (x y : ℕ). with-three x y m) p q ∙ ap (with-three (formulaSizes s k .variables) (formulaSizes s k .clauses)) r
+  where
+    with-three : ℕ → ℕ → ℕ → FormulaSizes
+    with-three x y z = record {
+      bits = s .bits;
+      property = gatesIn (costIn (s .property));
+      movers = s .movers;
+      step = gatesIn (costIn (s .step));
+      variables = x;
+      clauses = y;
+      words = z;
+    }
+
+module _ (s : FrameSizes) (k t u x : ℕ) (q : u ≡ k * x) where
+  pub clauses-sum : t ≡ (1 + k) * clausesIn (costIn (s .property)) → x ≡ stepClausesOf s → 1 + s .bits + t + u + 1 ≡ formulaSizes s k .clauses
+  clauses-sum p r = ap₂ (λ (y z : ℕ). 1 + s .bits + y + z + 1) p (q ∙ ap (λ (y : ℕ). k * y) r)
+
+  pub words-sum : t ≡ (1 + k) * wordsIn (costIn (s .property)) → x ≡ stepWordsOf s → 2 + 2 * s .bits + t + u + (k + 2) ≡ formulaSizes s k .words
+  words-sum p r = ap₂ (λ (y z : ℕ). 2 + 2 * s .bits + y + z + (k + 2)) p (q ∙ ap (λ (y : ℕ). k * y) r)
+
+-- the formula's numbers, from the sizes of a frame of its design
+module _ (d : Design) (wf : WellFormed d) (p : ℕ) where
+  pub length-is : frameLength (frameSizes d p) ≡ F d p
+  unfolding frameSizes F
+  length-is = ap₂ (λ (x y : ℕ). S d + x + w d + y) (sym (P-is d p)) (sym (G-is d wf p))
+
+  pub variables-are : (k : ℕ) → variablesOf (frameSizes d p) k ≡ n d p k
+  unfolding frameSizes n F
+  variables-are k = ap₂ (λ (x y : ℕ). 1 + k * (S d + x + w d + y) + S d + x) (sym (P-is d p)) (sym (G-is d wf p))
+
+  pub part-is : (k i : ℕ) → partWordsOf (frameSizes d p) k i ≡ length (words (part d p k i))
+  unfolding frameSizes partWordCount firstWords stepWordCount
+  part-is k i = go i ∙ sym (sizes.part-words d wf p k i)
+    where
+      go : (i : ℕ) → partWordsOf (frameSizes d p) k i ≡ partWordCount d p k i
+      go zero = refl
+      go (suc j) = refl

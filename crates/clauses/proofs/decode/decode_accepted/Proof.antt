@@ -1,0 +1,63 @@
+use native.Mathlib.Omega.{arith}
+use mathlib.Core.Path.{refl}
+use Rattle.clauses.proofs.Decodes.{short-values, short-choices, frames-fit, bad-frame, good-frames}
+use borrow.Author.Needs.{needs}
+use Rattle.clauses.proofs.decode.decode_accepted.Statement.{statement}
+use Rattle.clauses.proofs.decode.decode_accepted.Tie as tie
+
+sizes-requires : tie.Need-sizes-requires
+sizes-requires c κs = search needs
+
+variables-requires : tie.Need-variables-requires
+variables-requires c κs = search needs
+
+returns : tie.Need-returns
+returns c = short-values _ _ _ _ _ (c .before .before .before .before .before .before .pre .0) (c .before .before .before .before .before .before .pre .1) (c .before .before .before .before .before .before .pre .2) (λ i. omega (arith, c .before .before .before .before .before .shared-slice-known .given i)) _ (c .before .before .sizes .ensures .1) _ (c .before .variables .ensures .0) (c .if1 .taken)
+
+returns-2 : tie.Need-returns-2
+returns-2 c = short-choices _ _ _ _ _ (c .before .before .before .before .before .before .before .pre .0) (c .before .before .before .before .before .before .before .pre .1) (c .before .before .before .before .before .before .before .pre .2) (λ i. omega (arith, c .before .before .before .before .before .before .shared-slice-known .given i)) _ (c .before .before .before .sizes .ensures .1) _ (c .before .before .variables .ensures .0) (c .before .if1 .left) (c .if2 .taken)
+
+frame-length-requires : tie.Need-frame-length-requires
+frame-length-requires c κs = search needs
+
+add-base : tie.Need-add-base
+add-base c = search needs
+
+add-base-2 : tie.Need-add-base-2
+add-base-2 c = search needs
+
+add-base-3 : tie.Need-add-base-3
+add-base-3 c = search needs
+
+first-bad-requires : tie.Need-first-bad-requires
+first-bad-requires c κs = frames-fit (c .before .before .before .before .before .before .before .before .before .before .args .values .now) (c .before .before .before .before .before .before .sizes .result) (c .before .before .before .before .before .before .before .before .before .before .args .bound) _ _ (c .before .before .before .before .before .variables .ensures .0) (c .before .before .before .before .if1 .left) (c .before .before .frame-length .ensures .0)
+
+returns-3 : tie.Need-returns-3
+returns-3 c = bad-frame _ _ _ _ _ (c .before .before .before .before .before .before .before .before .before .before .before .before .pre .0) (c .before .before .before .before .before .before .before .before .before .before .before .before .pre .1) (c .before .before .before .before .before .before .before .before .before .before .before .before .pre .2) (λ i. omega (arith, c .before .before .before .before .before .before .before .before .before .before .before .shared-slice-known .given i)) _ (c .before .before .before .before .before .before .before .before .sizes .ensures .1) _ (c .before .before .before .before .before .before .before .variables .ensures .0) (c .before .before .before .before .before .before .if1 .left) (c .before .before .before .before .before .if2 .left) _ _ _ (c .before .before .before .before .frame-length .ensures .0) refl refl _ (c .before .first-bad .ensures .0) (c .if3 .taken)
+
+write-choices-requires : tie.Need-write-choices-requires
+write-choices-requires c κs = let h = frames-fit (c .before .before .before .before .before .before .before .before .before .before .before .before .before .args .values .now) (c .before .before .before .before .before .before .before .before .before .sizes .result) (c .before .before .before .before .before .before .before .before .before .before .before .before .before .args .bound) _ _ (c .before .before .before .before .before .before .before .before .variables .ensures .0) (c .before .before .before .before .before .before .before .if1 .left) (c .before .before .before .before .before .frame-length .ensures .0) in (h .0, h .1, c .before .before .before .before .before .before .before .before .before .sizes .ensures .0 .movers, c .before .before .before .before .before .before .if2 .left)
+
+same-length : tie.Need-same-length
+same-length c = search needs
+
+returns-4 : tie.Need-returns-4
+returns-4 c = good-frames _ _ _ _ _ (c .before .before .before .before .before .before .before .before .before .before .before .before .before .before .before .before .pre .0) (c .before .before .before .before .before .before .before .before .before .before .before .before .before .before .before .before .pre .1) (c .before .before .before .before .before .before .before .before .before .before .before .before .before .before .before .before .pre .2) (λ i. omega (arith, c .before .before .before .before .before .before .before .before .before .before .before .before .before .before .before .shared-slice-known .given i)) _ (c .before .before .before .before .before .before .before .before .before .before .before .before .sizes .ensures .1) _ (c .before .before .before .before .before .before .before .before .before .before .before .variables .ensures .0) (c .before .before .before .before .before .before .before .before .before .before .if1 .left) (c .before .before .before .before .before .before .before .before .before .if2 .left) _ _ _ (c .before .before .before .before .before .before .before .before .frame-length .ensures .0) refl refl _ (c .before .before .before .before .before .first-bad .ensures .0) (c .before .before .before .before .if3 .left) _ (c .before .before .write-choices .ensures)
+
+pub decode-accepted-spec : {M : Type 1} → statement M
+decode-accepted-spec =
+    tie.close
+    (tie.spec
+    sizes-requires
+    variables-requires
+    returns
+    returns-2
+    frame-length-requires
+    add-base
+    add-base-2
+    add-base-3
+    first-bad-requires
+    returns-3
+    write-choices-requires
+    same-length
+    returns-4)

@@ -1,0 +1,60 @@
+use native.Mathlib.Omega.{arith}
+use Rattle.design.proofs.Tables.{bounds}
+use Rattle.clauses.proofs.EmitFormula.{frame-ready}
+use Rattle.clauses.proofs.Encodes.{encode-short, encode-done}
+use borrow.Author.Needs.{needs}
+use Rattle.clauses.proofs.encode.encode_accepted.Statement.{statement}
+use Rattle.clauses.proofs.encode.encode_accepted.Tie as tie
+use Rattle.clauses.proofs.encode.encode_accepted.Reads as reads
+use Rattle.clauses.proofs.encode.encode_accepted.Lts as lts
+use Rattle.clauses.proofs.frame.part_words.Reads as part-words-reads
+use Rattle.clauses.proofs.frame.sizes.Reads as sizes-reads
+use Rattle.clauses.proofs.part.put_part.Reads as put-part-reads
+use Rattle.design.proofs.index.index_cells.Reads as index-cells-reads
+use Rattle.design.proofs.index.index_events.Reads as index-events-reads
+use Rattle.design.proofs.index.trailer_word.Reads as trailer-word-reads
+
+sizes-requires : tie.Need-sizes-requires
+sizes-requires c κs = search needs
+
+part-words-requires : tie.Need-part-words-requires
+part-words-requires c κs = search needs
+
+returns : tie.Need-returns
+returns c = encode-short _ _ _ _ _ (c .before .before .before .before .pre .0) (c .before .before .before .before .pre .1) (c .before .before .before .before .pre .2) (c .before .before .before .before .pre .3) (λ i. omega (arith, c .before .before .before .shared-slice-known .given i)) _ (c .before .before .sizes .ensures .1) _ (c .before .part-words .ensures) (c .if1 .taken)
+
+trailer-word-requires : tie.Need-trailer-word-requires
+trailer-word-requires c κs = (bounds _ (c .before .before .before .before .pre .0) .long, omega arith)
+
+trailer-word-requires-2 : tie.Need-trailer-word-requires-2
+trailer-word-requires-2 c κs = (bounds _ (c .before .before .before .before .before .pre .0) .long, omega arith)
+
+index-events-requires : tie.Need-index-events-requires
+index-events-requires c κs = search needs
+
+index-cells-requires : tie.Need-index-cells-requires
+index-cells-requires c κs = search needs
+
+put-part-requires : tie.Need-put-part-requires
+put-part-requires c κs = (frame-ready _ _ _ _ _ _ _ _ (c .before .before .before .before .before .before .before .before .before .before .before .before .before .pre .0) (λ i. omega (arith, c .before .before .before .before .before .before .before .before .before .before .before .before .shared-slice-known .given i)) (c .before .before .before .before .before .index-events .ensures) (c .before .before .before .before .before .before .before .before .trailer-word .ensures .0) (c .before .before .before .before .before .before .before .trailer-word2 .ensures .0) (c .before .before .before .index-cells .ensures) (c .before .before .before .before .before .before .before .before .before .before .before .sizes .ensures .0) (c .before .before .before .before .before .before .before .before .before .before .before .sizes .ensures .1), c .before .before .before .before .before .before .before .before .before .before .before .before .before .pre .2, c .before .before .before .before .before .before .before .before .before .before .before .before .before .pre .3)
+
+same-length : tie.Need-same-length
+same-length c = search needs
+
+returns-2 : tie.Need-returns-2
+returns-2 c = encode-done _ _ _ _ _ (c .before .before .before .before .before .before .before .before .before .before .before .before .before .before .before .pre .0) (c .before .before .before .before .before .before .before .before .before .before .before .before .before .before .before .pre .1) (c .before .before .before .before .before .before .before .before .before .before .before .before .before .before .before .pre .2) (c .before .before .before .before .before .before .before .before .before .before .before .before .before .before .before .pre .3) (λ i. omega (arith, c .before .before .before .before .before .before .before .before .before .before .before .before .before .before .shared-slice-known .given i)) _ (c .before .before .before .before .before .before .before .before .before .before .before .before .before .sizes .ensures .1) _ (c .before .before .before .before .before .before .before .before .before .before .before .before .part-words .ensures) (c .before .before .before .before .before .before .before .before .before .before .before .if1 .left) _ _ (c .before .put-part .ensures)
+
+pub encode-accepted-spec : {M : Type 1} → statement M
+encode-accepted-spec =
+    tie.close
+    (tie.spec
+    sizes-requires
+    part-words-requires
+    returns
+    trailer-word-requires
+    trailer-word-requires-2
+    index-events-requires
+    index-cells-requires
+    put-part-requires
+    same-length
+    returns-2)

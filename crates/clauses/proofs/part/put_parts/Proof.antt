@@ -1,0 +1,53 @@
+use native.Mathlib.Omega.{arith}
+use Prim.Native.Nat.{_+_, _-_}
+use Rattle.clauses.proofs.EmitFormula.{PartsLeft, parts-start, parts-on, parts-end}
+use Rattle.clauses.proofs.part.put_parts.Statement.{statement}
+use Rattle.clauses.proofs.part.put_parts.Tie as tie
+use Rattle.clauses.proofs.part.put_parts.Reads as reads
+use Rattle.clauses.proofs.part.put_parts.Lts as lts
+use Rattle.clauses.proofs.part.put_part.Reads as put-part-reads
+
+abbrev Inv-loop : tie.InvT-loop
+Inv-loop file events cells count nv nm s property k buf₀ at₀ i₀ buf at i = PartsLeft file s property k buf₀ buf at i
+
+abbrev μ-loop : tie.MeasureT-loop
+μ-loop file events cells count nv nm s property k buf₀ at₀ i₀ buf at i = k + 3 - i
+
+loop-holds : tie.Need-loop-holds Inv-loop μ-loop
+loop-holds c = parts-start _ _ _ _ _
+
+add-loop : tie.Need-add-loop Inv-loop μ-loop
+add-loop c = omega (arith, c .before .before .pre .1)
+
+put-part-requires : tie.Need-put-part-requires Inv-loop μ-loop
+put-part-requires c κs = (c .before .before .before .before .pre .0, c .before .before .before .before .pre .1, omega (arith, c .before .loop-test .taken))
+
+add-i : tie.Need-add-i Inv-loop μ-loop
+add-i c = omega (arith, c .before .before .before .loop-test .taken, c .before .before .before .before .before .before .pre .1)
+
+loop-less : tie.Need-loop-less Inv-loop μ-loop
+loop-less c = omega arith
+
+loop-again : tie.Need-loop-again Inv-loop μ-loop
+loop-again c = parts-on _ _ _ _ _ (c .before .before .before .loop-test .taken) (c .before .before .before .before .loop .inv) (omega arith) (c .before .put-part .ensures)
+
+same-length : tie.Need-same-length Inv-loop μ-loop
+same-length c = c .before .loop .inv .long
+
+returns : tie.Need-returns Inv-loop μ-loop
+returns c = parts-end _ _ _ _ _ (c .loop-test .left) (c .before .loop .inv)
+
+pub put-parts-spec : {M : Type 1} → statement M
+put-parts-spec =
+    tie.close
+    (tie.spec
+    Inv-loop
+    μ-loop
+    loop-holds
+    add-loop
+    put-part-requires
+    add-i
+    loop-less
+    loop-again
+    same-length
+    returns)

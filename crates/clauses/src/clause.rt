@@ -1,0 +1,162 @@
+// Clauses that are no gates: of a frame's flags, its ties and the initial units. Their variables follow one another, so a first one and a
+// number name them.
+ghost use mathlib.Core.Path.{_≡_};
+ghost use mathlib.Core.Bool.{cond};
+ghost use mathlib.Core.List.{map};
+ghost use Prim.Native.Nat.{ℕ, _+_, _≤_, _<_};
+ghost use lib.ListN.{length, getD, take};
+ghost use Rattle.design.specs.Tree.{truth};
+ghost use Rattle.clauses.specs.Literal.{positive as positively, negate as negated};
+ghost use Rattle.clauses.specs.Words.{clauseWords, words};
+ghost use Rattle.clauses.specs.Expression.{Slots};
+ghost use Rattle.clauses.specs.Formula.{variablesFrom, flat, unitsOf, against, pairs, ties, allTies};
+ghost use Rattle.clauses.specs.Writing.{fromCode, fromCodes, Puts};
+use super::gate::clause1;
+use super::gate::clause2;
+use super::gate::clause3;
+use super::literal::negate;
+use super::literal::next;
+use super::literal::positive;
+use super::literal::put_end;
+use super::literal::put_literal;
+
+// The literals of n variables from v on.
+pub fn variables(v: u32, n: usize) -> [u32; 544]
+    requires { ⌜ n ≤ 544 ⌝ }
+    ensures { λ r. ⌜ (v + n ≤ 2147483648 → take n (fromCodes r) ≡ variablesFrom v n) ⌝ }
+{
+    let mut out = [0u32; 544];
+    let mut x = v;
+    let mut i: usize = 0;
+    while i < n {
+        out[i] = positive(x);
+        x = next(x);
+        i = i + 1;
+    }
+    out
+}
+
+// The clause of n variables from v on.
+pub fn put_any(buf: &mut [i32], cur: usize, v: u32, n: usize) -> usize
+    requires { ⌜ n ≤ 64 ⌝ }
+    ensures { λ r. ⌜ (v + n ≤ 2147483648 → Puts (clauseWords (variablesFrom v n)) (now (buf .entry)) (now (buf .exit)) cur r) ⌝ }
+{
+    let mut at = cur;
+    let mut x = v;
+    let mut i: usize = 0;
+    while i < n {
+        at = put_literal(buf, at, positive(x));
+        x = next(x);
+        i = i + 1;
+    }
+    put_end(buf, at)
+}
+
+// (-f -h) for each of n variables h from v on.
+pub fn put_against(buf: &mut [i32], cur: usize, f: u32, v: u32, n: usize) -> usize
+    requires { ⌜ n ≤ 64 ⌝ }
+    ensures { λ r. ⌜ (f + 1 ≤ 2147483648 → v + n ≤ 2147483648 → Puts (words (against (positively f) (variablesFrom v n))) (now (buf .entry)) (now (buf .exit)) cur r) ⌝ }
+{
+    let nf = negate(positive(f));
+    let mut at = cur;
+    let mut x = v;
+    let mut i: usize = 0;
+    while i < n {
+        at = clause2(buf, at, nf, negate(positive(x)));
+        x = next(x);
+        i = i + 1;
+    }
+    at
+}
+
+// (-f -h) for each pair of n variables from v on.
+pub fn put_pairs(buf: &mut [i32], cur: usize, v: u32, n: usize) -> usize
+    requires { ⌜ n ≤ 64 ⌝ }
+    ensures { λ r. ⌜ (v + n ≤ 2147483648 → Puts (words (pairs (variablesFrom v n))) (now (buf .entry)) (now (buf .exit)) cur r) ⌝ }
+{
+    let mut at = cur;
+    let mut x = v;
+    let mut left = n;
+    while 0 < left {
+        left = left - 1;
+        let y = next(x);
+        at = put_against(buf, at, x, y, left);
+        x = y;
+    }
+    at
+}
+
+// (-f -r b)(-f r -b) for each of n results from r on and bits from b on.
+pub fn put_ties(buf: &mut [i32], cur: usize, f: u32, r: u32, b: u32, n: usize) -> usize
+    requires { ⌜ n ≤ 544 ⌝ }
+    ensures { λ z. ⌜ (f + 1 ≤ 2147483648 → r + n ≤ 2147483648 → b + n ≤ 2147483648 → Puts (words (ties (positively f) (variablesFrom r n) (variablesFrom b n))) (now (buf .entry)) (now (buf .exit)) cur z) ⌝ }
+{
+    let nf = negate(positive(f));
+    let mut at = cur;
+    let mut x = r;
+    let mut y = b;
+    let mut i: usize = 0;
+    while i < n {
+        let p = positive(x);
+        let q = positive(y);
+        let s = clause3(buf, at, nf, negate(p), q);
+        at = clause3(buf, s, nf, p, negate(q));
+        x = next(x);
+        y = next(y);
+        i = i + 1;
+    }
+    at
+}
+
+// The ties of `all` movers: their flags from f on, the first variables of their results, n bits from b on. R names a result by its first variable.
+pub fn put_all_ties(
+    buf: &mut [i32],
+    cur: usize,
+    f: u32,
+    all: usize,
+    firsts: &[u32; 64],
+    b: u32,
+    n: usize,
+) -> usize
+    requires { ⌜ (all ≤ 64) × (n ≤ 544) × (length (now firsts) ≡ 64) ⌝ }
+    ensures { λ r. ⌜ (f + all ≤ 2147483648 → b + n ≤ 2147483648 → ((k : ℕ) → k < all → getD (now (firsts .entry)) k 0 + n ≤ 2147483648) → (R : ℕ → Slots) → ((v : ℕ) → flat (R v) ≡ variablesFrom v n) → Puts (words (allTies (variablesFrom f all) (map R (take all (now (firsts .entry)))) (variablesFrom b n))) (now (buf .entry)) (now (buf .exit)) cur r) ⌝ }
+{
+    let mut at = cur;
+    let mut x = f;
+    let mut i: usize = 0;
+    while i < all {
+        at = put_ties(buf, at, x, firsts[i], b, n);
+        x = next(x);
+        i = i + 1;
+    }
+    at
+}
+
+// The units that give n variables from v on the bits of a value.
+pub fn put_units(buf: &mut [i32], cur: usize, v: u32, n: usize, value: usize) -> usize
+    requires { ⌜ n ≤ 32 ⌝ }
+    ensures { λ r. ⌜ (v + n ≤ 2147483648 → Puts (words (unitsOf (variablesFrom v n) value)) (now (buf .entry)) (now (buf .exit)) cur r) ⌝ }
+{
+    let mut at = cur;
+    let mut x = v;
+    let mut y = value;
+    let mut i: usize = 0;
+    while i < n {
+        at = clause1(buf, at, signed_by(x, y % 2));
+        x = next(x);
+        y = y / 2;
+        i = i + 1;
+    }
+    at
+}
+
+// A variable's literal, negative for the bit 0.
+pub fn signed_by(v: u32, bit: usize) -> u32
+    ensures { λ r. ⌜ (v + 1 ≤ 2147483648 → fromCode r ≡ cond (truth bit) (positively v) (negated (positively v))) ⌝ }
+{
+    if bit == 0 {
+        negate(positive(v))
+    } else {
+        positive(v)
+    }
+}

@@ -1,0 +1,208 @@
+// The sizes of a frame, computed once from an accepted file, and the sizes of the formula's parts, which are arithmetic on them.
+ghost use mathlib.Core.Path.{_≡_};
+ghost use Prim.Native.Nat.{_*_, _≤_, _<_};
+ghost use lib.ListN.{length};
+ghost use Rattle.design.specs.Tree.{Design};
+ghost use Rattle.design.specs.Check.{check, accepted, variableCount, matrixCount};
+ghost use Rattle.design.specs.Places.{Accepted};
+ghost use Rattle.design.specs.Sections.{Parts};
+ghost use Rattle.clauses.specs.Formula.{S};
+ghost use Rattle.clauses.specs.Cost.{pairCount, propertyCost};
+ghost use Rattle.clauses.specs.FrameSizes.{HasGates, FewGates, Prepared, frameSizes, SmallFrame, frameLength, stepClausesOf, stepWordsOf, partWordsOf, variablesOf, formulaSizes};
+use super::cells::size_cells;
+use super::cost::GatesAt;
+use super::cost::size_bool;
+use design::index::INVARIANT_AT;
+use design::index::MATRICES;
+use design::index::VARIABLES;
+use design::index::index_cells;
+use design::index::index_events;
+use design::index::trailer_word;
+use design::limits::MAX_DEPTH;
+use design::limits::TRAILER;
+use step::mover::external_count;
+
+// Gates by kind; `wides` are xors and muxes.
+pub struct Gates {
+    pub ands: u64,
+    pub wides: u64,
+}
+
+// State bits, property gates, flags and gates of the step.
+pub struct FrameSizes {
+    pub bits: u64,
+    pub movers: u64,
+    pub property: Gates,
+    pub step: Gates,
+}
+
+// SIZE's numbers: S, P, w, G, n, and the whole formula's clauses and words.
+pub struct FormulaSizes {
+    pub bits: u64,
+    pub property: u64,
+    pub movers: u64,
+    pub step: u64,
+    pub variables: u64,
+    pub clauses: u64,
+    pub words: u64,
+}
+
+// The number of state bits: a variable's 1 or 16, a status's 4.
+pub fn state_bits(file: &[u8], nv: usize, nm: usize) -> u64
+    requires { ⌜ (3 * nv ≤ length (now file)) × (nv ≤ 32) × (nm ≤ 8) ⌝ }
+    ensures { λ r. ⌜ (r ≤ 544) × (nv ≡ variableCount (now (file .entry)) → nm ≡ matrixCount (now (file .entry)) → (d : Design) → Parts (now (file .entry)) d → r ≡ S d) ⌝ }
+{
+    let mut bits: u64 = 0;
+    let mut v = 0;
+    while v < nv {
+        if file[3 * v] == 1 {
+            bits = bits + 16;
+        } else {
+            bits = bits + 1;
+        }
+        v = v + 1;
+    }
+    bits + 4 * (nm as u64)
+}
+
+// The gates of the property.
+pub fn size_property(
+    file: &[u8],
+    events: &[u16; 128],
+    nv: usize,
+    nm: usize,
+    bits: u64,
+    property: u8,
+) -> GatesAt
+    requires { ⌜ Prepared (now file) (now events) nv nm bits ⌝ }
+    ensures { λ r. ⌜ FewGates r × ((d : Design) → Parts (now (file .entry)) d → HasGates r (propertyCost d property)) ⌝ }
+{
+    if property == 0 {
+        let end = file.len() - TRAILER;
+        let at = trailer_word(file, INVARIANT_AT);
+        size_bool(file, file, at, end, nv, nm, MAX_DEPTH)
+    } else {
+        size_cells(file, events, nv, nm, bits, true)
+    }
+}
+
+// The sizes of a frame of an accepted file.
+pub fn sizes(file: &[u8], property: u8) -> FrameSizes
+    requires { ⌜ Accepted (now file) ⌝ }
+    ensures { λ r. ⌜ SmallFrame r × ((d : Design) → check (now (file .entry)) ≡ accepted d → r ≡ frameSizes d property) ⌝ }
+{
+    let nv = trailer_word(file, VARIABLES);
+    let nm = trailer_word(file, MATRICES);
+    let mut events = [0u16; 128];
+    index_events(file, &mut events);
+    let mut cells = [0u16; 64];
+    let normals = index_cells(file, &mut cells);
+    let externals = external_count(file, nv);
+    let bits = state_bits(file, nv, nm);
+    let p = size_property(file, &events, nv, nm, bits, property);
+    let s = size_cells(file, &events, nv, nm, bits, false);
+    FrameSizes {
+        bits: bits,
+        movers: (normals + externals) as u64,
+        property: Gates {
+            ands: p.ands,
+            wides: p.wides,
+        },
+        step: Gates {
+            ands: s.ands,
+            wides: s.wides + times(externals as u64, bits),
+        },
+    }
+}
+
+// A product of a count and a size.
+pub fn times(k: u64, x: u64) -> u64
+    requires { ⌜ (k ≤ 101) × (x ≤ 1099511627776) ⌝ }
+    ensures { λ r. ⌜ (r ≡ k * x) × (r ≤ 111050674405376) ⌝ }
+{
+    k * x
+}
+
+// The number of pairs of so many flags.
+pub fn pairs(m: u64) -> u64
+    requires { ⌜ m ≤ 64 ⌝ }
+    ensures { λ r. ⌜ (r ≡ pairCount m) × (r ≤ 4096) ⌝ }
+{
+    if m == 0 { 0 } else { times(m, m - 1) / 2 }
+}
+
+// Clauses of the step out of a frame: the clause of all flags, their pairs, the gates, the ties.
+pub fn step_clauses(s: FrameSizes) -> u64
+    requires { ⌜ SmallFrame s ⌝ }
+    ensures { λ r. ⌜ (r ≡ stepClausesOf s) × (r ≤ 60000000) ⌝ }
+{
+    1 + pairs(s.movers) + 3 * s.step.ands + 4 * s.step.wides + 2 * times(s.movers, s.bits)
+}
+
+// Words of the same.
+pub fn step_words(s: FrameSizes) -> u64
+    requires { ⌜ SmallFrame s ⌝ }
+    ensures { λ r. ⌜ (r ≡ stepWordsOf s) × (r ≤ 230000000) ⌝ }
+{
+    1
+        + s.movers
+        + 3 * pairs(s.movers)
+        + 10 * s.step.ands
+        + 16 * s.step.wides
+        + 8 * times(s.movers, s.bits)
+}
+
+// The words of part i of the formula for bound k, for i up to k + 2.
+pub fn part_words(s: FrameSizes, k: u64, i: u64) -> u64
+    requires { ⌜ SmallFrame s × (k ≤ 100) ⌝ }
+    ensures { λ r. ⌜ r ≡ partWordsOf s k i ⌝ }
+{
+    if i == 0 {
+        return 2 + 2 * s.bits;
+    }
+    if k + 1 < i {
+        return k + 2;
+    }
+    let words = 10 * s.property.ands + 16 * s.property.wides;
+    if k + 1 == i {
+        return words;
+    }
+    words + step_words(s)
+}
+
+// F: how many variables a frame has.
+pub fn frame_length(s: FrameSizes) -> u64
+    requires { ⌜ SmallFrame s ⌝ }
+    ensures { λ r. ⌜ (r ≡ frameLength s) × (r ≤ 14144608) ⌝ }
+{
+    s.bits + (s.property.ands + s.property.wides) + s.movers + (s.step.ands + s.step.wides)
+}
+
+// n for bound k.
+pub fn variables(s: FrameSizes, k: u64) -> u64
+    requires { ⌜ SmallFrame s × (k ≤ 100) ⌝ }
+    ensures { λ r. ⌜ (r ≡ variablesOf s k) × (r < 2147483648) ⌝ }
+{
+    let property = s.property.ands + s.property.wides;
+    1 + times(k, frame_length(s)) + s.bits + property
+}
+
+// SIZE's numbers for bound k.
+pub fn formula(s: FrameSizes, k: u64) -> FormulaSizes
+    requires { ⌜ SmallFrame s × (k ≤ 100) ⌝ }
+    ensures { λ r. ⌜ r ≡ formulaSizes s k ⌝ }
+{
+    let property = s.property.ands + s.property.wides;
+    let step = s.step.ands + s.step.wides;
+    let clauses = 3 * s.property.ands + 4 * s.property.wides;
+    let words = 10 * s.property.ands + 16 * s.property.wides;
+    FormulaSizes {
+        bits: s.bits,
+        property: property,
+        movers: s.movers,
+        step: step,
+        variables: variables(s, k),
+        clauses: 1 + s.bits + times(1 + k, clauses) + times(k, step_clauses(s)) + 1,
+        words: 2 + 2 * s.bits + times(1 + k, words) + times(k, step_words(s)) + (k + 2),
+    }
+}
