@@ -5,6 +5,7 @@ ghost use Rattle.search.specs.Solve.{solve as solveOf};
 ghost use Rattle.search.specs.Memory.{Fresh, outcome, Leaves};
 
 pub mod words; // words of a clause list
+mod reader; // a clause list read forward
 mod scan; // the scan for units and conflicts
 mod trail; // setting a variable, the lowest unset one, undoing
 mod run; // the turns

@@ -1,5 +1,4 @@
 // The turns of the search.
-ghost use mathlib.Core.Path.{_≡_};
 ghost use lib.ListN.{length};
 ghost use Rattle.search.specs.Memory.{settingsOf, Ready, Stepped, Fresh, AllUnset, outcome, Ran};
 use super::Answered;

@@ -1,12 +1,12 @@
 // The scan for a clause that is all false, or has no true literal and one unset position.
 ghost use mathlib.Core.Path.{_≡_};
 ghost use mathlib.Core.Bool.{true};
-ghost use Prim.Native.Nat.{_<_, _≤_};
 ghost use lib.IntN.{pos};
 ghost use lib.ListN.{length, getD, drop};
-ghost use Rattle.clauses.specs.Words.{isEnd, literalOfWord, clausesOf};
+ghost use Rattle.clauses.specs.Words.{literalOfWord, clausesOf};
 ghost use Rattle.search.specs.Search.{literalValue};
-ghost use Rattle.search.specs.Memory.{AllIn, closed, hasEnd, Past, Starts, valueAt, valueCode, Finds, Named};
+ghost use Rattle.search.specs.Memory.{AllIn, closed, Starts, valueAt, valueCode, Finds, Named};
+use super::reader::after_clause;
 use super::words::ends;
 use super::words::sign;
 use super::words::variable;
@@ -35,18 +35,6 @@ pub fn literal(words: &[i32], values: &[u8], at: usize) -> u8
     }
 }
 
-// The place past the clause that holds `from`.
-pub fn past_clause(words: &[i32], from: usize) -> usize
-    requires { ⌜ hasEnd (drop from (now words)) ≡ true ⌝ }
-    ensures { λ r. ⌜ Past (now (words .entry)) from r ⌝ }
-{
-    let mut i = from;
-    while !ends(words, i) {
-        i += 1;
-    }
-    i + 1
-}
-
 // The first clause from `from` on that is all false, or has no true literal and one unset position. The scan is left
 // there; a clause is left at its first true literal and at its second unset position, which settle that it is neither.
 pub fn scan_from(words: &[i32], values: &[u8], from: usize) -> Found
@@ -61,12 +49,12 @@ pub fn scan_from(words: &[i32], values: &[u8], from: usize) -> Found
         while !ends(words, i) {
             let x = literal(words, values, i);
             if x == 1 {
-                i = past_clause(words, i);
+                i = after_clause(words, i);
                 continue 'clauses;
             }
             if x == 2 {
                 if spot > 0 {
-                    i = past_clause(words, i);
+                    i = after_clause(words, i);
                     continue 'clauses;
                 }
                 spot = i + 1;

@@ -35,15 +35,15 @@ literal-requires c κs =
     let the-pre = c .before .before .before .before .before .before .pre in
     inner-named (c .before .before .loop .inv) (length (the-args .values .now)) (the-pre .0) (c .before .ends .ensures) (c .if1 .taken)
 
-past-clause-requires : tie.Need-past-clause-requires Inv-loop μ-loop Inv-clauses μ-clauses
-past-clause-requires c κs =
+after-clause-requires : tie.Need-after-clause-requires Inv-loop μ-loop Inv-clauses μ-clauses
+after-clause-requires c κs =
     let the-loop = c .before .before .before .before .loop in
     the-loop .inv .passing .ends
 
 clauses-less : tie.Need-clauses-less Inv-loop μ-loop Inv-clauses μ-clauses
 clauses-less c =
     let the-loop = c .before .before .before .before .before .loop in
-    omega (arith, c .past-clause .ensures .since, c .past-clause .ensures .low, the-loop .inv .passing .since)
+    omega (arith, c .after-clause .ensures .since, c .after-clause .ensures .low, the-loop .inv .passing .since)
 
 clauses-again : tie.Need-clauses-again Inv-loop μ-loop Inv-clauses μ-clauses
 clauses-again c =
@@ -52,17 +52,17 @@ clauses-again c =
     let the-loop = c .before .before .before .before .before .loop in
     let the-ends = c .before .before .before .before .ends in
     let the-if1 = c .before .before .before .if1 in
-    outer-next (the-clauses .inv) (the-clauses-test .taken) (inner-true (the-loop .inv) (the-ends .ensures) (the-if1 .taken) (c .before .before .literal .ensures) (c .before .if2 .taken)) (the-loop .inv) (c .past-clause .ensures)
+    outer-next (the-clauses .inv) (the-clauses-test .taken) (inner-true (the-loop .inv) (the-ends .ensures) (the-if1 .taken) (c .before .before .literal .ensures) (c .before .if2 .taken)) (the-loop .inv) (c .after-clause .ensures)
 
-past-clause-requires-2 : tie.Need-past-clause-requires-2 Inv-loop μ-loop Inv-clauses μ-clauses
-past-clause-requires-2 c κs =
+after-clause-requires-2 : tie.Need-after-clause-requires-2 Inv-loop μ-loop Inv-clauses μ-clauses
+after-clause-requires-2 c κs =
     let the-loop = c .before .before .before .before .before .before .loop in
     the-loop .inv .passing .ends
 
 clauses-less-2 : tie.Need-clauses-less-2 Inv-loop μ-loop Inv-clauses μ-clauses
 clauses-less-2 c =
     let the-loop = c .before .before .before .before .before .before .before .loop in
-    omega (arith, c .past-clause2 .ensures .since, c .past-clause2 .ensures .low, the-loop .inv .passing .since)
+    omega (arith, c .after-clause2 .ensures .since, c .after-clause2 .ensures .low, the-loop .inv .passing .since)
 
 clauses-again-2 : tie.Need-clauses-again-2 Inv-loop μ-loop Inv-clauses μ-clauses
 clauses-again-2 c =
@@ -72,7 +72,7 @@ clauses-again-2 c =
     let the-ends = c .before .before .before .before .before .before .ends in
     let the-if1 = c .before .before .before .before .before .if1 in
     let the-literal = c .before .before .before .before .literal in
-    outer-next (the-clauses .inv) (the-clauses-test .taken) (inner-second (the-loop .inv) (the-ends .ensures) (the-if1 .taken) (the-literal .ensures) (c .before .before .if3 .taken) (c .before .if4 .taken)) (the-loop .inv) (c .past-clause2 .ensures)
+    outer-next (the-clauses .inv) (the-clauses-test .taken) (inner-second (the-loop .inv) (the-ends .ensures) (the-if1 .taken) (the-literal .ensures) (c .before .before .if3 .taken) (c .before .if4 .taken)) (the-loop .inv) (c .after-clause2 .ensures)
 
 add-spot : tie.Need-add-spot Inv-loop μ-loop Inv-clauses μ-clauses
 add-spot c =
@@ -154,10 +154,10 @@ scan-from-spec =
     loop-holds
     ends-requires
     literal-requires
-    past-clause-requires
+    after-clause-requires
     clauses-less
     clauses-again
-    past-clause-requires-2
+    after-clause-requires-2
     clauses-less-2
     clauses-again-2
     add-spot

@@ -1,12 +1,12 @@
--- `search::scan::past_clause` meets its contract.
+-- `search::reader::past_clause` meets its contract.
 use mathlib.Core.Path.{sym, _∙_}
 use Prim.Native.Nat.{_-_}
 use native.Mathlib.Omega.{arith}
 use lib.ListN.{length}
 use borrow.Author.Tests.{not-true, not-false}
 use Rattle.search.proofs.Reading.{inside-low, Passing, passing-start, passing-next, passing-end}
-use Rattle.search.proofs.scan.past_clause.Statement.{statement}
-use Rattle.search.proofs.scan.past_clause.Tie as tie
+use Rattle.search.proofs.reader.past_clause.Statement.{statement}
+use Rattle.search.proofs.reader.past_clause.Tie as tie
 
 abbrev Inv-loop : tie.InvT-loop
 Inv-loop words from i₀ i = Passing words from i
