@@ -1,9 +1,9 @@
 -- Where a list of choices breaks the property.
-use mathlib.Core.Path.{_≡_, refl, sym, ap, _∙_}
+use mathlib.Core.Path.{_≡_, refl, ap}
 use mathlib.Core.Logic.{_⊎_, inl, inr}
 use mathlib.Core.Bool.{Bool, true, false, not, _||_, _&&_}
 use mathlib.Core.List.{List, [], _∷_}
-use Prim.Native.Nat.{ℕ, zero, suc, _<_, _≤_}
+use Prim.Native.Nat.{ℕ, zero, suc, _<_}
 use native.Mathlib.Omega.{arith}
 use lib.Dec.{leb}
 use lib.ListN.{length, take}
@@ -13,8 +13,7 @@ use Rattle.design.specs.Tree.{Design}
 use Rattle.design.specs.State.{State, start}
 use Rattle.step.specs.OneStep.{step, run, property, breaksAt, breaksFrom, breaks}
 use Rattle.clauses.specs.Formula.{w}
-use Rattle.clauses.proofs.Runs.{AllBelow}
-use Rattle.clauses.proofs.Theorem.{Breaking, Breakable}
+use Rattle.clauses.specs.Theorem.{AllBelow, Breaking}
 use Rattle.verdict.specs.Claim.{NoneShorter}
 
 below-take : (m i : ℕ) (cs : List ℕ) → AllBelow m cs → AllBelow m (take i cs)

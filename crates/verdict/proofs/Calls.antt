@@ -6,14 +6,14 @@ use Prim.Native.Nat.{ℕ, _<_, _≤_}
 use native.Mathlib.Omega.{arith}
 use lib.Dec.{leb}
 use lib.ListN.{length, getD}
-use borrow.Author.Tests.{leb-true, le-leb, lt-leb}
+use borrow.Author.Tests.{leb-true, le-leb}
 use Rattle.design.specs.Tree.{Design}
 use Rattle.design.specs.Check.{Checked, check}
 use Rattle.clauses.specs.Words.{words}
 use Rattle.clauses.specs.Formula.{n, formula}
 use Rattle.clauses.specs.Answer.{Answer, refused, answer, need, ofChecked, onDesign, maxProperty, maxBound}
 use Rattle.clauses.specs.Size.{Sizes, sizesOf, size}
-use Rattle.verdict.specs.Verdict.{Told, Judged, judge, Memory, After, memoryLeft, roomFor, afterCall, verdict}
+use Rattle.verdict.specs.Verdict.{Told, judge, Memory, After, memoryLeft, roomFor, afterCall, verdict}
 use Rattle.verdict.specs.Answers.{exit}
 use Rattle.verdict.specs.Loop.{Ready}
 use Rattle.verdict.specs.declared.answer.Reply.the-variants.{Refused}

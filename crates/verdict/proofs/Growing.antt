@@ -1,5 +1,4 @@
 -- The variables and words of the formula grow with the bound, so room for the full bound is room for every smaller one.
-use mathlib.Core.Path.{_≡_}
 use Prim.Native.Nat.{ℕ, _+_, _*_, _≤_}
 use native.Mathlib.Omega.{arith}
 use native.Mathlib.Nat.{le-refl, mul-le-mul}

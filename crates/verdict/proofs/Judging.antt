@@ -1,8 +1,8 @@
 -- VERDICT's bounds one after the other: which verdict comes of them, and the tries.
-use mathlib.Core.Path.{_≡_, refl, sym, ap, _∙_, subst}
+use mathlib.Core.Path.{_≡_, refl, sym, ap, subst}
 use mathlib.Core.Bool.{Bool, true, false}
-use mathlib.Core.List.{List, []}
-use Prim.Native.Nat.{ℕ, zero, suc, _+_, _-_, _^_, _<_, _≤_}
+use mathlib.Core.List.{[]}
+use Prim.Native.Nat.{ℕ, zero, suc, _+_, _-_, _<_, _≤_}
 use native.Mathlib.Decide.{decLe}
 use native.Mathlib.Omega.{arith}
 use native.Mathlib.Nat.{le-refl}
@@ -11,12 +11,12 @@ use borrow.Author.Tests.{eqb-true, eqb-false}
 use Rattle.design.specs.Tree.{Design}
 use Rattle.clauses.specs.Meaning.{satisfies}
 use Rattle.clauses.specs.Formula.{n, formula}
-use Rattle.clauses.proofs.Theorem.{Breakable, Theorem}
-use Rattle.search.specs.Search.{Settings, noBudget, upTo, Answer, SAT, UNSAT, SPENT, Outcome, solved}
+use Rattle.clauses.specs.Theorem.{Breakable, Theorem}
+use Rattle.search.specs.Search.{Settings, noBudget, upTo, Answer, SAT, UNSAT, SPENT, Outcome}
 use Rattle.search.proofs.Scans.{made}
 use Rattle.search.proofs.Ending.{Says as AnswerSays, search-right, Budgeted, search-budget}
-use Rattle.verdict.specs.Verdict.{Verdict, VIOLATED, CLEAN, SPENT-AT, Told, Judged, judged, decided, searched, judgedFrom, judge}
-use Rattle.verdict.specs.Claim.{triesOf, triesBelow, NoneShorter, FirstBreak, Exceeds, FirstExceeds, Enough, Says, triesTold}
+use Rattle.verdict.specs.Verdict.{Verdict, VIOLATED, CLEAN, SPENT-AT, Judged, judged, decided, searched, judgedFrom, judge}
+use Rattle.verdict.specs.Claim.{triesOf, triesBelow, NoneShorter, FirstBreak, FirstExceeds, Enough, Says, triesTold}
 
 module _ (d : Design) (p : ℕ) where
   tries-grow : (i j : ℕ) → i ≤ j → triesBelow d p i ≤ triesBelow d p j

@@ -8,3 +8,4 @@ pub mod Table
 pub mod Loop
 pub mod Searching
 pub mod Standing
+pub mod Sized

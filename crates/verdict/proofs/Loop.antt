@@ -1,7 +1,6 @@
 -- The loop over the bounds: how it starts, goes on and ends.
-use mathlib.Core.Path.{_≡_, refl, sym, ap, ap₂, _∙_, subst}
-use mathlib.Core.Bool.{Bool, true, false}
-use mathlib.Core.List.{List, [], _∷_, _++_}
+use mathlib.Core.Path.{_≡_, refl, sym, ap, _∙_}
+use mathlib.Core.List.{List, [], _++_}
 use Prim.Native.Nat.{ℕ, zero, suc, _+_, _-_, _<_, _≤_}
 use native.Mathlib.Omega.{arith}
 use native.Mathlib.Numerals.{add-one}
@@ -17,7 +16,7 @@ use Rattle.clauses.specs.Answer.{maxProperty, maxBound}
 use Rattle.clauses.specs.Decode.{decode}
 use Rattle.search.specs.Search.{upTo, Answer, SAT, UNSAT, SPENT, Outcome}
 use Rattle.search.specs.Solve.{valuesLeft}
-use Rattle.search.specs.Answers.{answerCode, solvedCode}
+use Rattle.search.specs.Answers.{answerCode}
 use Rattle.search.specs.declared.Answered.the-variants.{Sat, Unsat, Spent}
 use Rattle.search.specs.declared.Solved.{Solved}
 use Rattle.search.proofs.Values.{length-from}

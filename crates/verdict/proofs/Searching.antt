@@ -1,12 +1,11 @@
 -- The search on a bound's formula: what it needs of the words, and what it leaves.
 use mathlib.Core.Path.{_≡_, refl, sym, ap, ap₂, _∙_, subst}
-use mathlib.Core.Bool.{Bool, true, false, not, cond}
+use mathlib.Core.Bool.{Bool, false, not}
 use mathlib.Core.List.{List, [], _∷_, _++_}
 use Prim.Native.Nat.{ℕ, zero, suc, _+_, _-_, _^_, _<_, _≤_}
 use native.Mathlib.Omega.{arith}
-use lib.Dec.{ltb}
-use lib.IntN.{ℤ, pos, negℤ, natAbs}
-use lib.ListN.{length, drop, take, replicate}
+use lib.IntN.{ℤ, natAbs}
+use lib.ListN.{length, drop, take}
 use lib.Seq.{length-take-le, take-at}
 use borrow.Author.Tests.{le-ltb}
 use Rattle.design.specs.Tree.{Design}
@@ -14,8 +13,8 @@ use Rattle.clauses.specs.Literal.{Literal, positive, negative, variableOf, Clau
 use Rattle.clauses.specs.Meaning.{ClauseWithin, Within}
 use Rattle.clauses.specs.Words.{wordOf, clauseWords, words, isEnd, clausesOf}
 use Rattle.clauses.specs.Formula.{n, formula}
-use Rattle.clauses.proofs.Theorem.{Theorem}
-use Rattle.search.specs.Search.{Place, none, at, upTo, solved}
+use Rattle.clauses.specs.Theorem.{Theorem}
+use Rattle.search.specs.Search.{none, upTo, solved}
 use Rattle.search.specs.Solve.{badWord}
 use Rattle.search.specs.Memory.{Fresh, outcome, Leaves}
 use Rattle.search.specs.declared.Solved.{Solved}

@@ -1,26 +1,26 @@
 -- The loop's invariant: what it gives to the calls of a bound, and how it is kept.
-use mathlib.Core.Path.{_≡_, refl, sym, ap, _∙_}
+use mathlib.Core.Path.{_≡_, refl, ap, _∙_}
 use mathlib.Core.List.{List, _++_}
-use Prim.Native.Nat.{ℕ, _+_, _-_, _<_, _≤_}
+use Prim.Native.Nat.{ℕ, _+_, _-_, _≤_}
 use native.Mathlib.Omega.{arith}
 use lib.IntN.{ℤ}
 use lib.ListN.{length, take, drop}
-use lib.Seq.{length-take-le}
 use Rattle.design.specs.Tree.{Design}
-use Rattle.design.specs.Check.{Checked, check}
 use Rattle.design.specs.WellFormed.{WellFormed}
 use Rattle.design.proofs.WellFormed.{well-formed}
 use Rattle.clauses.specs.Words.{words}
-use Rattle.clauses.specs.Formula.{n, formula}
+use Rattle.clauses.specs.Formula.{formula}
 use Rattle.clauses.specs.Decode.{decode}
-use Rattle.clauses.proofs.Theorem.{Theorem, theorem-of-file}
+use Rattle.clauses.specs.Theorem.{Theorem}
+use Rattle.clauses.proofs.Theorem.{theorem-of-file}
 use Rattle.clauses.proofs.Limits.{small-of-file}
 use Rattle.search.specs.Memory.{Fresh, outcome, Leaves}
 use Rattle.search.specs.declared.Answered.the-variants.{Sat, Unsat, Spent}
 use Rattle.search.specs.declared.Solved.{Solved}
 use Rattle.verdict.specs.Verdict.{Memory, verdict}
-use Rattle.verdict.specs.Answers.{Exit, exit}
-use Rattle.verdict.specs.Loop.{Ready, Judging, Tried, Written, Standing}
+use Rattle.verdict.specs.Answers.{exit}
+use Rattle.clauses.specs.Ready.{Written}
+use Rattle.verdict.specs.Loop.{Ready, Tried, Standing}
 use Rattle.verdict.specs.declared.answer.Verdict.the-variants.{Violated, Clean, Spent as SpentAt}
 use Rattle.verdict.specs.declared.answer.Reply.the-variants.{Done}
 use Rattle.verdict.proofs.Calls.{Room, room-for}

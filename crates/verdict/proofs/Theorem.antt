@@ -1,6 +1,5 @@
 -- Demand 3, for every accepted file.
 use mathlib.Core.Path.{_≡_, sym, ap, _∙_, subst}
-use mathlib.Core.Logic.{_↔_}
 use mathlib.Core.List.{List, _++_}
 use Prim.Native.Nat.{ℕ, _<_}
 use native.Mathlib.Omega.{arith}
@@ -8,7 +7,8 @@ use lib.ListN.{drop, getD}
 use Rattle.design.specs.Tree.{Design}
 use Rattle.design.specs.Check.{Checked, check}
 use Rattle.clauses.specs.Formula.{n}
-use Rattle.clauses.proofs.Theorem.{Theorem, theorem-of-file}
+use Rattle.clauses.specs.Theorem.{Theorem}
+use Rattle.clauses.proofs.Theorem.{theorem-of-file}
 use Rattle.search.specs.Search.{SAT}
 use Rattle.search.specs.Search as search
 use Rattle.search.specs.Solve.{valuesLeft}
@@ -25,6 +25,9 @@ of-formula d p k th = record {
       let r = th .decoded cs b in
       record { assignment = r .0; satisfying = r .1; decodes = r .2; only = λ ρ s e v h l. th .once ρ (r .0) s (r .1) (e ∙ sym (r .2)) v h l };
   decodes = th .decodes;
+  within = th .within;
+  decode = th .decode;
+  words = th .words;
 }
 
 module _ (file : List ℕ) (d : Design) (e : check file ≡ Checked.accepted d) (p k budget : ℕ) (lent : Memory) where

@@ -1,19 +1,18 @@
 -- VIOLATED i: DECODE is not refused on the values left, and the choices that it writes break the property at step i.
-use mathlib.Core.Path.{_≡_, refl, sym, ap, _∙_, subst}
-use mathlib.Core.Bool.{Bool, true, false, _&&_}
+use mathlib.Core.Path.{_≡_, refl, ap, _∙_}
+use mathlib.Core.Bool.{true, false}
 use mathlib.Core.List.{List, _++_}
-use Prim.Native.Nat.{ℕ, suc, _+_, _<_, _≤_}
+use Prim.Native.Nat.{ℕ, suc, _+_, _≤_}
 use native.Mathlib.Omega.{arith}
-use lib.Dec.{leb}
-use lib.ListN.{length, drop, getD, length-append, List·getD-append}
+use lib.ListN.{length, drop, length-append, List·getD-append}
 use borrow.Author.Tests.{le-leb}
 use Rattle.design.specs.Tree.{Design, bit}
 use Rattle.design.specs.Check.{Checked, check}
 use Rattle.clauses.specs.Meaning.{satisfies}
 use Rattle.clauses.specs.Formula.{n, formula, choices}
-use Rattle.clauses.specs.Answer.{Answer, answer, need, ofChecked, onDesign, maxProperty, maxBound}
+use Rattle.clauses.specs.Answer.{Answer, answer, onDesign, maxProperty, maxBound}
 use Rattle.clauses.specs.Decode.{Decoded, written, chosenFrom, choicesToWrite, decode}
-use Rattle.clauses.proofs.Theorem.{Breaking, Theorem, Stored}
+use Rattle.clauses.specs.Theorem.{Breaking, Theorem, Stored}
 use Rattle.search.specs.Search.{Value, unset, is, Settings, valueOf}
 use Rattle.search.specs.Solve.{bitOf, valuesFrom}
 use Rattle.search.proofs.Scans.{isTrue, made}

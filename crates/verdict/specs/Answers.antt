@@ -1,5 +1,4 @@
 -- The code's answers, of what the definitions say.
-use Prim.Native.Nat.{ℕ}
 use Rattle.clauses.specs.Answer.{Answer, refused, answer}
 use Rattle.verdict.specs.Verdict.{Verdict, VIOLATED, CLEAN, SPENT-AT, Told, Memory, After}
 use Rattle.verdict.specs.declared.answer.Verdict as declared

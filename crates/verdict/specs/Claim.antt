@@ -1,5 +1,6 @@
 -- Demand 3 of document 01, whole: "one claim about such lists as wholes, not one for each choice". A list's choices are movers' numbers,
--- idle ones included. `Breaking d p k cs`: cs is a list of just k choices that breaks property p; `Breakable d p k`: some list of at most k does.
+-- idle ones included (`AllBelow (w d) cs`). `Breaking d p k cs`: cs is a list of just k choices that breaks property p; `Breakable d p k`: some
+-- list of at most k does.
 use mathlib.Core.Path.{_≡_}
 use mathlib.Core.Logic.{_↔_}
 use mathlib.Core.Bool.{true}
@@ -7,13 +8,13 @@ use mathlib.Core.List.{List, _++_}
 use Prim.Native.Nat.{ℕ, zero, suc, _+_, _<_, _≤_}
 use lib.ListN.{length, drop}
 use Rattle.design.specs.Tree.{Design}
-use Rattle.design.specs.Check.{Checked, check}
 use Rattle.step.specs.OneStep.{breaksAt}
-use Rattle.clauses.specs.Meaning.{Assignment, satisfies, Satisfiable}
+use Rattle.clauses.specs.Meaning.{Assignment, satisfies, Satisfiable, Within}
 use Rattle.clauses.specs.Formula.{w, n, formula, choices}
+use Rattle.clauses.specs.Words.{words, clausesOf}
 use Rattle.clauses.specs.Answer.{answer}
-use Rattle.clauses.proofs.Runs.{AllBelow}
-use Rattle.clauses.proofs.Theorem.{Breaking, Breakable}
+use Rattle.clauses.specs.Decode.{chosenFrom}
+use Rattle.clauses.specs.Theorem.{AllBelow, Breaking, Breakable, Stored}
 use Rattle.search.specs.Search.{noBudget}
 use Rattle.verdict.specs.Verdict.{Verdict, VIOLATED, CLEAN, SPENT-AT, Told, Memory, searched, verdict}
 
@@ -31,9 +32,16 @@ pub record OfFormula (d : Design) (p k : ℕ) : Type 0 where
   pub decoded : (cs : List ℕ) → Breaking d p k cs → JustOne d p k cs
   -- and every satisfying assignment decodes to such a list
   pub decodes : (ρ : Assignment) → satisfies ρ (formula d p k) ≡ true → Breaking d p k (choices d p ρ k)
+  -- an assignment is one of variables 1..n: the formula names no other
+  pub within : Within (n d p k) (formula d p k)
+  -- DECODE finds just one true flag in each frame of a satisfying assignment, and by them these choices
+  pub decode : (ρ : Assignment) (values : List ℕ) → satisfies ρ (formula d p k) ≡ true → Stored (n d p k) ρ values
+      → chosenFrom d p values k 0 ≡ answer (choices d p ρ k)
+  -- the words that ENCODE's parts come to say just these clauses
+  pub words : clausesOf (words (formula d p k)) ≡ formula d p k
 
 module _ (d : Design) (p : ℕ) where
-  -- "A bound's tries are those the search makes on its formula with no budget set."
+  -- "A bound's tries are those the search makes on its formula with no budget set." It ends (`search/proofs/Theorems`).
   abbrev pub triesOf : ℕ → ℕ
   triesOf i = (searched d p noBudget i) .tries
 

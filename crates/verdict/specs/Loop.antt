@@ -45,12 +45,6 @@ module _ (d : Design) (p k budget : ℕ) (lent : Memory) where
     pub values-left : values′ ≡ valuesLeft (n d p i) ((searched d p (upTo (budget - t)) i) .answer) ++ drop (n d p i) values
     pub trail-left : trail′ ≡ replicate (n d p i) 0 ++ drop (n d p i) trail
 
--- what writing the formula for bound i leaves, and the numbers of its words and variables
-pub record Written (d : Design) (p i : ℕ) (clauses clauses′ : List ℤ) (count variables : ℕ) : Type 0 where
-  pub counted : count ≡ length (words (formula d p i))
-  pub numbered : variables ≡ n d p i
-  pub written : clauses′ ≡ words (formula d p i) ++ drop (length (words (formula d p i))) clauses
-
 -- the loop's invariant
 pub record Standing (file : List ℕ) (p k budget : ℕ) (lent : Memory) (i t : ℕ) (clauses : List ℤ) (values trail choices : List ℕ) : Type 0 where
   pub ready : Ready file p k lent

@@ -2,15 +2,18 @@
 use mathlib.Core.Path.{_≡_}
 use mathlib.Core.Bool.{true, false}
 use mathlib.Core.List.{List, [], _∷_}
-use Prim.Native.Nat.{ℕ, _-_}
+use mathlib.Core.Option.{some}
+use Prim.Native.Nat.{ℕ}
 use lib.IntN.{ℤ, pos, negℤ}
-use lib.ListN.{length, take, replicate}
+use lib.ListN.{length, replicate}
 use Rattle.design.specs.Check.{accepted, check}
+use Rattle.design.specs.State.{start}
 use Rattle.design.specs.DesignA.{bytesA, designA}
 use Rattle.step.specs.Pattern.{plus, minus, signed, wrap}
 use Rattle.step.specs.OneStep.{breaksAt, breaks}
+use Rattle.step.specs.Operations.{firstBreak}
 use Rattle.clauses.specs.Formula.{S, P, w, G, F, n, formula}
-use Rattle.clauses.proofs.Counting.{Model, Exactly}
+use Rattle.clauses.specs.Theorem.{Model, Exactly}
 use Rattle.search.specs.Solve.{solve}
 use Rattle.search.specs.declared.Answered.{Answered}
 use Rattle.search.specs.declared.Answered.the-variants.{Sat, Unsat, Spent}
@@ -38,7 +41,7 @@ Holds design = check bytesA ≡ accepted designA
 Holds (frame bits gates movers stepGates size) =
     (S designA ≡ bits) × (P designA 0 ≡ gates) × (w designA ≡ movers) × (G designA 0 ≡ stepGates) × (F designA 0 ≡ size)
 Holds (bound k variables clauses) = (n designA 0 k ≡ variables) × (length (formula designA 0 k) ≡ clauses)
-Holds (broken cs i) = (breaksAt designA 0 cs i ≡ true) × (breaks designA 0 (take (i - 1) cs) ≡ false)
+Holds (broken cs i) = (breaksAt designA 0 cs i ≡ true) × (firstBreak designA 0 (start designA) cs 0 ≡ some i)
 Holds (never cs) = breaks designA 0 cs ≡ false
 Holds (models k count) = Exactly (Model designA 0 k) count
 Holds (sum a b c) = signed (plus (wrap a) (wrap b)) ≡ c

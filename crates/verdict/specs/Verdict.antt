@@ -9,7 +9,7 @@ use Rattle.design.specs.Tree.{Design}
 use Rattle.clauses.specs.Words.{words}
 use Rattle.clauses.specs.Formula.{n, formula}
 use Rattle.clauses.specs.Answer.{Answer, refused, answer, need, onDesign, maxProperty, maxBound}
-use Rattle.clauses.specs.Decode.{Decoded, decode}
+use Rattle.clauses.specs.Decode.{decode}
 use Rattle.search.specs.Search.{Budget, upTo, SAT, UNSAT, SPENT, Outcome, solved}
 use Rattle.search.specs.Search as search
 use Rattle.search.specs.Solve.{leaves}
