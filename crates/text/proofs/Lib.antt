@@ -1,1 +1,3 @@
 pub mod Putting
+pub mod Tracing
+pub mod Parts

@@ -1,15 +1,16 @@
 -- Laws of text that is put into a buffer. Assumes nothing.
 use mathlib.Core.Path.{_≡_, refl, sym, ap, subst, _∙_}
 use mathlib.Core.Bool.{Bool, true, false, cond}
-use mathlib.Core.List.{List, [], _∷_, _++_}
+use mathlib.Core.List.{List, [], _∷_, _++_, map}
 use Prim.Native.Nat.{ℕ, zero, suc, _+_, _*_, _-_, _/_, _%_, _<_, _≤_}
 use native.Mathlib.Omega.{arith}
 use lib.Dec.{ltb}
 use native.Mathlib.Numerals.{add-one}
-use lib.ListN.{length, getD, set, drop, drop-of-length-le, length-append, length-set}
-use lib.Seq.{drop-cons}
+use lib.ListN.{length, getD, set, take, drop, drop-of-length-le, length-append, length-set, length-map, length-drop, List·getD-map}
+use lib.Seq.{drop-cons, length-take-le, getD-take, getD-drop}
 use borrow.Author.Tests.{lt-ltb, le-ltb}
-use lib.IntN.{ℤ, pos, negsuc, natAbs}
+use lib.IntN.{ℤ, pos, negsuc, negℤ, natAbs}
+use Rattle.step.specs.Pattern.{signed}
 use Rattle.search.specs.Memory.{signOf}
 use Rattle.text.specs.Text.{digits, decimal, signedText, put, Written}
 use Rattle.text.specs.Line.{spaced, moverText, flagText}
@@ -71,8 +72,8 @@ digits-more zero n z h g w = absurd (z refl)
 digits-more (suc k) n {xs} {ys} {zs} {at} {m} {r} z h g w =
     rw (le-ltb n 10 h) (written-then (subst (λ (j : ℕ). Written (digits j (n / 10)) xs ys at m) (let q : suc k - 1 ≡ k = omega arith in q) g) w)
 
-pub decimal-past : (n : ℕ) {xs ys : List ℕ} {at r : ℕ} → Written (decimal n) xs ys at r → r ≤ at + 10
-decimal-past n h = omega (arith, h .past, digits-length 10 n)
+pub decimal-past : (n : ℕ) {xs ys : List ℕ} {at r : ℕ} → Written (decimal n) xs ys at r → r ≤ at + 20
+decimal-past n h = omega (arith, h .past, digits-length 20 n)
 
 -- the two cases of an integer's text; `signOf` is 1 of a number that is not negative, else 0
 pub signed-plain : (z : ℤ) (n : ℕ) {xs ys : List ℕ} {at r : ℕ} → n ≡ natAbs z → signOf z ≡ 1 → Written (decimal n) xs ys at r → Written (signedText z) xs ys at r
@@ -83,45 +84,104 @@ pub signed-minus : (z : ℤ) (n : ℕ) {xs ys zs : List ℕ} {at m r : ℕ} → 
 signed-minus (pos k) n q e g h = absurd (e refl)
 signed-minus (negsuc k) n {xs} {ys} {zs} {at} {m} {r} q e g h = written-then g (subst (λ (j : ℕ). Written (decimal j) ys zs m r) q h)
 
-signed-length : (z : ℤ) → length (signedText z) ≤ 11
-signed-length (pos n) = omega (arith, digits-length 10 n)
-signed-length (negsuc n) = omega (arith, digits-length 10 (suc n))
+signed-length : (z : ℤ) → length (signedText z) ≤ 21
+signed-length (pos n) = omega (arith, digits-length 20 n)
+signed-length (negsuc n) = omega (arith, digits-length 20 (suc n))
 
-pub signed-past : (z : ℤ) {xs ys : List ℕ} {at r : ℕ} → Written (signedText z) xs ys at r → r ≤ at + 11
+pub signed-past : (z : ℤ) {xs ys : List ℕ} {at r : ℕ} → Written (signedText z) xs ys at r → r ≤ at + 21
 signed-past z h = omega (arith, h .past, signed-length z)
 
--- what is left of a list of numbers, put now, is the whole put at the start
-pub record Left (zs : List ℤ) (i : ℕ) (xs ys : List ℕ) (at p : ℕ) : Type 0 where
-  pub bytes : put p (spaced (drop i zs)) ys ≡ put at (spaced zs) xs
-  pub past : p + length (spaced (drop i zs)) ≡ at + length (spaced zs)
+-- what is left of a text, put now, is the whole put at the start
+pub record Rest (left whole xs ys : List ℕ) (at p : ℕ) : Type 0 where
+  pub bytes : put p left ys ≡ put at whole xs
+  pub past : p + length left ≡ at + length whole
   pub size : length ys ≡ length xs
-  pub near : p ≤ at + 12 * i
+
+pub rest-start : (whole xs : List ℕ) (at : ℕ) → Rest whole whole xs xs at at
+rest-start whole xs at = record { bytes = refl; past = refl; size = refl }
+
+pub rest-next : (ws left : List ℕ) {here whole xs ys zs : List ℕ} {at p r : ℕ} → here ≡ ws ++ left → Rest here whole xs ys at p → Written ws ys zs p r → Rest left whole xs zs at r
+rest-next ws left {here} {whole} {xs} {ys} {zs} {at} {p} {r} e l w = record {
+  bytes = ap (put r left) (w .bytes) ∙ ap (λ (k : ℕ). put k left (put p ws ys)) (w .past) ∙ put-append p ws left ys ∙ ap (λ (us : List ℕ). put p us ys) (sym e) ∙ l .bytes;
+  past = omega (arith, w .past, l .past, ap length e, length-append ws left);
+  size = written-length w ∙ l .size;
+}
+
+pub rest-end : {left whole xs ys : List ℕ} {at p : ℕ} → left ≡ [] → Rest left whole xs ys at p → Written whole xs ys at p
+unfolding put
+rest-end {left} {whole} {xs} {ys} {at} {p} e l = record { bytes = rw e at (l .bytes); past = omega (arith, rw e at (l .past)) }
+
+-- of bytes, one at a time
+pub bytes-next : (bs : List ℕ) (i : ℕ) {xs ys zs : List ℕ} {at p r : ℕ} → i < length bs → Rest (drop i bs) bs xs ys at p → Written (getD bs i 0 ∷ []) ys zs p r → Rest (drop (i + 1) bs) bs xs zs at r
+bytes-next bs i h l w = rw (add-one i) (rest-next (getD bs i 0 ∷ []) (drop (suc i) bs) (drop-cons bs i 0 h) l w)
+
+pub bytes-end : (bs : List ℕ) (i : ℕ) {xs ys : List ℕ} {at p : ℕ} → length bs ≤ i → Rest (drop i bs) bs xs ys at p → Written bs xs ys at p
+bytes-end bs i h l = rest-end (drop-of-length-le bs h) l
+
+-- of a list of numbers
+pub record Left (zs : List ℤ) (i : ℕ) (xs ys : List ℕ) (at p : ℕ) : Type 0 where
+  pub rest : Rest (spaced (drop i zs)) (spaced zs) xs ys at p
+  pub near : p ≤ at + 22 * i
 
 pub left-start : (zs : List ℤ) (xs : List ℕ) (at : ℕ) → Left zs 0 xs xs at at
-left-start zs xs at = record { bytes = refl; past = refl; size = refl; near = omega arith }
+left-start zs xs at = record { rest = rest-start (spaced zs) xs at; near = omega arith }
 
 spaced-next : (zs : List ℤ) (i : ℕ) → i < length zs → spaced (drop i zs) ≡ (32 ∷ signedText (getD zs i (pos 0))) ++ spaced (drop (suc i) zs)
 unfolding spaced
 spaced-next zs i h = rw (drop-cons zs i (pos 0) h)
 
-pub left-next : (zs : List ℤ) (i : ℕ) {xs ys us vs : List ℕ} {at p m r : ℕ} → i < length zs → Left zs i xs ys at p → Written (32 ∷ []) ys us p m → Written (signedText (getD zs i (pos 0))) us vs m r → Left zs (i + 1) xs vs at r
+left-next : (zs : List ℤ) (i : ℕ) {xs ys us vs : List ℕ} {at p m r : ℕ} → i < length zs → Left zs i xs ys at p → Written (32 ∷ []) ys us p m → Written (signedText (getD zs i (pos 0))) us vs m r → Left zs (i + 1) xs vs at r
 left-next zs i {xs} {ys} {us} {vs} {at} {p} {m} {r} h l g w =
-    let t = signedText (getD zs i (pos 0)) in
-    let rest = spaced (drop (suc i) zs) in
-    let b : Written (32 ∷ t) ys vs p r = written-then g w in
-    let e = spaced-next zs i h in
+    let b : Written (32 ∷ signedText (getD zs i (pos 0))) ys vs p r = written-then g w in
     rw (add-one i) (record {
-      bytes = ap (put r rest) (b .bytes) ∙ ap (λ (k : ℕ). put k rest (put p (32 ∷ t) ys)) (b .past) ∙ put-append p (32 ∷ t) rest ys ∙ ap (λ (ws : List ℕ). put p ws ys) (sym e) ∙ l .bytes;
-      past = omega (arith, b .past, l .past, ap length e, length-append (32 ∷ t) rest);
-      size = written-length b ∙ l .size;
+      rest = rest-next (32 ∷ signedText (getD zs i (pos 0))) (spaced (drop (suc i) zs)) (spaced-next zs i h) (l .rest) b;
       near = omega (arith, b .past, l .near, signed-length (getD zs i (pos 0)));
     })
 
-pub left-end : (zs : List ℤ) (i : ℕ) {xs ys : List ℕ} {at p : ℕ} → length zs ≤ i → Left zs i xs ys at p → Written (spaced zs) xs ys at p
-unfolding spaced put
-left-end zs i {xs} {ys} {at} {p} h l =
-    let e = drop-of-length-le zs h in
-    record { bytes = rw e at (l .bytes); past = omega (arith, rw e at (l .past)) }
+left-end : (zs : List ℤ) (i : ℕ) {xs ys : List ℕ} {at p : ℕ} → length zs ≤ i → Left zs i xs ys at p → Written (spaced zs) xs ys at p
+unfolding spaced
+left-end zs i h l = rest-end (ap spaced (drop-of-length-le zs h)) (l .rest)
+
+-- the values of the first n slots, and the statuses after them
+module _ (n : ℕ) (slots : List ℕ) (h : n ≤ length slots) where
+  values-length : length (take n (map signed slots)) ≡ n
+  values-length = length-take-le n (map signed slots) (let e = length-map slots signed in omega arith)
+
+  value-at : (i : ℕ) → i < n → getD (take n (map signed slots)) i (pos 0) ≡ signed (getD slots i 0)
+  unfolding signed
+  value-at i l = getD-take n (map signed slots) i (pos 0) l ∙ List·getD-map signed slots i 0
+
+  pub values-next : (i : ℕ) {xs ys us vs : List ℕ} {at p m r : ℕ} → i < n → Left (take n (map signed slots)) i xs ys at p → Written (32 ∷ []) ys us p m → Written (signedText (signed (getD slots i 0))) us vs m r → Left (take n (map signed slots)) (i + 1) xs vs at r
+  values-next i {xs} {ys} {us} {vs} {at} {p} {m} {r} l g a b =
+      left-next (take n (map signed slots)) i (omega (arith, values-length)) g a (subst (λ (z : ℤ). Written (signedText z) us vs m r) (sym (value-at i l)) b)
+
+  pub values-end : (i : ℕ) {xs ys : List ℕ} {at p : ℕ} → n ≤ i → Left (take n (map signed slots)) i xs ys at p → Written (spaced (take n (map signed slots))) xs ys at p
+  values-end i l g = left-end (take n (map signed slots)) i (omega (arith, values-length)) g
+
+  statuses-length : length (map pos (drop n slots)) ≡ length slots - n
+  statuses-length = length-map (drop n slots) pos ∙ length-drop n slots
+
+  status-at : (i : ℕ) → getD (map pos (drop n slots)) i (pos 0) ≡ pos (getD slots (n + i) 0)
+  status-at i = List·getD-map pos (drop n slots) i 0 ∙ ap pos (getD-drop n slots i 0)
+
+  pub statuses-next : (i : ℕ) {xs ys us vs : List ℕ} {at p m r : ℕ} → i < length slots - n → Left (map pos (drop n slots)) i xs ys at p → Written (32 ∷ []) ys us p m → Written (decimal (getD slots (n + i) 0)) us vs m r → Left (map pos (drop n slots)) (i + 1) xs vs at r
+  statuses-next i {xs} {ys} {us} {vs} {at} {p} {m} {r} l g a b =
+      left-next (map pos (drop n slots)) i (omega (arith, statuses-length)) g a (subst (λ (z : ℤ). Written (signedText z) us vs m r) (sym (status-at i)) b)
+
+  pub statuses-end : (i : ℕ) {xs ys : List ℕ} {at p : ℕ} → length slots - n ≤ i → Left (map pos (drop n slots)) i xs ys at p → Written (spaced (map pos (drop n slots))) xs ys at p
+  statuses-end i l g = left-end (map pos (drop n slots)) i (omega (arith, statuses-length)) g
+
+-- the two cases of a pattern
+pub pattern-plain : (p : ℕ) {xs ys : List ℕ} {at r : ℕ} → p < 32768 → Written (decimal p) xs ys at r → Written (signedText (signed p)) xs ys at r
+unfolding signed
+pattern-plain p {xs} {ys} {at} {r} h w = subst (λ (t : Bool). Written (signedText (cond t (pos p) (negℤ (pos (65536 - p))))) xs ys at r) (sym (lt-ltb p 32768 h)) w
+
+pub pattern-minus : (p : ℕ) {xs ys zs : List ℕ} {at m r : ℕ} → 32768 ≤ p → p < 65536 → Written (45 ∷ []) xs ys at m → Written (decimal (65536 - p)) ys zs m r → Written (signedText (signed p)) xs zs at r
+unfolding signed
+pattern-minus p {xs} {ys} {zs} {at} {m} {r} h l g w =
+    let q : 65536 - p ≡ suc (65535 - p) = omega arith in
+    subst (λ (t : Bool). Written (signedText (cond t (pos p) (negℤ (pos (65536 - p))))) xs zs at r) (sym (le-ltb p 32768 h))
+    (subst (λ (n : ℕ). Written (signedText (negℤ (pos n))) xs zs at r) (sym q) (written-then g (subst (λ (n : ℕ). Written (decimal n) ys zs m r) q w)))
 
 -- the mover's two cases, and a flag's
 pub mover-none : (step mover : ℕ) {xs ys : List ℕ} {at r : ℕ} → step ≡ 0 → Written (45 ∷ []) xs ys at r → Written (moverText step mover) xs ys at r

@@ -12,9 +12,9 @@ unfoldable pub digits : ℕ → ℕ → List ℕ
 digits zero n = []
 digits (suc k) n = cond (ltb n 10) ((48 + n) ∷ []) (digits k (n / 10) ++ ((48 + n % 10) ∷ []))
 
--- a number below 10,000,000,000
+-- a number below 10^20, which every u64 is
 abbrev pub decimal : ℕ → List ℕ
-decimal n = digits 10 n
+decimal n = digits 20 n
 
 -- an integer, with a minus sign where it is negative
 abbrev pub signedText : ℤ → List ℕ
@@ -30,3 +30,10 @@ put at (w ∷ ws) xs = put (suc at) ws (set xs at w)
 pub record Written (ws xs ys : List ℕ) (at r : ℕ) : Type 0 where
   pub bytes : ys ≡ put at ws xs
   pub past : r ≡ at + length ws
+
+-- no line is longer, and no program's text: 101 lines of a run and its result fit
+abbrev pub maxLine : ℕ
+maxLine = 1024
+
+abbrev pub maxText : ℕ
+maxText = 131072

@@ -1,23 +1,40 @@
 // Lines of the Replay program.
-ghost use mathlib.Core.Path.{_≡_};
-ghost use Prim.Native.Nat.{_+_, _*_, _≤_};
-ghost use lib.ListN.{length};
-ghost use Rattle.text.specs.Text.{Written};
+ghost use mathlib.Core.List.{map};
+ghost use Prim.Native.Nat.{_+_, _-_, _*_, _≤_};
+ghost use lib.IntN.{pos};
+ghost use lib.ListN.{length, take, drop};
+ghost use Rattle.step.specs.Pattern.{signed};
+ghost use Rattle.text.specs.Text.{Written, maxLine};
 ghost use Rattle.text.specs.Line.{spaced, moverText, flagText, head, line};
 use super::number::put_byte;
 use super::number::put_decimal;
-use super::number::put_signed;
+use super::number::put_pattern;
 
-// The numbers, each with a space before it.
-pub fn put_spaced(out: &mut [u8], at: usize, numbers: &[i32]) -> usize
-    requires { ⌜ at + 12 * length (now numbers) ≤ length (now out) ⌝ }
-    ensures { λ r. ⌜ Written (spaced (now (numbers .entry))) (now (out .entry)) (now (out .exit)) at r × (r ≤ at + 12 * length (now (numbers .entry))) ⌝ }
+// The values of the first n slots, each with a space before it.
+pub fn put_values(out: &mut [u8], at: usize, n: usize, slots: &[u16]) -> usize
+    requires { ⌜ (n ≤ length (now slots)) × (at + 22 * n ≤ length (now out)) ⌝ }
+    ensures { λ r. ⌜ Written (spaced (take n (map signed (now (slots .entry))))) (now (out .entry)) (now (out .exit)) at r × (r ≤ at + 22 * n) ⌝ }
 {
     let mut p = at;
     let mut i = 0;
-    while i < numbers.len() {
+    while i < n {
         let m = put_byte(out, p, 32);
-        p = put_signed(out, m, numbers, i);
+        p = put_pattern(out, m, slots[i]);
+        i = i + 1;
+    }
+    p
+}
+
+// The statuses, which are the slots from n on, likewise.
+pub fn put_statuses(out: &mut [u8], at: usize, n: usize, slots: &[u16]) -> usize
+    requires { ⌜ (n ≤ length (now slots)) × (at + 22 * (length (now slots) - n) ≤ length (now out)) ⌝ }
+    ensures { λ r. ⌜ Written (spaced (map pos (drop n (now (slots .entry))))) (now (out .entry)) (now (out .exit)) at r × (r ≤ at + 22 * (length (now (slots .entry)) - n)) ⌝ }
+{
+    let mut p = at;
+    let mut i = 0;
+    while i < slots.len() - n {
+        let m = put_byte(out, p, 32);
+        p = put_decimal(out, m, slots[n + i] as usize);
         i = i + 1;
     }
     p
@@ -25,8 +42,8 @@ pub fn put_spaced(out: &mut [u8], at: usize, numbers: &[i32]) -> usize
 
 // The mover of a step, or - at step 0.
 fn put_mover(out: &mut [u8], at: usize, step: usize, mover: usize) -> usize
-    requires { ⌜ at + 10 ≤ length (now out) ⌝ }
-    ensures { λ r. ⌜ Written (moverText step mover) (now (out .entry)) (now (out .exit)) at r × (r ≤ at + 10) ⌝ }
+    requires { ⌜ at + 20 ≤ length (now out) ⌝ }
+    ensures { λ r. ⌜ Written (moverText step mover) (now (out .entry)) (now (out .exit)) at r × (r ≤ at + 20) ⌝ }
 {
     if step == 0 {
         put_byte(out, at, 45)
@@ -49,34 +66,42 @@ fn put_flag(out: &mut [u8], at: usize, flag: bool) -> usize
 }
 
 // Step, mover, idle, property holds.
-fn put_head(out: &mut [u8], step: usize, mover: usize, idle: bool, holds: bool) -> usize
-    requires { ⌜ 25 ≤ length (now out) ⌝ }
-    ensures { λ r. ⌜ Written (head step mover idle holds) (now (out .entry)) (now (out .exit)) 0 r × (r ≤ 25) ⌝ }
+fn put_head(
+    out: &mut [u8],
+    at: usize,
+    step: usize,
+    mover: usize,
+    idle: bool,
+    holds: bool,
+) -> usize
+    requires { ⌜ at + 45 ≤ length (now out) ⌝ }
+    ensures { λ r. ⌜ Written (head step mover idle holds) (now (out .entry)) (now (out .exit)) at r × (r ≤ at + 45) ⌝ }
 {
-    let a = put_decimal(out, 0, step);
+    let a = put_decimal(out, at, step);
     let b = put_byte(out, a, 32);
     let c = put_mover(out, b, step, mover);
     let d = put_flag(out, c, idle);
     put_flag(out, d, holds)
 }
 
-// A line at the front of the buffer; answers its length.
+// The line of a state, whose first n slots are variables.
 pub fn put_line(
     out: &mut [u8],
+    at: usize,
     step: usize,
     mover: usize,
     idle: bool,
     holds: bool,
-    values: &[i32],
-    statuses: &[i32],
+    n: usize,
+    slots: &[u16],
 ) -> usize
-    requires { ⌜ (512 ≤ length (now out)) × (length (now values) ≤ 32) × (length (now statuses) ≤ 8) ⌝ }
-    ensures { λ r. ⌜ Written (line step mover idle holds (now (values .entry)) (now (statuses .entry))) (now (out .entry)) (now (out .exit)) 0 r ⌝ }
+    requires { ⌜ (at + maxLine ≤ length (now out)) × (n ≤ 32) × (n ≤ length (now slots)) × (length (now slots) ≤ n + 8) ⌝ }
+    ensures { λ r. ⌜ Written (line step mover idle holds (take n (map signed (now (slots .entry)))) (map pos (drop n (now (slots .entry))))) (now (out .entry)) (now (out .exit)) at r × (r ≤ at + maxLine) ⌝ }
 {
-    let a = put_head(out, step, mover, idle, holds);
-    let b = put_spaced(out, a, values);
+    let a = put_head(out, at, step, mover, idle, holds);
+    let b = put_values(out, a, n, slots);
     let c = put_byte(out, b, 32);
     let d = put_byte(out, c, 124);
-    let e = put_spaced(out, d, statuses);
+    let e = put_statuses(out, d, n, slots);
     put_byte(out, e, 10)
 }

@@ -8,18 +8,25 @@ use Rattle.text.proofs.Putting.{flag-written}
 use borrow.Author.Needs.{needs}
 use Rattle.text.proofs.line.put_flag.Statement.{statement}
 use Rattle.text.proofs.line.put_flag.Tie as tie
+
 put-byte-requires : tie.Need-put-byte-requires
 put-byte-requires c κs = search needs
+
 put-byte-requires-2 : tie.Need-put-byte-requires-2
 put-byte-requires-2 c κs = search needs
+
 put-byte-requires-3 : tie.Need-put-byte-requires-3
 put-byte-requires-3 c κs = search needs
+
 same-length : tie.Need-same-length
 same-length c = search needs
+
 returns : tie.Need-returns
 returns c = (flag-written (c .before .before .before .before .before .before .before .before .before .before .args .flag) 49 (sym (ap (λ (b : Bool). 48 + bit b) (c .before .before .before .before .if1 .taken))) (c .before .before .before .before .before .before .before .put-byte .ensures) (c .before .before .put-byte2 .ensures), omega (arith, c .before .before .before .before .before .before .before .put-byte .ensures .past, c .before .before .put-byte2 .ensures .past))
+
 same-length-2 : tie.Need-same-length-2
 same-length-2 c = search needs
+
 returns-2 : tie.Need-returns-2
 returns-2 c = (flag-written (c .before .before .before .before .before .before .before .before .before .before .args .flag) 48 (sym (ap (λ (b : Bool). 48 + bit b) (c .before .before .before .before .if1 .left))) (c .before .before .before .before .before .before .before .put-byte .ensures) (c .before .before .put-byte3 .ensures), omega (arith, c .before .before .before .before .before .before .before .put-byte .ensures .past, c .before .before .put-byte3 .ensures .past))
 

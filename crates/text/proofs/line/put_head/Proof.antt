@@ -5,18 +5,25 @@ use Rattle.text.proofs.Putting.{written-then}
 use borrow.Author.Needs.{needs}
 use Rattle.text.proofs.line.put_head.Statement.{statement}
 use Rattle.text.proofs.line.put_head.Tie as tie
+
 put-decimal-requires : tie.Need-put-decimal-requires
 put-decimal-requires c κs = search needs
+
 put-byte-requires : tie.Need-put-byte-requires
 put-byte-requires c κs = search needs
+
 put-mover-requires : tie.Need-put-mover-requires
 put-mover-requires c κs = search needs
+
 put-flag-requires : tie.Need-put-flag-requires
 put-flag-requires c κs = search needs
+
 put-flag-requires-2 : tie.Need-put-flag-requires-2
 put-flag-requires-2 c κs = search needs
+
 same-length : tie.Need-same-length
 same-length c = search needs
+
 returns : tie.Need-returns
 unfolding head
 returns c = (written-then (c .before .before .before .before .before .before .before .before .before .before .before .before .before .before .before .before .before .before .put-decimal .ensures .0) (written-then (c .before .before .before .before .before .before .before .before .before .before .before .before .before .before .put-byte .ensures) (written-then (c .before .before .before .before .before .before .before .before .before .before .put-mover .ensures .0) (written-then (c .before .before .before .before .before .before .put-flag .ensures .0) (c .before .before .put-flag2 .ensures .0)))), omega (arith, c .before .before .before .before .before .before .before .before .before .before .before .before .before .before .before .before .before .before .put-decimal .ensures .1, c .before .before .before .before .before .before .before .before .before .before .before .before .before .before .put-byte .ensures .past, c .before .before .before .before .before .before .before .before .before .before .put-mover .ensures .1, c .before .before .before .before .before .before .put-flag .ensures .1, c .before .before .put-flag2 .ensures .1))

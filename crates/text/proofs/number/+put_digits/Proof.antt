@@ -27,30 +27,43 @@ put-digits-below t =
 
 abbrev put-digits-claims : ℕ → put-digits-lts.Claims
 put-digits-claims t = (put-byte-reads.Asked, put-byte-reads.Learnt, put-digits-below t, put-digits.Post)
+
 put-digits-returns : (t : ℕ) → put-digits-lts.Need-returns (put-digits-claims t) (put-digits-at t) put-digits.Post
 put-digits-returns t c = digits-none _ _ _ _ (c .if1 .taken)
+
 put-digits-add-put-byte : (t : ℕ) → put-digits-lts.Need-add-put-byte (put-digits-claims t) (put-digits-at t) put-digits.Post
 put-digits-add-put-byte t c = search needs
+
 put-digits-cast-put-byte : (t : ℕ) → put-digits-lts.Need-cast-put-byte (put-digits-claims t) (put-digits-at t) put-digits.Post
 put-digits-cast-put-byte t c = search needs
+
 put-digits-put-byte-requires : (t : ℕ) → put-digits-lts.Need-put-byte-requires (put-digits-claims t) (put-digits-at t) put-digits.Post
 put-digits-put-byte-requires t c κs = omega arith
+
 put-digits-same-length : (t : ℕ) → put-digits-lts.Need-same-length (put-digits-claims t) (put-digits-at t) put-digits.Post
 put-digits-same-length t c = written-length (c .before .before .put-byte .ensures)
+
 put-digits-returns-2 : (t : ℕ) → put-digits-lts.Need-returns-2 (put-digits-claims t) (put-digits-at t) put-digits.Post
 put-digits-returns-2 t c = digits-last _ _ (c .before .before .before .before .before .if1 .left) (c .before .before .before .before .if2 .taken) (c .before .before .put-byte .ensures)
+
 put-digits-sub-put-digits : (t : ℕ) → put-digits-lts.Need-sub-put-digits (put-digits-claims t) (put-digits-at t) put-digits.Post
 put-digits-sub-put-digits t c = omega arith
+
 put-digits-put-digits-requires : (t : ℕ) → put-digits-lts.Need-put-digits-requires (put-digits-claims t) (put-digits-at t) put-digits.Post
 put-digits-put-digits-requires t c κs = omega arith
+
 put-digits-add-put-byte-2 : (t : ℕ) → put-digits-lts.Need-add-put-byte-2 (put-digits-claims t) (put-digits-at t) put-digits.Post
 put-digits-add-put-byte-2 t c = search needs
+
 put-digits-cast-put-byte-2 : (t : ℕ) → put-digits-lts.Need-cast-put-byte-2 (put-digits-claims t) (put-digits-at t) put-digits.Post
 put-digits-cast-put-byte-2 t c = search needs
+
 put-digits-put-byte-requires-2 : (t : ℕ) → put-digits-lts.Need-put-byte-requires-2 (put-digits-claims t) (put-digits-at t) put-digits.Post
 put-digits-put-byte-requires-2 t c κs = omega (arith, c .before .before .before .put-digits .ensures .past, written-length (c .before .before .before .put-digits .ensures), digits-length (c .before .before .before .before .before .before .before .before .args .left - 1) (c .before .before .before .before .before .before .before .before .args .n / 10))
+
 put-digits-same-length-2 : (t : ℕ) → put-digits-lts.Need-same-length-2 (put-digits-claims t) (put-digits-at t) put-digits.Post
 put-digits-same-length-2 t c = written-length (c .before .before .put-byte2 .ensures) ∙ written-length (c .before .before .before .before .before .before .put-digits .ensures)
+
 put-digits-returns-3 : (t : ℕ) → put-digits-lts.Need-returns-3 (put-digits-claims t) (put-digits-at t) put-digits.Post
 put-digits-returns-3 t c = digits-more _ _ (c .before .before .before .before .before .before .before .before .before .if1 .left) (c .before .before .before .before .before .before .before .before .if2 .left) (c .before .before .before .before .before .before .put-digits .ensures) (c .before .before .put-byte2 .ensures)
 

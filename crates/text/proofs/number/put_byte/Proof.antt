@@ -4,12 +4,16 @@ use mathlib.Core.Path.{refl}
 use borrow.Author.Needs.{needs}
 use Rattle.text.proofs.number.put_byte.Statement.{statement}
 use Rattle.text.proofs.number.put_byte.Tie as tie
+
 slice-write-out : tie.Need-slice-write-out
 slice-write-out c = search needs
+
 add-result : tie.Need-add-result
 add-result c = search needs
+
 same-length : tie.Need-same-length
 same-length c = search needs
+
 returns : tie.Need-returns
 returns c = written-byte _ _ _ _ refl
 

@@ -3,10 +3,13 @@ use Rattle.text.proofs.Putting.{decimal-past}
 use borrow.Author.Needs.{needs}
 use Rattle.text.proofs.number.put_decimal.Statement.{statement}
 use Rattle.text.proofs.number.put_decimal.Tie as tie
+
 put-digits-requires : tie.Need-put-digits-requires
 put-digits-requires c κs = search needs
+
 same-length : tie.Need-same-length
 same-length c = search needs
+
 returns : tie.Need-returns
 returns c = (c .before .before .put-digits .ensures, decimal-past _ (c .before .before .put-digits .ensures))
 

@@ -7,22 +7,31 @@ use Rattle.text.proofs.Putting.{written-length, signed-plain, signed-mi
 use borrow.Author.Needs.{needs}
 use Rattle.text.proofs.number.put_signed.Statement.{statement}
 use Rattle.text.proofs.number.put_signed.Tie as tie
+
 variable-requires : tie.Need-variable-requires
 variable-requires c κs = search needs
+
 sign-requires : tie.Need-sign-requires
 sign-requires c κs = search needs
+
 put-decimal-requires : tie.Need-put-decimal-requires
 put-decimal-requires c κs = search needs
+
 same-length : tie.Need-same-length
 same-length c = written-length (c .before .before .put-decimal .ensures .0)
+
 returns : tie.Need-returns
 returns c = let z = getD (c .before .before .before .before .before .before .before .before .args .words .now) (c .before .before .before .before .before .before .before .before .args .i) (pos 0) in let h = signed-plain z (c .before .before .before .before .before .before .variable .result) (c .before .before .before .before .before .before .variable .ensures) (sym (c .before .before .before .before .before .sign .ensures) ∙ c .before .before .before .before .if1 .taken) (c .before .before .put-decimal .ensures .0) in (h, signed-past z h)
+
 put-byte-requires : tie.Need-put-byte-requires
 put-byte-requires c κs = search needs
+
 put-decimal-requires-2 : tie.Need-put-decimal-requires-2
 put-decimal-requires-2 c κs = omega (arith, c .before .before .before .put-byte .ensures .past, written-length (c .before .before .before .put-byte .ensures))
+
 same-length-2 : tie.Need-same-length-2
 same-length-2 c = written-length (c .before .before .put-decimal2 .ensures .0) ∙ written-length (c .before .before .before .before .before .before .put-byte .ensures)
+
 returns-2 : tie.Need-returns-2
 returns-2 c = let z = getD (c .before .before .before .before .before .before .before .before .before .before .before .before .args .words .now) (c .before .before .before .before .before .before .before .before .before .before .before .before .args .i) (pos 0) in let h = signed-minus z (c .before .before .before .before .before .before .before .before .before .before .variable .result) (c .before .before .before .before .before .before .before .before .before .before .variable .ensures) (λ e. c .before .before .before .before .before .before .before .before .if1 .left (c .before .before .before .before .before .before .before .before .before .sign .ensures ∙ e)) (c .before .before .before .before .before .before .put-byte .ensures) (c .before .before .put-decimal2 .ensures .0) in (h, signed-past z h)
 

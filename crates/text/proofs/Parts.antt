@@ -1,0 +1,282 @@
+-- The text of clauses: of words, of a part, of all parts. Assumes nothing.
+use mathlib.Core.Path.{_≡_, refl, sym, ap, ap₂, subst, _∙_}
+use mathlib.Core.Bool.{Bool, true, false, cond, _&&_}
+use mathlib.Core.List.{List, [], _∷_, _++_, append-nil, append-assoc}
+use Prim.Native.Nat.{ℕ, zero, suc, _+_, _*_, _-_, _<_, _≤_}
+use native.Mathlib.Omega.{arith}
+use native.Mathlib.Numerals.{add-one}
+use lib.Dec.{leb}
+use lib.IntN.{ℤ, pos}
+use lib.ListN.{length, getD, take, drop, drop-of-length-le, length-append}
+use lib.Seq.{drop-cons, take-at, length-take-le}
+use borrow.Author.Tests.{le-leb, lt-leb, leb-true, leb-false}
+use Rattle.design.specs.Tree.{Design}
+use Rattle.design.specs.Check.{Checked, check}
+use Rattle.step.specs.Operations.{refusedAt}
+use Rattle.clauses.specs.Words.{words, isEnd}
+use Rattle.clauses.specs.Formula.{part, partsFrom, formula}
+use Rattle.clauses.specs.Answer.{Answer, refused, answer, need, ofChecked, onDesign, maxProperty, maxBound}
+use Rattle.clauses.specs.Encode.{wordsToWrite, filled, encode}
+use Rattle.clauses.specs.Replies.{EncodeExit, encodeExit, ENCODE}
+use Rattle.clauses.specs.declared.encode.EncodeReply.{EncodeReply}
+use Rattle.clauses.specs.declared.encode.EncodeReply.the-variants.{Refused, Encoded}
+use Rattle.clauses.proofs.Sizes.{words-join}
+use Rattle.text.specs.Text.{signedText, Written}
+use Rattle.text.specs.Trace.{refusalText, maxRead}
+use Rattle.text.specs.Listing.{wordText, wordsText, maxWords, noneOver, wordsToPrint, printed, ofInput, clausesText, partText, partOfInput, isRefused, joined}
+use Rattle.text.proofs.Putting.{written-then, Rest, rest-start, rest-next, rest-end}
+
+-- a word's two cases
+module _ (w : ℤ) {xs ys zs : List ℕ} {at m r : ℕ} where
+  word-as : (t : Bool) → isEnd w ≡ t → Written (signedText w) xs ys at m → Written (cond t 10 32 ∷ []) ys zs m r → Written (wordText w) xs zs at r
+  word-as t e g h = subst (λ (b : Bool). Written (signedText w ++ (cond b 10 32 ∷ [])) xs zs at r) (sym e) (written-then g h)
+
+  pub word-ends : isEnd w ≡ true → Written (signedText w) xs ys at m → Written (10 ∷ []) ys zs m r → Written (wordText w) xs zs at r
+  word-ends e g h = word-as true e g h
+
+  pub word-goes : isEnd w ≡ false → Written (signedText w) xs ys at m → Written (32 ∷ []) ys zs m r → Written (wordText w) xs zs at r
+  word-goes e g h = word-as false e g h
+
+-- words, one at a time
+pub record WordsLeft (ws : List ℤ) (i : ℕ) (xs ys : List ℕ) (p : ℕ) : Type 0 where
+  pub rest : Rest (wordsText (drop i ws)) (wordsText ws) xs ys 0 p
+  pub near : p ≤ 22 * i
+
+pub words-start : (ws : List ℤ) (xs : List ℕ) → WordsLeft ws 0 xs xs 0
+words-start ws xs = record { rest = rest-start (wordsText ws) xs 0; near = omega arith }
+
+words-split : (ws : List ℤ) (i : ℕ) → i < length ws → wordsText (drop i ws) ≡ wordText (getD ws i (pos 0)) ++ wordsText (drop (suc i) ws)
+unfolding wordsText
+words-split ws i h = rw (drop-cons ws i (pos 0) h)
+
+pub words-next : (ws : List ℤ) (i : ℕ) {xs ys zs : List ℕ} {p r : ℕ} → i < length ws → WordsLeft ws i xs ys p → Written (wordText (getD ws i (pos 0))) ys zs p r → r ≤ p + 22 → WordsLeft ws (i + 1) xs zs r
+words-next ws i h l w n = rw (add-one i) (record {
+  rest = rest-next (wordText (getD ws i (pos 0))) (wordsText (drop (suc i) ws)) (words-split ws i h) (l .rest) w;
+  near = omega (arith, l .near);
+})
+
+pub words-end : (ws : List ℤ) (i : ℕ) {xs ys : List ℕ} {p : ℕ} → length ws ≤ i → WordsLeft ws i xs ys p → Written (wordsText ws) xs ys 0 p
+unfolding wordsText
+words-end ws i h l = rest-end (ap wordsText (drop-of-length-le ws h)) (l .rest)
+
+words-append : (us vs : List ℤ) → wordsText (us ++ vs) ≡ wordsText us ++ wordsText vs
+unfolding wordsText
+words-append [] vs = refl
+words-append (u ∷ us) vs = ap (λ (l : List ℕ). wordText u ++ l) (words-append us vs) ∙ sym (append-assoc (wordText u) (wordsText us) (wordsText vs))
+
+-- what ENCODE's answer tells of the words
+abbrev exit : EncodeReply → List ℤ → EncodeExit
+exit r after = record { reply = r; buffer = after }
+
+told-refused : (x : Answer (List ℤ)) (before after : List ℤ) (n q : ℕ) → exit (Refused n q) after ≡ encodeExit (filled x before) → x ≡ refused n q
+told-refused (refused a b) before after n q e = let z : Refused n q ≡ Refused a b = ap (λ (y : EncodeExit). y .reply) e in cc
+told-refused (answer ws) before after n q e =
+    let z : Refused n q ≡ Encoded (length ws) = ap (λ (y : EncodeExit). y .reply) e in
+    let o : _≡_ {A = ℕ} 0 1 = cc in
+    absurd (omega arith)
+
+pub record Told (x : Answer (List ℤ)) (after : List ℤ) (n : ℕ) : Type 0 where
+  pub words : x ≡ answer (take n after)
+  pub room : n ≤ length after
+  pub size : length (take n after) ≡ n
+
+told-encoded : (x : Answer (List ℤ)) (before after : List ℤ) (n : ℕ) → exit (Encoded n) after ≡ encodeExit (filled x before) → Told x after n
+told-encoded (refused a b) before after n e =
+    let z : Encoded n ≡ Refused a b = ap (λ (y : EncodeExit). y .reply) e in
+    let o : _≡_ {A = ℕ} 0 1 = cc in
+    absurd (omega arith)
+told-encoded (answer ws) before after n e =
+    let z : Encoded n ≡ Encoded (length ws) = ap (λ (y : EncodeExit). y .reply) e in
+    let c : length ws ≡ n = cc in
+    let b : after ≡ ws ++ drop (length ws) before = ap (λ (y : EncodeExit). y .buffer) e in
+    let room : n ≤ length after = omega (arith, ap length b, length-append ws (drop (length ws) before)) in
+    record {
+      words = ap (λ (us : List ℤ). answer us) (sym (ap (take n) b ∙ take-at ws (drop (length ws) before) n c));
+      room = room;
+      size = length-take-le n after room;
+    }
+
+module _ (file : List ℕ) (p k i : ℕ) (before after : List ℤ) (r : EncodeReply) (says : exit r after ≡ ENCODE file p k i before) where
+  pub is-refused : (n q : ℕ) → r ≡ Refused n q → wordsToWrite file p k i (length before) ≡ refused n q
+  unfolding encode
+  is-refused n q e = told-refused (wordsToWrite file p k i (length before)) before after n q (ap (λ (x : EncodeReply). exit x after) (sym e) ∙ says)
+
+  pub is-encoded : (n : ℕ) → r ≡ Encoded n → Told (wordsToWrite file p k i (length before)) after n
+  unfolding encode
+  is-encoded n e = told-encoded (wordsToWrite file p k i (length before)) before after n (ap (λ (x : EncodeReply). exit x after) (sym e) ∙ says)
+
+  pub refused-yes : (n q : ℕ) → r ≡ Refused n q → true ≡ isRefused (wordsToWrite file p k i (length before))
+  refused-yes n q e = sym (ap isRefused (is-refused n q e))
+
+  pub refused-no : (n : ℕ) → r ≡ Encoded n → false ≡ isRefused (wordsToWrite file p k i (length before))
+  refused-no n e = sym (ap isRefused (is-encoded n e .words))
+
+  module _ (size : length before ≡ maxWords) {xs ys : List ℕ} {at past : ℕ} where
+    part-as : (x : Answer (List ℤ)) → wordsToWrite file p k i (length before) ≡ x → Written (printed x) xs ys at past → Written (partText file p k i) xs ys at past
+    unfolding partText
+    part-as x e w =
+        subst (λ (m : ℕ). Written (printed (wordsToWrite file p k i m)) xs ys at past) size
+        (subst (λ (y : Answer (List ℤ)). Written (printed y) xs ys at past) (sym e) w)
+
+    pub part-refused : (n q : ℕ) → r ≡ Refused n q → Written (refusalText (refusedAt n q)) xs ys at past → Written (partText file p k i) xs ys at past
+    part-refused n q e w = part-as (refused n q) (is-refused n q e) w
+
+    pub part-written : (n : ℕ) → r ≡ Encoded n → Written (wordsText (take n after)) xs ys at past → Written (partText file p k i) xs ys at past
+    part-written n e w = part-as (answer (take n after)) (is-encoded n e .words) w
+
+-- so many texts from i on
+joined-one : (f : ℕ → List ℕ) (i : ℕ) → joined f 1 i ≡ f i
+unfolding joined
+joined-one f i = append-nil (f i)
+
+joined-same : (f g : ℕ → List ℕ) → ((j : ℕ) → f j ≡ g j) → (m i : ℕ) → joined f m i ≡ joined g m i
+unfolding joined
+joined-same f g h zero i = refl
+joined-same f g h (suc m) i = ap₂ (λ (a b : List ℕ). a ++ b) (h i) (joined-same f g h m (suc i))
+
+-- all parts
+module _ (p k : ℕ) where
+  -- by CHECK's answer
+  abbrev partOf : Checked → ℕ → Answer (List ℤ)
+  partOf x i = ofChecked x λ d. need (leb p maxProperty) 13 0 (need (leb k maxBound) 14 0 (need (leb i (k + 2)) 15 0 (need (leb (length (words (part d p k i))) maxWords) 16 0 (answer (words (part d p k i))))))
+
+  abbrev allOf : Checked → Answer (List ℤ)
+  allOf x = ofChecked x λ d. need (leb p maxProperty) 13 0 (need (leb k maxBound) 14 0 (need (noneOver d p k (k + 3) 0) 16 0 (answer (words (formula d p k)))))
+
+  -- one part over is enough
+  one-over : (d : Design) (i m j : ℕ) → j ≤ i → i < j + m → leb (length (words (part d p k i))) maxWords ≡ false → noneOver d p k m j ≡ false
+  unfolding noneOver
+  one-over d i zero j a b e = absurd (omega arith)
+  one-over d i (suc m) j a b e = go (leb (length (words (part d p k j))) maxWords) refl (λ l. one-over d i m (suc j) l (omega arith) e)
+    where
+      go : (t : Bool) → leb (length (words (part d p k j))) maxWords ≡ t → (j < i → noneOver d p k m (suc j) ≡ false) → t && noneOver d p k m (suc j) ≡ false
+      go false q f = refl
+      go true q f =
+          let other : i ≡ j → ⊥ = λ y.
+          (let u : leb (length (words (part d p k i))) maxWords ≡ true = subst (λ (n : ℕ). leb (length (words (part d p k n))) maxWords ≡ true) (sym y) q in
+          let o : _≡_ {A = ℕ} 0 1 = cc in
+          omega arith) in
+          f (omega arith)
+
+  refused-so : (n q : ℕ) (ws vs : List ℤ) (a b c t u : Bool) → c ≡ true → (t ≡ false → u ≡ false) → need a 13 0 (need b 14 0 (need c 15 0 (need t 16 0 (answer ws)))) ≡ refused n q → need a 13 0 (need b 14 0 (need u 16 0 (answer vs))) ≡ refused n q
+  refused-so n q ws vs false b c t u h f e = e
+  refused-so n q ws vs true false c t u h f e = e
+  refused-so n q ws vs true true false t u h f e = let o : _≡_ {A = ℕ} 0 1 = cc in absurd (omega arith)
+  refused-so n q ws vs true true true false u h f e = subst (λ (y : Bool). need y 16 0 (answer vs) ≡ refused n q) (sym (f refl)) e
+  refused-so n q ws vs true true true true u h f e = let o : _≡_ {A = ℕ} 0 1 = cc in absurd (omega arith)
+
+  all-refused : (x : Checked) (i n q : ℕ) → i < k + 3 → partOf x i ≡ refused n q → allOf x ≡ refused n q
+  all-refused (Checked.refused a b) i n q l e = e
+  all-refused (Checked.accepted d) i n q l e =
+      refused-so n q (words (part d p k i)) (words (formula d p k)) (leb p maxProperty) (leb k maxBound) (leb i (k + 2)) (leb (length (words (part d p k i))) maxWords) (noneOver d p k (k + 3) 0)
+      (le-leb i (k + 2) (omega arith)) (one-over d i (k + 3) 0 (omega arith) (omega arith)) e
+
+  record Tests (a b t : Bool) : Type 0 where
+    property : a ≡ true
+    bound : b ≡ true
+    short : t ≡ true
+
+  none-refused : (ws : List ℤ) (a b c t : Bool) → isRefused (need a 13 0 (need b 14 0 (need c 15 0 (need t 16 0 (answer ws))))) ≡ false → Tests a b t
+  none-refused ws true true true true e = record { property = refl; bound = refl; short = refl }
+  none-refused ws false b c t e = let o : _≡_ {A = ℕ} 0 1 = cc in absurd (omega arith)
+  none-refused ws true false c t e = let o : _≡_ {A = ℕ} 0 1 = cc in absurd (omega arith)
+  none-refused ws true true false t e = let o : _≡_ {A = ℕ} 0 1 = cc in absurd (omega arith)
+  none-refused ws true true true false e = let o : _≡_ {A = ℕ} 0 1 = cc in absurd (omega arith)
+
+  module _ (d : Design) (h : (i : ℕ) → i < k + 3 → isRefused (partOf (Checked.accepted d) i) ≡ false) where
+    tests : (i : ℕ) → i < k + 3 → Tests (leb p maxProperty) (leb k maxBound) (leb (length (words (part d p k i))) maxWords)
+    tests i l = none-refused (words (part d p k i)) (leb p maxProperty) (leb k maxBound) (leb i (k + 2)) (leb (length (words (part d p k i))) maxWords) (h i l)
+
+    none-over : (m j : ℕ) → j + m ≤ k + 3 → noneOver d p k m j ≡ true
+    unfolding noneOver
+    none-over zero j l = refl
+    none-over (suc m) j l = ap₂ (λ (a b : Bool). a && b) (tests j (omega arith) .short) (none-over m (suc j) (omega arith))
+
+    part-is : (i : ℕ) → i < k + 3 → partOf (Checked.accepted d) i ≡ answer (words (part d p k i))
+    part-is i l = rw (tests i l .property, tests i l .bound, le-leb i (k + 2) (omega arith), tests i l .short)
+
+    all-is : allOf (Checked.accepted d) ≡ answer (words (formula d p k))
+    all-is = rw (tests 0 (omega arith) .property, tests 0 (omega arith) .bound, none-over (k + 3) 0 (omega arith))
+
+    parts-joined : (m i : ℕ) → i + m ≤ k + 3 → wordsText (words (partsFrom d p k m i)) ≡ joined (λ (j : ℕ). printed (partOf (Checked.accepted d) j)) m i
+    unfolding wordsText partsFrom joined
+    parts-joined zero i l = refl
+    parts-joined (suc m) i l =
+        ap wordsText (words-join (part d p k i) (partsFrom d p k m (suc i)))
+        ∙ words-append (words (part d p k i)) (words (partsFrom d p k m (suc i)))
+        ∙ ap₂ (λ (a b : List ℕ). a ++ b) (sym (ap printed (part-is i (omega arith)))) (parts-joined m (suc i) (omega arith))
+
+    formula-joined : wordsText (words (formula d p k)) ≡ joined (λ (j : ℕ). printed (partOf (Checked.accepted d) j)) (k + 3) 0
+    unfolding formula
+    formula-joined = parts-joined (k + 3) 0 (omega arith)
+
+  all-printed : (x : Checked) → ((i : ℕ) → i < k + 3 → isRefused (partOf x i) ≡ false) → printed (allOf x) ≡ joined (λ (j : ℕ). printed (partOf x j)) (k + 3) 0
+  all-printed (Checked.refused a b) h = let e : true ≡ false = h 0 (omega arith) in let o : _≡_ {A = ℕ} 0 1 = cc in absurd (omega arith)
+  all-printed (Checked.accepted d) h = ap printed (all-is d h) ∙ formula-joined d h
+
+-- the parts so far are not refused
+pub record Fine (file : List ℕ) (p k i : ℕ) : Type 0 where
+  pub inside : i ≤ k + 3
+  pub fine : (j : ℕ) → j < i → isRefused (wordsToWrite file p k j maxWords) ≡ false
+
+module _ (file : List ℕ) (p k : ℕ) where
+  pub fine-start : Fine file p k 0
+  fine-start = record { inside = omega arith; fine = λ j l. absurd (omega arith) }
+
+  pub fine-on : (i room : ℕ) → Fine file p k i → i < k + 3 → room ≡ maxWords → false ≡ isRefused (wordsToWrite file p k i room) → Fine file p k (i + 1)
+  fine-on i room f l q e = record { inside = omega arith; fine = λ j m. go j (leb i j) refl m }
+    where
+      here : isRefused (wordsToWrite file p k i maxWords) ≡ false
+      here = sym (subst (λ (n : ℕ). false ≡ isRefused (wordsToWrite file p k i n)) q e)
+
+      go : (j : ℕ) (t : Bool) → leb i j ≡ t → j < i + 1 → isRefused (wordsToWrite file p k j maxWords) ≡ false
+      go j true z m = let s : i ≡ j = omega (arith, leb-true i j z) in subst (λ (n : ℕ). isRefused (wordsToWrite file p k n maxWords) ≡ false) s here
+      go j false z m = f .fine j (omega (arith, leb-false i j z))
+
+  pub parts-refused : (i room : ℕ) → i < k + 3 → room ≡ maxWords → true ≡ isRefused (wordsToWrite file p k i room) → printed (wordsToPrint file p k) ≡ joined (partText file p k) (i + 1 - i) i
+  unfolding wordsToPrint wordsToWrite partText onDesign
+  parts-refused i room l q e =
+      go (wordsToWrite file p k i maxWords) refl (subst (λ (n : ℕ). true ≡ isRefused (wordsToWrite file p k i n)) q e)
+      ∙ sym (ap (λ (m : ℕ). joined (partText file p k) m i) (let z : i + 1 - i ≡ 1 = omega arith in z) ∙ joined-one (partText file p k) i)
+    where
+      go : (x : Answer (List ℤ)) → wordsToWrite file p k i maxWords ≡ x → true ≡ isRefused x → printed (wordsToPrint file p k) ≡ partText file p k i
+      go (refused n r) s t = ap printed (all-refused p k (check file) i n r l s) ∙ sym (ap printed s)
+      go (answer ws) s t = let o : _≡_ {A = ℕ} 0 1 = cc in absurd (omega arith)
+
+  pub parts-printed : (i : ℕ) → Fine file p k i → k + 3 ≤ i → printed (wordsToPrint file p k) ≡ joined (partText file p k) (k + 3 - 0) 0
+  unfolding wordsToPrint wordsToWrite partText onDesign
+  parts-printed i f l =
+      all-printed p k (check file) (λ j m. f .fine j (omega arith))
+      ∙ ap (λ (m : ℕ). joined (partText file p k) m 0) (let z : k + 3 ≡ k + 3 - 0 = omega arith in z)
+
+-- the input's parts
+module _ (input : List ℕ) where
+  short-input : (text : List ℕ → ℕ → ℕ → List ℕ) → length input < 2 → ofInput input text ≡ refusalText (refusedAt 1 0)
+  short-input text h = ap (λ (t : Bool). cond t (text (take maxRead (drop 2 input)) (getD input 0 0) (getD input 1 0)) (refusalText (refusedAt 1 0))) (lt-leb 2 (length input) h)
+
+  long-input : (text : List ℕ → ℕ → ℕ → List ℕ) → 2 ≤ length input → ofInput input text ≡ text (take maxRead (drop 2 input)) (getD input 0 0) (getD input 1 0)
+  long-input text h = ap (λ (t : Bool). cond t (text (take maxRead (drop 2 input)) (getD input 0 0) (getD input 1 0)) (refusalText (refusedAt 1 0))) (le-leb 2 (length input) h)
+
+  pub text-refused : length input < 2 → clausesText input ≡ joined (partOfInput input) 1 0
+  unfolding clausesText partOfInput
+  text-refused h =
+      short-input (λ file p k. printed (wordsToPrint file p k)) h
+      ∙ sym (joined-one (partOfInput input) 0 ∙ short-input (λ file p k. partText file p k 0) h)
+
+  pub text-joined : (file : List ℕ) (m i : ℕ) → 2 ≤ length input → file ≡ take maxRead (drop 2 input) → printed (wordsToPrint file (getD input 0 0) (getD input 1 0)) ≡ joined (partText file (getD input 0 0) (getD input 1 0)) m i → clausesText input ≡ joined (partOfInput input) m i
+  unfolding clausesText partOfInput
+  text-joined file m i h q e =
+      long-input (λ file p k. printed (wordsToPrint file p k)) h
+      ∙ subst (λ (f : List ℕ). printed (wordsToPrint f (getD input 0 0) (getD input 1 0)) ≡ joined (partText f (getD input 0 0) (getD input 1 0)) m i) q e
+      ∙ joined-same (partText (take maxRead (drop 2 input)) (getD input 0 0) (getD input 1 0)) (partOfInput input) (λ j. sym (long-input (λ file p k. partText file p k j) h)) m i
+
+  module _ (i : ℕ) {xs ys : List ℕ} {at r : ℕ} where
+    pub input-refused : length input < 2 → Written (refusalText (refusedAt 1 0)) xs ys at r → Written (partOfInput input i) xs ys at r
+    unfolding partOfInput
+    input-refused h w = subst (λ (us : List ℕ). Written us xs ys at r) (sym (short-input (λ file p k. partText file p k i) h)) w
+
+    pub input-part : (file : List ℕ) → 2 ≤ length input → file ≡ take maxRead (drop 2 input) → Written (partText file (getD input 0 0) (getD input 1 0) i) xs ys at r → Written (partOfInput input i) xs ys at r
+    unfolding partOfInput
+    input-part file h q w =
+        subst (λ (us : List ℕ). Written us xs ys at r) (sym (long-input (λ file p k. partText file p k i) h))
+        (subst (λ (f : List ℕ). Written (partText f (getD input 0 0) (getD input 1 0) i) xs ys at r) q w)

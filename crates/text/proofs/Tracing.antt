@@ -1,0 +1,184 @@
+-- The lines of a run, and what is printed of a call. Assumes nothing.
+use mathlib.Core.Path.{_≡_, refl, sym, ap, ap₂, subst, _∙_}
+use mathlib.Core.Bool.{Bool, true, false, cond}
+use mathlib.Core.List.{List, _∷_, _++_, map}
+use Prim.Native.Nat.{ℕ, suc, _+_, _*_, _-_, _<_, _≤_}
+use native.Mathlib.Omega.{arith}
+use native.Mathlib.Numerals.{add-one}
+use lib.Dec.{leb, ltb}
+use lib.IntN.{pos}
+use lib.ListN.{length, getD, take, drop, drop-of-length-le, length-drop, length-map}
+use lib.Seq.{drop-cons, take-all}
+use borrow.Author.Tests.{eq-eqb, ne-eqb, le-leb, lt-leb, leb-true, leb-false, eqb-true}
+use Rattle.design.specs.Tree.{Design, movers}
+use Rattle.design.specs.State.{State, start}
+use Rattle.design.specs.Check.{Checked, refused, accepted, check, variableCount}
+use Rattle.design.specs.Answers.{refusal}
+use Rattle.design.specs.Places.{Accepted, CellsIndexed}
+use Rattle.design.specs.Sections.{Parts}
+use Rattle.design.proofs.Sections.{whole}
+use Rattle.design.proofs.Places.{read}
+use Rattle.step.specs.Limits.{maxChoices}
+use Rattle.step.specs.Pattern.{signed}
+use Rattle.step.specs.Interface.{firstWrong}
+use Rattle.step.specs.OneStep.{step, idle, property}
+use Rattle.step.specs.Operations.{refusedAt, unless, allRight, choicesRight, refuseReplay, replayed, REPLAY}
+use Rattle.step.specs.declared.Replayed.{Replayed}
+use Rattle.step.specs.Ready.{externalsFrom}
+use Rattle.step.proofs.Answering.{all-below, count-movers}
+use Rattle.text.specs.Text.{Written, maxLine}
+use Rattle.text.specs.Line.{line}
+use Rattle.text.specs.Trace.{stateLine, nextLines, stateLines, resultText, refusalText, traced, trace, maxRead, replayText}
+use Rattle.text.specs.Ready.{Replayable}
+use Rattle.text.proofs.Putting.{written-then, Rest, rest-start, rest-next, rest-end}
+
+-- the choices are below the number of movers, by the tables of the file
+pub choices-below : (file cs : List ℕ) → Replayable file cs → (cells : List ℕ) (normals nv : ℕ) → nv ≡ variableCount file → CellsIndexed file cells normals → (i : ℕ) → i < length cs → getD cs i 0 < normals + length (externalsFrom file 0 nv)
+choices-below file cs h cells normals nv q k i l =
+    let t = read file (h .design) in
+    let m = count-movers file cells normals nv (length (externalsFrom file 0 nv)) (h .design) q k refl (t .tree) (t .is) in
+    omega (arith, h .below (t .tree) (t .is) i l)
+
+-- the line of a state, by the number of variables in the file
+pub state-written : (file : List ℕ) (d : Design) → Parts file d → (nv p i mover : ℕ) (idled holds : Bool) (s : State) {xs ys : List ℕ} {at r : ℕ} → nv ≡ variableCount file → holds ≡ property d p s
+    → Written (line i mover idled holds (take nv (map signed s)) (map pos (drop nv s))) xs ys at r → Written (stateLine d p i mover idled s) xs ys at r
+unfolding stateLine
+state-written file d w nv p i mover idled holds s {xs} {ys} {at} {r} e h g =
+    subst (λ (b : Bool). Written (line i mover idled b (take (length (d .variables)) (map signed s)) (map pos (drop (length (d .variables)) s))) xs ys at r) h
+    (subst (λ (k : ℕ). Written (line i mover idled holds (take k (map signed s)) (map pos (drop k s))) xs ys at r) (e ∙ sym (w .variable-count)) g)
+
+-- what is left of the choices, printed now, is the whole printed at the start
+pub record Printing (file : List ℕ) (p : ℕ) (cs : List ℕ) (s₀ : State) (xs : List ℕ) (at i : ℕ) (s : State) (ys : List ℕ) (q : ℕ) : Type 0 where
+  pub inside : i ≤ length cs
+  pub state : length s ≡ length s₀
+  pub near : q ≤ at + maxLine * i
+  pub size : length ys ≡ length xs
+  pub rest : (d : Design) → check file ≡ accepted d → Rest (nextLines d p i s (drop i cs)) (nextLines d p 0 s₀ cs) xs ys at q
+
+pub printing-start : (file : List ℕ) (p : ℕ) (cs : List ℕ) (s : State) (xs : List ℕ) (at : ℕ) → Printing file p cs s xs at 0 s xs at
+printing-start file p cs s xs at = record { inside = omega arith; state = refl; near = omega arith; size = refl; rest = λ d e. rest-start (nextLines d p 0 s cs) xs at }
+
+module _ (file : List ℕ) (p : ℕ) (cs : List ℕ) (s₀ : State) (xs : List ℕ) (at i : ℕ) (s : State) (ys : List ℕ) (q : ℕ) (g : Printing file p cs s₀ xs at i s ys q) where
+  next-lines : (d : Design) (c : ℕ) (s′ : State) (u : Bool) → i < length cs → c ≡ getD cs i 0 → (s′ ≡ step d s c) × (u ≡ idle d s c)
+      → nextLines d p i s (drop i cs) ≡ stateLine d p (suc i) c u s′ ++ nextLines d p (suc i) s′ (drop (suc i) cs)
+  unfolding nextLines
+  next-lines d c s′ u l e k =
+      ap (nextLines d p i s) (drop-cons cs i 0 l ∙ ap (λ (x : ℕ). x ∷ drop (suc i) cs) (sym e))
+      ∙ ap₂ (λ (b : Bool) (t : State). stateLine d p (suc i) c b t ++ nextLines d p (suc i) t (drop (suc i) cs)) (sym (k .1)) (sym (k .0))
+
+  pub printing-on : i < length cs → (c : ℕ) → c ≡ getD cs i 0 → (s′ : State) (u : Bool) → length s′ ≡ length s → ((d : Design) → check file ≡ accepted d → (s′ ≡ step d s c) × (u ≡ idle d s c)) → (zs : List ℕ) (r : ℕ)
+      → ((d : Design) (w : Parts file d) → Written (stateLine d p (i + 1) c u s′) ys zs q r) → r ≤ q + maxLine → length zs ≡ length ys → Printing file p cs s₀ xs at (i + 1) s′ zs r
+  printing-on l c e s′ u n k zs r h m z = rw (add-one i) (record {
+    inside = omega arith;
+    state = n ∙ g .state;
+    near = omega (arith, g .near);
+    size = z ∙ g .size;
+    rest = λ d t.
+        rest-next (stateLine d p (suc i) c u s′) (nextLines d p (suc i) s′ (drop (suc i) cs)) (next-lines d c s′ u l e (k d t)) (g .rest d t)
+        (subst (λ (j : ℕ). Written (stateLine d p j c u s′) ys zs q r) (add-one i) (h d (whole file d t .parts)));
+  })
+
+  pub printing-end : length cs ≤ i → (d : Design) → check file ≡ accepted d → Written (nextLines d p 0 s₀ cs) xs ys at q
+  unfolding nextLines
+  printing-end l d e = rest-end (ap (nextLines d p i s) (drop-of-length-le cs l)) (g .rest d e)
+
+-- the first state's line and the others
+pub states-written : (d : Design) (p : ℕ) (cs : List ℕ) (s : State) {xs ys zs : List ℕ} {m r : ℕ} → s ≡ start d → Written (stateLine d p 0 0 false s) xs ys 0 m → Written (nextLines d p 0 s cs) ys zs m r → Written (stateLines d p cs) xs zs 0 r
+unfolding stateLines
+states-written d p cs s {xs} {ys} {zs} {m} {r} e g h = subst (λ (t : State). Written (stateLine d p 0 0 false t ++ nextLines d p 0 t cs) xs zs 0 r) e (written-then g h)
+
+-- a refusal, by the number that is printed
+pub refusal-as : (n number place : ℕ) {xs ys : List ℕ} {at r : ℕ} → n ≡ number → Written (refusalText (refusedAt n place)) xs ys at r → Written (refusalText (refusedAt number place)) xs ys at r
+refusal-as n number place {xs} {ys} {at} {r} e w = subst (λ (k : ℕ). Written (refusalText (refusedAt k place)) xs ys at r) e w
+
+-- a result, by the test of it
+pub result-as : (b t : Bool) (i : ℕ) {xs ys : List ℕ} {at r : ℕ} → b ≡ t → Written (resultText t i) xs ys at r → Written (resultText b i) xs ys at r
+result-as b t i {xs} {ys} {at} {r} e w = subst (λ (u : Bool). Written (resultText u i) xs ys at r) (sym e) w
+
+-- a call of REPLAY that is not refused
+module _ (file : List ℕ) (p : ℕ) (cs : List ℕ) where
+  unless-zero : (t : Bool) (n k : ℕ) (x : Replayed) → (n ≡ 0 → ⊥) → unless t (refuseReplay n k) x .refusal .number ≡ 0 → (t ≡ true) × (x .refusal .number ≡ 0)
+  unless-zero true n k x z e = (refl, e)
+  unless-zero false n k x z e = absurd (z e)
+
+  checked : (x : Checked) → replayed x p cs .refusal .number ≡ 0 → refusal x .number ≡ 0
+  checked (refused n k) e = e
+  checked (accepted d) e = refl
+
+  record Right (d : Design) : Type 0 where
+    few : length cs ≤ maxChoices
+    below : (i : ℕ) → i < length cs → getD cs i 0 < length (movers d)
+
+  right : (d : Design) → replayed (accepted d) p cs .refusal .number ≡ 0 → Right d
+  right d e =
+      let a = unless-zero (leb p 1) 13 0 _ (λ z. omega arith) e in
+      let b = unless-zero (leb (length cs) 100) 14 0 _ (λ z. omega arith) (a .1) in
+      let c = unless-zero (allRight (choicesRight d cs)) 12 (firstWrong (choicesRight d cs)) _ (λ z. omega arith) (b .1) in
+      record {
+        few = leb-true (length cs) 100 (b .0);
+        below = all-below cs (length (movers d)) (firstWrong (choicesRight d cs)) refl (let q = eqb-true (firstWrong (choicesRight d cs)) (length (choicesRight d cs)) (c .0) in let n : length (choicesRight d cs) ≡ length cs = length-map cs (λ (x : ℕ). ltb x (length (movers d))) in omega arith);
+      }
+
+  module _ (told : Replayed) (says : told ≡ REPLAY file p cs) where
+    answers : told ≡ replayed (check file) p cs
+    unfolding REPLAY
+    answers = says
+
+    zero-checked : told .refusal .number ≡ 0 → replayed (check file) p cs .refusal .number ≡ 0
+    zero-checked z = sym (ap (λ (x : Replayed). x .refusal .number) answers) ∙ z
+
+    zero-at : told .refusal .number ≡ 0 → (d : Design) → check file ≡ accepted d → replayed (accepted d) p cs .refusal .number ≡ 0
+    zero-at z d e = sym (ap (λ (x : Checked). replayed x p cs .refusal .number) e) ∙ zero-checked z
+
+    pub replayable : told .refusal .number ≡ 0 → Replayable file cs
+    replayable z =
+        let a : Accepted file = checked (check file) (zero-checked z) in
+        let t = read file a in
+        record { design = a; few = right (t .tree) (zero-at z (t .tree) (t .is)) .few; below = λ d e. right d (zero-at z d e) .below }
+
+    refusal-traced : (x : Checked) → (told .refusal .number ≡ 0 → ⊥) → refusalText (told .refusal) ≡ traced x told p cs
+    refusal-traced (refused n k) z = refl
+    refusal-traced (accepted d) z = sym (ap (λ (t : Bool). cond t (stateLines d p cs ++ resultText (told .broken) (told .step)) (refusalText (told .refusal))) (ne-eqb (told .refusal .number) 0 z))
+
+    pub trace-refused : {xs ys : List ℕ} {at r : ℕ} → (told .refusal .number ≡ 0 → ⊥) → Written (refusalText (told .refusal)) xs ys at r → Written (trace file p cs) xs ys at r
+    unfolding trace
+    trace-refused {xs} {ys} {at} {r} z w = subst (λ (us : List ℕ). Written us xs ys at r) (refusal-traced (check file) z ∙ ap (λ (x : Replayed). traced (check file) x p cs) says) w
+
+    done-traced : (d : Design) → check file ≡ accepted d → told .refusal .number ≡ 0 → stateLines d p cs ++ resultText (told .broken) (told .step) ≡ trace file p cs
+    unfolding trace
+    done-traced d e z =
+        sym (ap (λ (t : Bool). cond t (stateLines d p cs ++ resultText (told .broken) (told .step)) (refusalText (told .refusal))) (eq-eqb (told .refusal .number) 0 z))
+        ∙ ap₂ (λ (c : Checked) (x : Replayed). traced c x p cs) (sym e) says
+
+    pub trace-done : {xs ys zs : List ℕ} {at m r : ℕ} → told .refusal .number ≡ 0 → ((d : Design) → check file ≡ accepted d → Written (stateLines d p cs) xs ys at m) → Written (resultText (told .broken) (told .step)) ys zs m r → Written (trace file p cs) xs zs at r
+    trace-done {xs} {ys} {zs} {at} {m} {r} z g h =
+        let t = read file (replayable z .design) in
+        subst (λ (us : List ℕ). Written us xs zs at r) (done-traced (t .tree) (t .is) z) (written-then (g (t .tree) (t .is)) h)
+
+-- the input's parts
+module _ (input : List ℕ) {xs ys : List ℕ} {at r : ℕ} where
+  pub text-short : length input < 2 + getD input 1 0 → Written (refusalText (refusedAt 1 0)) xs ys at r → Written (replayText input) xs ys at r
+  unfolding replayText
+  text-short h w = subst (λ (t : Bool). Written (cond t (trace (take maxRead (drop (2 + getD input 1 0) input)) (getD input 0 0) (take (getD input 1 0) (drop 2 input))) (refusalText (refusedAt 1 0))) xs ys at r) (sym (lt-leb (2 + getD input 1 0) (length input) h)) w
+
+  pub text-whole : (front end : ℕ) → front ≡ 2 + getD input 1 0 → front ≤ length input → take (end - front) (drop front input) ≡ take maxRead (drop front input)
+      → Written (trace (take (end - front) (drop front input)) (getD input 0 0) (take (front - 2) (drop 2 input))) xs ys at r → Written (replayText input) xs ys at r
+  unfolding replayText
+  text-whole front end e l q w =
+      let c : front - 2 ≡ getD input 1 0 = omega arith in
+      subst (λ (t : Bool). Written (cond t (trace (take maxRead (drop (2 + getD input 1 0) input)) (getD input 0 0) (take (getD input 1 0) (drop 2 input))) (refusalText (refusedAt 1 0))) xs ys at r) (sym (le-leb (2 + getD input 1 0) (length input) (omega arith)))
+      (subst (λ (k : ℕ). Written (trace (take maxRead (drop k input)) (getD input 0 0) (take (getD input 1 0) (drop 2 input))) xs ys at r) e
+      (subst (λ (k : ℕ). Written (trace (take maxRead (drop front input)) (getD input 0 0) (take k (drop 2 input))) xs ys at r) c
+      (subst (λ (us : List ℕ). Written (trace us (getD input 0 0) (take (front - 2) (drop 2 input))) xs ys at r) q w)))
+
+-- no more design bytes than are read
+pub read-part : (input : List ℕ) (front end : ℕ) → (length input - front ≤ maxRead → end ≡ length input) → (maxRead < length input - front → end - front ≡ maxRead) → take (end - front) (drop front input) ≡ take maxRead (drop front input)
+read-part input front end f g = go (leb (length input - front) maxRead) refl
+  where
+    go : (t : Bool) → leb (length input - front) maxRead ≡ t → take (end - front) (drop front input) ≡ take maxRead (drop front input)
+    go true e =
+        let l = leb-true (length input - front) maxRead e in
+        let q = f l in
+        let n = length-drop front input in
+        take-all (end - front) (drop front input) (omega arith) ∙ sym (take-all maxRead (drop front input) (omega arith))
+    go false e = ap (λ (k : ℕ). take k (drop front input)) (g (leb-false (length input - front) maxRead e))

@@ -1,0 +1,65 @@
+-- `text::trace::put_next` meets its contract. Assumes nothing.
+use native.Mathlib.Omega.{arith}
+use Prim.Native.Nat.{_-_}
+use lib.ListN.{length}
+use Rattle.step.proofs.Replays.{ready-same}
+use Rattle.text.proofs.Tracing.{Printing, printing-start, printing-on, printing-end}
+use Rattle.text.proofs.trace.put_next.Statement.{statement}
+use Rattle.text.proofs.trace.put_next.Tie as tie
+
+abbrev Inv-loop : tie.InvT-loop
+Inv-loop file events cells normals nv nm property choices slots₀ out₀ at p₀ i₀ slots out p i = Printing file property choices slots₀ out₀ at i slots out p
+
+abbrev μ-loop : tie.MeasureT-loop
+μ-loop file events cells normals nv nm property choices slots₀ out₀ at p₀ i₀ slots out p i = length choices - i
+
+loop-holds : tie.Need-loop-holds Inv-loop μ-loop
+loop-holds c = printing-start _ _ _ _ _ _
+
+shared-slice-read-wide : tie.Need-shared-slice-read-wide Inv-loop μ-loop
+shared-slice-read-wide c = omega arith
+
+wide-requires : tie.Need-wide-requires Inv-loop μ-loop
+wide-requires c κs = omega arith
+
+move-chosen-requires : tie.Need-move-chosen-requires Inv-loop μ-loop
+move-chosen-requires c κs = (ready-same _ _ _ _ _ _ (c .before .before .before .before .loop .inv .state) (c .before .before .before .before .before .before .before .before .before .pre .0), c .before .before .before .before .before .before .before .before .before .pre .1, omega (arith, c .before .wide .ensures .0, c .before .before .before .before .before .before .before .before .before .pre .3 (c .before .before .before .before .loop .i) (c .before .before .before .loop-test .taken)))
+
+add-i : tie.Need-add-i Inv-loop μ-loop
+add-i c = omega arith
+
+put-state-requires : tie.Need-put-state-requires Inv-loop μ-loop
+put-state-requires c κs = (ready-same _ _ _ _ _ _ (omega (arith, c .before .before .before .slots .given, c .before .before .before .before .before .before .before .before .before .loop .inv .state)) (c .before .before .before .before .before .before .before .before .before .before .before .before .before .before .pre .0), omega (arith, c .before .before .before .before .before .before .before .before .before .loop .inv .near, c .before .before .before .before .before .before .before .before .before .loop .inv .size))
+
+loop-less : tie.Need-loop-less Inv-loop μ-loop
+loop-less c = omega arith
+
+loop-again : tie.Need-loop-again Inv-loop μ-loop
+loop-again c = printing-on _ _ _ _ _ _ _ _ _ _ (c .before .before .before .before .before .before .before .before .before .before .before .before .loop .inv) (c .before .before .before .before .before .before .before .before .before .before .before .loop-test .taken) _ (c .before .before .before .before .before .before .before .before .before .wide .ensures .0) _ _ (omega (arith, c .before .before .before .before .before .before .slots .given)) (c .before .before .before .before .before .before .before .move-chosen .ensures) _ _ (c .before .before .put-state .ensures .0) (c .before .before .put-state .ensures .1) (c .before .before .put-state .ensures .2)
+
+same-length : tie.Need-same-length Inv-loop μ-loop
+same-length c = c .before .loop .inv .state
+
+same-length-2 : tie.Need-same-length-2 Inv-loop μ-loop
+same-length-2 c = c .before .loop .inv .size
+
+returns : tie.Need-returns Inv-loop μ-loop
+returns c = ((λ d e. printing-end _ _ _ _ _ _ _ _ _ _ (c .before .loop .inv) (omega arith) d e), omega (arith, c .before .loop .inv .near, c .before .loop .inv .inside), c .before .loop .inv .size)
+
+pub put-next-spec : {M : Type 1} → statement M
+put-next-spec =
+    tie.close
+    (tie.spec
+    Inv-loop
+    μ-loop
+    loop-holds
+    shared-slice-read-wide
+    wide-requires
+    move-chosen-requires
+    add-i
+    put-state-requires
+    loop-less
+    loop-again
+    same-length
+    same-length-2
+    returns)

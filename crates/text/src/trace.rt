@@ -1,0 +1,191 @@
+// What the Replay program prints, into a lent buffer.
+ghost use mathlib.Core.Path.{_≡_};
+ghost use Prim.Native.Nat.{ℕ, _+_, _*_, _≤_, _<_};
+ghost use lib.ListN.{length, getD, replicate};
+ghost use Rattle.design.specs.Tree.{Design};
+ghost use Rattle.design.specs.Check.{check, accepted};
+ghost use Rattle.design.specs.Places.{CellsIndexed};
+ghost use Rattle.design.specs.Sections.{Parts};
+ghost use Rattle.step.specs.Operations.{refusedAt};
+ghost use Rattle.step.specs.Ready.{Ready, externalsFrom};
+ghost use Rattle.text.specs.Text.{Written, maxLine, maxText};
+ghost use Rattle.text.specs.Trace.{stateLine, nextLines, stateLines, resultText, refusalText, trace, replayText};
+ghost use Rattle.text.specs.Ready.{Replayable};
+use super::line::put_line;
+use super::number::put_byte;
+use super::number::put_bytes;
+use super::number::put_decimal;
+use design::bytes::wide;
+use design::index::MATRICES;
+use design::index::VARIABLES;
+use design::index::index_cells;
+use design::index::index_events;
+use design::index::trailer_word;
+use step::mover::move_chosen;
+use step::property::property_true;
+use step::replaying::load_start;
+use super::input::design_end;
+
+// `refused N at P`, at the front.
+pub fn put_refusal(out: &mut [u8], number: u8, place: usize) -> usize
+    requires { ⌜ maxLine ≤ length (now out) ⌝ }
+    ensures { λ r. ⌜ Written (refusalText (refusedAt number place)) (now (out .entry)) (now (out .exit)) 0 r × (r ≤ maxLine) ⌝ }
+{
+    let a = put_bytes(out, 0, b"refused ");
+    let b = put_decimal(out, a, wide(number));
+    let c = put_bytes(out, b, b" at ");
+    let d = put_decimal(out, c, place);
+    put_byte(out, d, 10)
+}
+
+// `broken at N`, or `holds`.
+pub fn put_result(out: &mut [u8], at: usize, broken: bool, step: usize) -> usize
+    requires { ⌜ at + maxLine ≤ length (now out) ⌝ }
+    ensures { λ r. ⌜ Written (resultText broken step) (now (out .entry)) (now (out .exit)) at r × (r ≤ at + maxLine) ⌝ }
+{
+    if broken {
+        let a = put_bytes(out, at, b"broken at ");
+        let b = put_decimal(out, a, step);
+        return put_byte(out, b, 10);
+    }
+    put_bytes(out, at, b"holds\n")
+}
+
+// The line of the state in `slots`.
+pub fn put_state(
+    file: &[u8],
+    events: &[u16; 128],
+    nv: usize,
+    nm: usize,
+    property: u8,
+    step: usize,
+    mover: usize,
+    idle: bool,
+    slots: &[u16],
+    out: &mut [u8],
+    at: usize,
+) -> usize
+    requires { ⌜ Ready (now file) (now events) nv nm (now slots) × (at + maxLine ≤ length (now out)) ⌝ }
+    ensures { λ r. ⌜ ((d : Design) (w : Parts (now (file .entry)) d) → Written (stateLine d property step mover idle (now (slots .entry))) (now (out .entry)) (now (out .exit)) at r) × (r ≤ at + maxLine) × (length (now (out .exit)) ≡ length (now (out .entry))) ⌝ }
+{
+    let holds = property_true(file, events, nv, nm, property, slots);
+    put_line(out, at, step, mover, idle, holds, nv, slots)
+}
+
+// The lines after the state in `slots`: each choice acts on the slots in place.
+pub fn put_next(
+    file: &[u8],
+    events: &[u16; 128],
+    cells: &[u16; 64],
+    normals: usize,
+    nv: usize,
+    nm: usize,
+    property: u8,
+    choices: &[u8],
+    slots: &mut [u16],
+    out: &mut [u8],
+    at: usize,
+) -> usize
+    requires { ⌜ Ready (now file) (now events) nv nm (now slots) × CellsIndexed (now file) (now cells) normals × (at + maxLine * length (now choices) ≤ length (now out)) × ((i : ℕ) → i < length (now choices) → getD (now choices) i 0 < normals + length (externalsFrom (now file) 0 nv)) ⌝ }
+    ensures { λ r. ⌜ ((d : Design) → check (now (file .entry)) ≡ accepted d → Written (nextLines d property 0 (now (slots .entry)) (now (choices .entry))) (now (out .entry)) (now (out .exit)) at r) × (r ≤ at + maxLine * length (now (choices .entry))) × (length (now (out .exit)) ≡ length (now (out .entry))) ⌝ }
+{
+    let mut p = at;
+    let mut i = 0;
+    while i < choices.len() {
+        let c = wide(choices[i]);
+        let idle = move_chosen(file, events, cells, normals, nv, nm, c, slots);
+        i = i + 1;
+        p = put_state(file, events, nv, nm, property, i, c, idle, slots, out, p);
+    }
+    p
+}
+
+// The lines of all states, at the front; by slots that are 0.
+pub fn put_states(
+    file: &[u8],
+    events: &[u16; 128],
+    cells: &[u16; 64],
+    normals: usize,
+    nv: usize,
+    nm: usize,
+    property: u8,
+    choices: &[u8],
+    slots: &mut [u16],
+    out: &mut [u8],
+) -> usize
+    requires { ⌜ Ready (now file) (now events) nv nm (now slots) × CellsIndexed (now file) (now cells) normals × (maxLine + maxLine * length (now choices) ≤ length (now out)) × ((i : ℕ) → i < length (now choices) → getD (now choices) i 0 < normals + length (externalsFrom (now file) 0 nv)) × (now slots ≡ replicate (nv + nm) 0) ⌝ }
+    ensures { λ r. ⌜ ((d : Design) → check (now (file .entry)) ≡ accepted d → Written (stateLines d property (now (choices .entry))) (now (out .entry)) (now (out .exit)) 0 r) × (r ≤ maxLine + maxLine * length (now (choices .entry))) × (length (now (out .exit)) ≡ length (now (out .entry))) ⌝ }
+{
+    load_start(file, nv, nm, slots);
+    let a = put_state(file, events, nv, nm, property, 0, 0, false, slots, out, 0);
+    put_next(
+        file,
+        events,
+        cells,
+        normals,
+        nv,
+        nm,
+        property,
+        choices,
+        slots,
+        out,
+        a,
+    )
+}
+
+// The lines of all states, for a call of REPLAY that is not refused.
+pub fn put_run(file: &[u8], property: u8, choices: &[u8], out: &mut [u8]) -> usize
+    requires { ⌜ Replayable (now file) (now choices) × (maxLine + maxLine * length (now choices) ≤ length (now out)) ⌝ }
+    ensures { λ r. ⌜ ((d : Design) → check (now (file .entry)) ≡ accepted d → Written (stateLines d property (now (choices .entry))) (now (out .entry)) (now (out .exit)) 0 r) × (r ≤ maxLine + maxLine * length (now (choices .entry))) × (length (now (out .exit)) ≡ length (now (out .entry))) ⌝ }
+{
+    let nv = trailer_word(file, VARIABLES);
+    let nm = trailer_word(file, MATRICES);
+    let mut cells = [0u16; 64];
+    let normals = index_cells(file, &mut cells);
+    let mut events = [0u16; 128];
+    index_events(file, &mut events);
+    let mut all = [0u16; 40];
+    let n = nv + nm;
+    put_states(
+        file,
+        &events,
+        &cells,
+        normals,
+        nv,
+        nm,
+        property,
+        choices,
+        &mut all[..n],
+        out,
+    )
+}
+
+// The lines of all states and the result, or the refusal alone.
+pub fn put_trace(file: &[u8], property: u8, choices: &[u8], out: &mut [u8]) -> usize
+    requires { ⌜ maxText ≤ length (now out) ⌝ }
+    ensures { λ r. ⌜ Written (trace (now (file .entry)) property (now (choices .entry))) (now (out .entry)) (now (out .exit)) 0 r × (r ≤ maxText) ⌝ }
+{
+    let told = step::replay(file, property, choices);
+    let refusal = told.refusal;
+    if refusal.number != 0 {
+        return put_refusal(out, refusal.number, refusal.place);
+    }
+    let a = put_run(file, property, choices, out);
+    put_result(out, a, told.broken, told.step)
+}
+
+// All that the Replay program prints for its input.
+pub fn put_replay(input: &[u8], out: &mut [u8]) -> usize
+    requires { ⌜ maxText ≤ length (now out) ⌝ }
+    ensures { λ r. ⌜ Written (replayText (now (input .entry))) (now (out .entry)) (now (out .exit)) 0 r × (r ≤ maxText) ⌝ }
+{
+    if input.len() < 2 {
+        return put_refusal(out, 1, 0);
+    }
+    let start = 2 + wide(input[1]);
+    if input.len() < start {
+        return put_refusal(out, 1, 0);
+    }
+    let end = design_end(input, start);
+    put_trace(&input[start..end], input[0], &input[2..start], out)
+}
