@@ -1,1 +1,4 @@
+pub mod Answering
+pub mod Writing
 pub mod Solving
+pub mod Judging

@@ -1,2 +1,6 @@
+-- In the order of reading.
 pub mod Code
+pub mod Step
+pub mod Clauses
 pub mod Solve
+pub mod Verdict

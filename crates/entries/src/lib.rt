@@ -1,5 +1,8 @@
 // The entries for hosts: every operation as a C function on numbers and lent slices. A slice is passed as a pointer and a length,
 // an array as a pointer. An entry returns the code of the refusal, or 0; a longer answer is written into a lent array.
-mod code;
 pub mod check;
+pub mod clause_writer;
+mod code;
+pub mod judge;
 pub mod solve;
+pub mod step_rule;

@@ -7,27 +7,38 @@ use Rattle.entries.proofs.Solving.{refused-exit, done-exit}
 use borrow.Author.Needs.{needs}
 use Rattle.entries.proofs.solve.stm_solve.Statement.{statement}
 use Rattle.entries.proofs.solve.stm_solve.Tie as tie
+
 solve-requires : tie.Need-solve-requires
 solve-requires c κs = search needs
+
 enum-known-number : tie.Need-enum-known-number
 enum-known-number c = search needs
+
 code-of-requires : tie.Need-code-of-requires
 code-of-requires c κs = search needs
+
 enum-known-s : tie.Need-enum-known-s
 enum-known-s c = search needs
+
 answer-number-requires : tie.Need-answer-number-requires
 answer-number-requires c κs = search needs
+
 same-length : tie.Need-same-length
 same-length c = search needs
+
 same-length-2 : tie.Need-same-length-2
 same-length-2 c = search needs
+
 returns : tie.Need-returns
 unfolding solveEntry
 returns c = refused-exit _ _ _ _ (c .before .before .before .before .before .before .before .before .solve .ensures) _ _ _ _ (c .before .before .number .given .1) (c .code-of .ensures)
+
 same-length-3 : tie.Need-same-length-3
 same-length-3 c = search needs
+
 same-length-4 : tie.Need-same-length-4
 same-length-4 c = search needs
+
 returns-2 : tie.Need-returns-2
 unfolding solveEntry
 returns-2 c = done-exit _ _ _ _ (c .before .before .before .before .before .before .before .before .before .solve .ensures) 0 _ _ _ (c .before .before .before .s .given .1) (ap (λ (k : ℕ). k ∷ c .before .before .before .s .given .0 .0 .tries ∷ []) (c .before .answer-number .ensures))

@@ -1,0 +1,63 @@
+// VERDICT.
+ghost use mathlib.Core.Path.{_≡_};
+ghost use Rattle.entries.specs.Verdict.{verdictNumber, verdictStep, verdictEntry};
+use super::code::code_of;
+use verdict::answer::Reply;
+use verdict::answer::Verdict;
+use verdict::verdict;
+
+fn verdict_number(v: Verdict) -> u64
+    ensures { λ r. ⌜ r ≡ verdictNumber v ⌝ }
+{
+    match v {
+        Verdict::Clean => 0,
+        Verdict::Violated(_) => 1,
+        Verdict::Spent(_) => 2,
+    }
+}
+
+fn verdict_step(v: Verdict) -> u64
+    ensures { λ r. ⌜ r ≡ verdictStep v ⌝ }
+{
+    match v {
+        Verdict::Clean => 0,
+        Verdict::Violated(i) => i as u64,
+        Verdict::Spent(i) => i as u64,
+    }
+}
+
+#[no_mangle]
+pub extern "C" fn stm_verdict(
+    file: &[u8],
+    property: u8,
+    bound: u8,
+    budget: u64,
+    clauses: &mut [i32],
+    values: &mut [u8],
+    trail: &mut [u32],
+    choices: &mut [u8],
+    answer: &mut [u64; 3],
+) -> u64
+    ensures { λ r. ⌜ record { code = r; memory = record { clauses = now (clauses .exit); values = now (values .exit); trail = now (trail .exit); choices = now (choices .exit) }; answer = now (answer .exit) } ≡ verdictEntry (now (file .entry)) property bound budget (record { clauses = now (clauses .entry); values = now (values .entry); trail = now (trail .entry); choices = now (choices .entry) }) (now (answer .entry)) ⌝ }
+{
+    match verdict(
+        file,
+        property,
+        bound,
+        budget,
+        clauses,
+        values,
+        trail,
+        choices,
+    ) {
+        Reply::Refused { number, place } => code_of(number, place),
+        Reply::Done(j) => {
+            let v = j.verdict;
+            let told = verdict_number(v);
+            let at = verdict_step(v);
+            let tries = j.tries;
+            *answer = [told, at, tries];
+            0
+        }
+    }
+}

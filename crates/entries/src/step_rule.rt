@@ -1,0 +1,97 @@
+// START, STEP, HOLDS and REPLAY.
+ghost use mathlib.Core.Path.{_≡_};
+ghost use Rattle.design.specs.Tree.{bit};
+ghost use Rattle.entries.specs.Step.{startEntry, stepEntry, holdsEntry, replayEntry};
+use super::code::code_of;
+
+fn flag(b: bool) -> u8
+    ensures { λ r. ⌜ r ≡ bit b ⌝ }
+{
+    if b { 1 } else { 0 }
+}
+
+fn long_flag(b: bool) -> u64
+    ensures { λ r. ⌜ r ≡ bit b ⌝ }
+{
+    if b { 1 } else { 0 }
+}
+
+#[no_mangle]
+pub extern "C" fn stm_start(file: &[u8], values: &mut [i16; 32], statuses: &mut [u16; 8]) -> u64
+    ensures { λ r. ⌜ record { code = r; values = now (values .exit); statuses = now (statuses .exit) } ≡ startEntry (now (file .entry)) (now (values .entry)) (now (statuses .entry)) ⌝ }
+{
+    let told = step::start(file);
+    let refusal = told.refusal;
+    if refusal.number != 0 {
+        return code_of(refusal.number, refusal.place);
+    }
+    let v = told.values;
+    let s = told.statuses;
+    *values = v;
+    *statuses = s;
+    0
+}
+
+#[no_mangle]
+pub extern "C" fn stm_step(
+    file: &[u8],
+    values: &mut [i16; 32],
+    statuses: &mut [u16; 8],
+    choice: u64,
+    idle: &mut [u8; 1],
+) -> u64
+    ensures { λ r. ⌜ record { code = r; values = now (values .exit); statuses = now (statuses .exit); idle = now (idle .exit) } ≡ stepEntry (now (file .entry)) (now (values .entry)) (now (statuses .entry)) choice (now (idle .entry)) ⌝ }
+{
+    let told = step::step(file, *values, *statuses, choice);
+    let refusal = told.refusal;
+    if refusal.number != 0 {
+        return code_of(refusal.number, refusal.place);
+    }
+    let v = told.values;
+    let s = told.statuses;
+    let i = flag(told.idle);
+    *values = v;
+    *statuses = s;
+    *idle = [i];
+    0
+}
+
+#[no_mangle]
+pub extern "C" fn stm_holds(
+    file: &[u8],
+    values: &[i16; 32],
+    statuses: &[u16; 8],
+    property: u8,
+    holds: &mut [u8; 1],
+) -> u64
+    ensures { λ r. ⌜ record { code = r; holds = now (holds .exit) } ≡ holdsEntry (now (file .entry)) (now (values .entry)) (now (statuses .entry)) property (now (holds .entry)) ⌝ }
+{
+    let told = step::holds(file, *values, *statuses, property);
+    let refusal = told.refusal;
+    if refusal.number != 0 {
+        return code_of(refusal.number, refusal.place);
+    }
+    let h = flag(told.holds);
+    *holds = [h];
+    0
+}
+
+#[no_mangle]
+pub extern "C" fn stm_replay(
+    file: &[u8],
+    property: u8,
+    choices: &[u8],
+    answer: &mut [u64; 2],
+) -> u64
+    ensures { λ r. ⌜ record { code = r; answer = now (answer .exit) } ≡ replayEntry (now (file .entry)) property (now (choices .entry)) (now (answer .entry)) ⌝ }
+{
+    let told = step::replay(file, property, choices);
+    let refusal = told.refusal;
+    if refusal.number != 0 {
+        return code_of(refusal.number, refusal.place);
+    }
+    let broken = long_flag(told.broken);
+    let at = told.step as u64;
+    *answer = [broken, at];
+    0
+}
