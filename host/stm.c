@@ -1,15 +1,25 @@
-/* stm: the matrix checker on the command line, over the proved archive. */
+/* stm: the matrix checker on the command line, over the proved archive. It lends its own memory to the operations. */
 #include "stm.h"
 
+#include <errno.h>
+#include <inttypes.h>
 #include <stdio.h>
 #include <stdlib.h>
 #include <string.h>
 
 /* Exit statuses. */
-enum { CLEAN = 0, REFUSED = 2 };
+enum { CLEAN = 0, REFUSED = 2, VIOLATED = 10, SPENT = 20 };
 
 /* A design file is at most 16,384 bytes; one byte more is read, so that a longer one is seen to be too long. */
-enum { MAX_READ = 16385 };
+enum { MAX_READ = 16385, MAX_CHOICES = 100 };
+
+static const char USAGE[] =
+    "usage: stm check FILE\n"
+    "       stm replay FILE PROPERTY CHOICES      (as 2,0,1; - for none)\n"
+    "       stm size FILE PROPERTY BOUND\n"
+    "       stm cnf FILE PROPERTY BOUND\n"
+    "       stm verdict FILE PROPERTY BOUND [BUDGET]\n"
+    "exit status: 0 clean or done, 10 violated, 20 budget spent, 2 refused or misused";
 
 static const char *meaning(unsigned number)
 {
@@ -25,13 +35,21 @@ static const char *meaning(unsigned number)
         "bad expression",
         "bad action",
         "no mover, or more than 64",
+        "the state does not fit the design",
+        "a choice is no mover's number",
+        "the property is over 1",
+        "the bound, or the number of choices, is over 100",
+        "no such part",
+        "a buffer is too short",
+        "the clause list is malformed",
+        "a frame has no single flag set",
     };
     return number < sizeof text / sizeof text[0] ? text[number] : "unknown refusal";
 }
 
 static int refuse(uint64_t code)
 {
-    printf("refused %u at %llu: %s\n", STM_NUMBER(code), (unsigned long long)STM_PLACE(code), meaning(STM_NUMBER(code)));
+    printf("refused %u at %" PRIu64 ": %s\n", STM_NUMBER(code), STM_PLACE(code), meaning(STM_NUMBER(code)));
     return REFUSED;
 }
 
@@ -41,39 +59,298 @@ static int misuse(const char *message, const char *detail)
     return REFUSED;
 }
 
-struct design {
-    uint8_t bytes[MAX_READ];
+static int misuse_file(const char *message, const char *path)
+{
+    fprintf(stderr, "stm: %s %s: %s\n", message, path, strerror(errno));
+    return REFUSED;
+}
+
+/* What every command works on. */
+struct job {
+    uint8_t design[MAX_READ];
     size_t len;
+    uint8_t property;
+    uint8_t bound;
+    uint64_t budget;
+    uint8_t choices[MAX_CHOICES + 1];
+    size_t choices_len;
 };
 
 /* Reads a design file; 0 where it can be read. */
-static int read_design(const char *path, struct design *d)
+static int read_design(const char *path, struct job *j)
 {
     FILE *f = fopen(path, "rb");
     if (!f)
-        return misuse("cannot open ", path);
-    d->len = fread(d->bytes, 1, MAX_READ, f);
-    int failed = ferror(f);
+        return misuse_file("cannot open", path);
+    j->len = fread(j->design, 1, MAX_READ, f);
+    int failed = ferror(f) ? misuse_file("cannot read", path) : 0;
     fclose(f);
-    return failed ? misuse("cannot read ", path) : 0;
+    return failed;
 }
 
-static int check(const char *path)
+/* A decimal number up to `most`, digits only; 0 where it is one. */
+static int read_number(const char *text, uint64_t most, uint64_t *number)
 {
-    static struct design d;
-    int failed = read_design(path, &d);
-    if (failed)
-        return failed;
-    uint64_t code = stm_check(d.bytes, d.len);
+    uint64_t n = 0;
+    const char *at = text;
+    for (; *at >= '0' && *at <= '9'; at++) {
+        unsigned digit = (unsigned)(*at - '0');
+        if (n > (most - digit) / 10) {
+            fprintf(stderr, "stm: over %" PRIu64 ": %s\n", most, text);
+            return REFUSED;
+        }
+        n = 10 * n + digit;
+    }
+    if (at == text || *at)
+        return misuse("not a number: ", *text ? text : "(empty)");
+    *number = n;
+    return 0;
+}
+
+static int read_byte(const char *text, uint8_t *byte)
+{
+    uint64_t n;
+    int failed = read_number(text, 255, &n);
+    if (!failed)
+        *byte = (uint8_t)n;
+    return failed;
+}
+
+/* Choices parted by commas, or - for none. One more than REPLAY takes is kept, so that it refuses longer lists itself. */
+static int read_choices(char *text, struct job *j)
+{
+    j->choices_len = 0;
+    if (strcmp(text, "-") == 0)
+        return 0;
+    for (char *part = text; part;) {
+        char *comma = strchr(part, ',');
+        if (comma)
+            *comma = '\0';
+        size_t at = j->choices_len < MAX_CHOICES ? j->choices_len : MAX_CHOICES;
+        int failed = read_byte(part, &j->choices[at]);
+        if (failed)
+            return failed;
+        j->choices_len = at + 1;
+        part = comma ? comma + 1 : NULL;
+    }
+    return 0;
+}
+
+static int check(const struct job *j)
+{
+    uint64_t code = stm_check(j->design, j->len);
     if (code)
         return refuse(code);
     printf("accepted\n");
     return CLEAN;
 }
 
+/* A line of the trace: step, mover, idle, property holds, variables, |, statuses. */
+static void print_state(const struct job *j, size_t step, const int16_t *values, const uint16_t *statuses, uint8_t idle)
+{
+    const uint8_t *trailer = j->design + j->len - 16;
+    size_t variables = trailer[2], matrices = trailer[6];
+    uint8_t holds[1] = {0};
+    stm_holds(j->design, j->len, values, statuses, j->property, holds);
+    printf("%zu ", step);
+    if (step == 0)
+        printf("-");
+    else
+        printf("%u", j->choices[step - 1]);
+    printf(" %u %u", idle, holds[0]);
+    for (size_t v = 0; v < variables; v++)
+        printf(" %d", values[v]);
+    printf(" |");
+    for (size_t m = 0; m < matrices; m++)
+        printf(" %u", statuses[m]);
+    printf("\n");
+}
+
+/* The run of choices that REPLAY accepts, so that no call here is refused. */
+static void print_trace(const struct job *j)
+{
+    int16_t values[STM_VALUES] = {0};
+    uint16_t statuses[STM_STATUSES] = {0};
+    uint8_t idle[1] = {0};
+    stm_start(j->design, j->len, values, statuses);
+    print_state(j, 0, values, statuses, 0);
+    for (size_t i = 0; i < j->choices_len; i++) {
+        stm_step(j->design, j->len, values, statuses, j->choices[i], idle);
+        print_state(j, i + 1, values, statuses, idle[0]);
+    }
+}
+
+static int replay(const struct job *j)
+{
+    uint64_t answer[2] = {0};
+    uint64_t code = stm_replay(j->design, j->len, j->property, j->choices, j->choices_len, answer);
+    if (code)
+        return refuse(code);
+    print_trace(j);
+    if (answer[0] == 0) {
+        printf("holds\n");
+        return CLEAN;
+    }
+    printf("broken at %" PRIu64 "\n", answer[1]);
+    return VIOLATED;
+}
+
+/* What SIZE answers, in order. */
+enum { SIZE_VARIABLES = 4, SIZE_CLAUSES, SIZE_WORDS, SIZE_LEN };
+
+static int size(const struct job *j)
+{
+    static const char *const names[SIZE_LEN] = {"S", "P", "w", "G", "n", "clauses", "words"};
+    uint64_t sizes[SIZE_LEN];
+    uint64_t code = stm_size(j->design, j->len, j->property, j->bound, sizes);
+    if (code)
+        return refuse(code);
+    for (size_t i = 0; i < SIZE_LEN; i++)
+        printf("%s %" PRIu64 "\n", names[i], sizes[i]);
+    return CLEAN;
+}
+
+/* Memory for so many elements, or NULL; never for none, since a lent pointer is not null. */
+static void *lend(uint64_t count, size_t element)
+{
+    if (count >= SIZE_MAX / element)
+        return NULL;
+    return malloc((size_t)(count + 1) * element);
+}
+
+static int too_large(void)
+{
+    return misuse("not enough memory for a formula of this size", "");
+}
+
+/* A part's words, a clause a line. */
+static void print_clauses(const int32_t *words, uint64_t count)
+{
+    for (uint64_t i = 0; i < count; i++)
+        printf("%" PRId32 "%c", words[i], words[i] == 0 ? '\n' : ' ');
+}
+
+/* Every part in order, through memory for the longest. */
+static int print_parts(const struct job *j, int32_t *words, uint64_t len)
+{
+    for (uint64_t part = 0; part <= (uint64_t)j->bound + 2; part++) {
+        uint64_t count[1] = {0};
+        uint64_t code = stm_encode(j->design, j->len, j->property, j->bound, part, words, (size_t)len, count);
+        if (code)
+            return refuse(code);
+        print_clauses(words, count[0]);
+    }
+    return CLEAN;
+}
+
+/* The formula in DIMACS form. All full frames are of one length, so no part is longer than the whole formula of bound 1, but
+ * for the last part, of bound + 2 words. */
+static int cnf(const struct job *j)
+{
+    uint64_t sizes[SIZE_LEN], shortest[SIZE_LEN];
+    uint64_t code = stm_size(j->design, j->len, j->property, j->bound, sizes);
+    if (!code)
+        code = stm_size(j->design, j->len, j->property, j->bound > 0, shortest);
+    if (code)
+        return refuse(code);
+    uint64_t last = (uint64_t)j->bound + 2;
+    uint64_t len = shortest[SIZE_WORDS] > last ? shortest[SIZE_WORDS] : last;
+    int32_t *words = lend(len, sizeof *words);
+    if (!words)
+        return too_large();
+    printf("p cnf %" PRIu64 " %" PRIu64 "\n", sizes[SIZE_VARIABLES], sizes[SIZE_CLAUSES]);
+    int status = print_parts(j, words, len);
+    free(words);
+    return status;
+}
+
+static int print_verdict(struct job *j, const uint64_t answer[3])
+{
+    switch (answer[0]) {
+    case 0:
+        printf("CLEAN up to bound %u, %" PRIu64 " tries\n", j->bound, answer[2]);
+        return CLEAN;
+    case 1:
+        printf("VIOLATED at step %" PRIu64 ", %" PRIu64 " tries\n", answer[1], answer[2]);
+        j->choices_len = (size_t)answer[1];
+        print_trace(j);
+        return VIOLATED;
+    default:
+        printf("SPENT at bound %" PRIu64 ", %" PRIu64 " tries\n", answer[1], answer[2]);
+        return SPENT;
+    }
+}
+
+static int verdict(struct job *j)
+{
+    uint64_t sizes[SIZE_LEN], answer[3] = {0};
+    uint64_t code = stm_size(j->design, j->len, j->property, j->bound, sizes);
+    if (code)
+        return refuse(code);
+    uint64_t n = sizes[SIZE_VARIABLES];
+    int32_t *clauses = lend(sizes[SIZE_WORDS], sizeof *clauses);
+    uint8_t *values = lend(n, sizeof *values);
+    uint32_t *trail = lend(n, sizeof *trail);
+    int status;
+    if (!clauses || !values || !trail) {
+        status = too_large();
+    } else {
+        code = stm_verdict(j->design, j->len, j->property, j->bound, j->budget, clauses, (size_t)sizes[SIZE_WORDS], values,
+                           (size_t)n, trail, (size_t)n, j->choices, MAX_CHOICES, answer);
+        status = code ? refuse(code) : print_verdict(j, answer);
+    }
+    free(clauses);
+    free(values);
+    free(trail);
+    return status;
+}
+
+/* The command's words: FILE, then PROPERTY, then CHOICES or BOUND, then BUDGET. */
+static int run(int argc, char **argv)
+{
+    static struct job j;
+    const char *command = argv[1];
+    int failed = read_design(argv[2], &j);
+    if (failed)
+        return failed;
+    if (argc == 3)
+        return check(&j);
+    failed = read_byte(argv[3], &j.property);
+    if (failed)
+        return failed;
+    if (strcmp(command, "replay") == 0) {
+        failed = read_choices(argv[4], &j);
+        return failed ? failed : replay(&j);
+    }
+    failed = read_byte(argv[4], &j.bound);
+    if (failed)
+        return failed;
+    j.budget = UINT64_MAX;
+    if (argc == 6 && (failed = read_number(argv[5], UINT64_MAX, &j.budget)))
+        return failed;
+    if (strcmp(command, "size") == 0)
+        return size(&j);
+    return strcmp(command, "cnf") == 0 ? cnf(&j) : verdict(&j);
+}
+
+/* Whether the command takes so many words. */
+static int fits(int argc, char **argv)
+{
+    if (argc < 3)
+        return 0;
+    if (strcmp(argv[1], "check") == 0)
+        return argc == 3;
+    if (strcmp(argv[1], "replay") == 0 || strcmp(argv[1], "size") == 0 || strcmp(argv[1], "cnf") == 0)
+        return argc == 5;
+    return strcmp(argv[1], "verdict") == 0 && (argc == 5 || argc == 6);
+}
+
 int main(int argc, char **argv)
 {
-    if (argc == 3 && strcmp(argv[1], "check") == 0)
-        return check(argv[2]);
-    return misuse("usage: stm check FILE", "");
+    if (!fits(argc, argv))
+        return misuse(USAGE, "");
+    int status = run(argc, argv);
+    if (fflush(stdout) || ferror(stdout))
+        return misuse("cannot write: ", strerror(errno));
+    return status;
 }

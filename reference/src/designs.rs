@@ -1,7 +1,13 @@
-//! Known designs: Design A of document 01 and the Money-Changer of source 001.
+//! Known designs: Design A of document 01, the Money-Changer of source 001, and small designs of our own.
+
+mod money_changer;
+mod small;
+mod terms;
+
+pub use money_changer::{money_changer, Property, Version, ALL_PROPERTIES};
+pub use small::design_a;
 
 use crate::builder::file_bytes;
-use crate::design::{Boolean, Cell, CellKind, Design, Integer, Kind, Matrix, Statement, Variable};
 
 /// The name and the bytes of every known design file.
 pub fn all_files() -> Vec<(String, Vec<u8>)> {
@@ -14,194 +20,8 @@ pub fn all_files() -> Vec<(String, Vec<u8>)> {
         let name = format!("money-changer-revised-{}.stm", property.name());
         files.push((name, file_bytes(&money_changer(Version::Revised, property))));
     }
+    for (name, design) in small::all() {
+        files.push((format!("{name}.stm"), file_bytes(&design)));
+    }
     files
-}
-
-fn constant(value: i16) -> Integer {
-    Integer::Constant(value)
-}
-
-fn is(variable: u8) -> Boolean {
-    Boolean::Variable(variable)
-}
-
-fn not(a: Boolean) -> Boolean {
-    Boolean::Not(Box::new(a))
-}
-
-fn and(a: Boolean, b: Boolean) -> Boolean {
-    Boolean::And(Box::new(a), Box::new(b))
-}
-
-fn implies(a: Boolean, b: Boolean) -> Boolean {
-    Boolean::Or(Box::new(not(a)), Box::new(b))
-}
-
-fn status_is(matrix: u8, status: i16) -> Boolean {
-    Boolean::Equal(Integer::Status(matrix), constant(status))
-}
-
-fn assign(variable: u8, value: bool) -> Statement {
-    Statement::AssignBoolean(variable, Boolean::Constant(value))
-}
-
-fn variable(kind: Kind) -> Variable {
-    Variable { kind, initial: 0 }
-}
-
-fn normal(place: (u8, u8, u8), target: u8, guard: Option<Boolean>, action: Vec<Statement>) -> Cell {
-    let kind = CellKind::Normal { target, guard, action };
-    Cell { matrix: place.0, status: place.1, event: place.2, kind }
-}
-
-fn invalid(place: (u8, u8, u8)) -> Cell {
-    Cell { matrix: place.0, status: place.1, event: place.2, kind: CellKind::Invalid }
-}
-
-/// Design A of document 01: an external 0 and a counter c below 2.
-pub fn design_a() -> Design {
-    let below_two = Boolean::Less(Integer::Variable(1), constant(2));
-    let sum = Integer::Sum(Box::new(Integer::Variable(1)), Box::new(constant(1)));
-    let count = Statement::AssignInteger(1, sum);
-    Design {
-        variables: vec![variable(Kind::External), variable(Kind::Integer)],
-        matrices: vec![Matrix { statuses: 2, events: vec![is(0)] }],
-        cells: vec![
-            normal((0, 0, 0), 1, None, vec![count.clone()]),
-            normal((0, 1, 0), 0, Some(below_two.clone()), vec![count]),
-        ],
-        invariant: below_two,
-    }
-}
-
-/// The properties of source 001 that one state decides.
-#[derive(Clone, Copy, Debug, PartialEq, Eq)]
-pub enum Property {
-    Uic1,
-    Uic2,
-    Stc1,
-    Stc2,
-    Fstc1,
-    Fstc2,
-}
-
-pub const ALL_PROPERTIES: [Property; 6] = [
-    Property::Uic1,
-    Property::Uic2,
-    Property::Stc1,
-    Property::Stc2,
-    Property::Fstc1,
-    Property::Fstc2,
-];
-
-impl Property {
-    pub fn name(self) -> &'static str {
-        match self {
-            Property::Uic1 => "uic1",
-            Property::Uic2 => "uic2",
-            Property::Stc1 => "stc1",
-            Property::Stc2 => "stc2",
-            Property::Fstc1 => "fstc1",
-            Property::Fstc2 => "fstc2",
-        }
-    }
-
-    fn invariant(self) -> Boolean {
-        match self {
-            Property::Uic1 => not(and(status_is(CHANGER, 1), is(GET_MONEY))),
-            Property::Uic2 => not(and(status_is(RETURNER, 1), is(PAYMENT))),
-            Property::Stc1 => implies(status_is(RETURNER, 1), status_is(CHANGER, 2)),
-            Property::Stc2 => implies(status_is(CHANGER, 1), status_is(RETURNER, 0)),
-            Property::Fstc1 => implies(status_is(CHANGER, 2), status_is(RETURNER, 0)),
-            Property::Fstc2 => implies(status_is(CHANGER, 2), status_is(RETURNER, 1)),
-        }
-    }
-}
-
-/// The revised design drops the first two assignments of the cell that runs
-/// out of money.
-#[derive(Clone, Copy, Debug, PartialEq, Eq)]
-pub enum Version {
-    Original,
-    Revised,
-}
-
-const X_CHANGE_PREPARE: u8 = 0;
-const X_10K_YEN_REQUEST: u8 = 1;
-const X_RECEIVE: u8 = 2;
-const PAYMENT: u8 = 3;
-const GET_MONEY: u8 = 4;
-const PAY_MONEY: u8 = 5;
-const CHANGE_MONEY: u8 = 6;
-const CHANGER: u8 = 0;
-const RETURNER: u8 = 1;
-
-/// The Money-Changer of source 001, figure 1.
-pub fn money_changer(version: Version, property: Property) -> Design {
-    let kinds = [
-        Kind::External,
-        Kind::External,
-        Kind::External,
-        Kind::Boolean,
-        Kind::Boolean,
-        Kind::Integer,
-        Kind::Integer,
-    ];
-    let changer_events = vec![is(X_CHANGE_PREPARE), is(X_10K_YEN_REQUEST), is(GET_MONEY)];
-    let mut cells = changer_cells(version);
-    cells.extend(returner_cells());
-    Design {
-        variables: kinds.map(variable).to_vec(),
-        matrices: vec![
-            Matrix { statuses: 3, events: changer_events },
-            Matrix { statuses: 2, events: vec![is(PAYMENT), is(X_RECEIVE)] },
-        ],
-        cells,
-        invariant: property.invariant(),
-    }
-}
-
-fn pay(amount: i16) -> Statement {
-    Statement::AssignInteger(PAY_MONEY, constant(amount))
-}
-
-/// Statuses: 0 STOP, 1 WAIT_REQUEST, 2 WAIT MONEY TAKEN.
-fn changer_cells(version: Version) -> Vec<Cell> {
-    let money = || Box::new(Integer::Variable(CHANGE_MONEY));
-    let more = Integer::Sum(money(), Box::new(constant(20_000)));
-    let less = Integer::Difference(money(), Box::new(Integer::Variable(PAY_MONEY)));
-    let too_little = Boolean::Less(*money(), constant(10_000));
-    let mut run_out = vec![pay(0), assign(PAYMENT, true), assign(X_10K_YEN_REQUEST, false)];
-    if version == Version::Revised {
-        run_out.drain(..2);
-    }
-    let prepare =
-        vec![Statement::AssignInteger(CHANGE_MONEY, more), assign(X_CHANGE_PREPARE, false)];
-    let change = vec![
-        pay(10_000),
-        assign(PAYMENT, true),
-        Statement::AssignInteger(CHANGE_MONEY, less),
-        assign(X_10K_YEN_REQUEST, false),
-    ];
-    vec![
-        normal((CHANGER, 0, 0), 1, None, prepare),
-        normal((CHANGER, 1, 1), 2, Some(not(too_little.clone())), change),
-        normal((CHANGER, 1, 1), 0, Some(too_little), run_out),
-        invalid((CHANGER, 1, 2)),
-        normal((CHANGER, 2, 2), 1, None, vec![assign(GET_MONEY, false)]),
-    ]
-}
-
-/// Statuses: 0 WAIT, 1 RETURN.
-fn returner_cells() -> Vec<Cell> {
-    let nothing = Boolean::Equal(Integer::Variable(PAY_MONEY), constant(0));
-    let taken = [assign(GET_MONEY, true), assign(X_RECEIVE, false)];
-    let mut paid = vec![pay(0)];
-    paid.extend(taken.clone());
-    vec![
-        normal((RETURNER, 0, 0), 1, None, vec![assign(PAYMENT, false)]),
-        invalid((RETURNER, 1, 0)),
-        normal((RETURNER, 1, 1), 0, Some(nothing.clone()), taken.to_vec()),
-        normal((RETURNER, 1, 1), 0, Some(not(nothing)), paid),
-    ]
 }

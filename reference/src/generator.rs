@@ -2,6 +2,7 @@
 
 mod calls;
 mod faults;
+mod known;
 mod lists;
 pub mod trees;
 
@@ -28,6 +29,8 @@ const SHARES: [(&str, usize); 11] = [
 pub struct Generator {
     random: Random,
     operations: Vec<&'static str>,
+    /// The rest of a series.
+    pending: Vec<String>,
 }
 
 impl Generator {
@@ -38,12 +41,20 @@ impl Generator {
         let repeated = shares?.into_iter().flat_map(|&(name, n)| vec![name; n]);
         let operations: Vec<&'static str> = repeated.collect();
         let known = !operations.is_empty();
-        known.then(|| Generator { random: Random::new(seed), operations })
+        known.then(|| Generator { random: Random::new(seed), operations, pending: vec![] })
     }
 
     pub fn request(&mut self) -> String {
+        if let Some(request) = self.pending.pop() {
+            return request;
+        }
         let operation = self.random.pick(&self.operations);
         let random = &mut self.random;
+        self.pending = match operation {
+            "encode" if random.chance(2) => known::all_parts(random),
+            "verdict" if random.chance(2) => known::all_budgets(random),
+            _ => vec![],
+        };
         match operation {
             "check" => calls::check(random),
             "start" => calls::start(random),

@@ -2,10 +2,12 @@
 //! from the first to be held against it. One module for each of its sections.
 
 pub mod builder;
+pub mod client;
 pub mod design;
 pub mod designs;
 pub mod formula;
 pub mod generator;
+pub mod models;
 pub mod operations;
 pub mod programs;
 pub mod protocol;

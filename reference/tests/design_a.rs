@@ -6,6 +6,7 @@ use reference::builder::file_bytes;
 use reference::design::{check, CellKind, Design, Integer, Statement};
 use reference::designs::design_a;
 use reference::formula::{decode, size, Size};
+use reference::models::{models, QuickSearch};
 use reference::programs::replay_output;
 use reference::search::Outcome;
 use reference::step::{replay, start, step};

@@ -1,9 +1,12 @@
-//! The checked-in design files are what the builder writes.
+//! The checked-in design files are what the builder writes, use all of the format, and break where designs/README.md says.
 
-use reference::design::check;
+mod support;
+
+use reference::design::{check, Boolean, CellKind, Design, Integer, Statement};
 use reference::designs::all_files;
 use std::collections::BTreeSet;
 use std::path::Path;
+use support::first_break;
 
 #[test]
 fn files_equal_the_builder() {
@@ -21,4 +24,119 @@ fn files_equal_the_builder() {
         .filter(is_design)
         .collect();
     assert_eq!(found, names);
+}
+
+/// Operator bytes of a design.
+#[derive(Default)]
+struct Operators(BTreeSet<u8>);
+
+impl Operators {
+    fn integer(&mut self, e: &Integer) {
+        let code = match e {
+            Integer::Constant(_) => 0x01,
+            Integer::Variable(_) => 0x02,
+            Integer::Status(_) => 0x03,
+            Integer::Sum(a, b) => self.integers(0x04, a, b),
+            Integer::Difference(a, b) => self.integers(0x05, a, b),
+        };
+        self.0.insert(code);
+    }
+
+    fn integers(&mut self, code: u8, a: &Integer, b: &Integer) -> u8 {
+        self.integer(a);
+        self.integer(b);
+        code
+    }
+
+    fn boolean(&mut self, e: &Boolean) {
+        let code = match e {
+            Boolean::Constant(_) => 0x10,
+            Boolean::Variable(_) => 0x11,
+            Boolean::Not(a) => {
+                self.boolean(a);
+                0x12
+            }
+            Boolean::And(a, b) => self.booleans(0x13, a, b),
+            Boolean::Or(a, b) => self.booleans(0x14, a, b),
+            Boolean::Equal(a, b) => self.integers(0x15, a, b),
+            Boolean::Less(a, b) => self.integers(0x16, a, b),
+        };
+        self.0.insert(code);
+    }
+
+    fn booleans(&mut self, code: u8, a: &Boolean, b: &Boolean) -> u8 {
+        self.boolean(a);
+        self.boolean(b);
+        code
+    }
+
+    fn list(&mut self, list: &[Statement]) {
+        for statement in list {
+            let code = match statement {
+                Statement::AssignInteger(_, e) => {
+                    self.integer(e);
+                    0x20
+                }
+                Statement::AssignBoolean(_, e) => {
+                    self.boolean(e);
+                    0x20
+                }
+                Statement::If(condition, then, other) => {
+                    self.boolean(condition);
+                    self.list(then);
+                    self.list(other);
+                    0x21
+                }
+            };
+            self.0.insert(code);
+        }
+    }
+
+    fn design(&mut self, design: &Design) {
+        design.matrices.iter().flat_map(|m| &m.events).for_each(|e| self.boolean(e));
+        for cell in &design.cells {
+            if let CellKind::Normal { guard, action, .. } = &cell.kind {
+                guard.iter().for_each(|g| self.boolean(g));
+                self.list(action);
+            }
+        }
+        self.boolean(&design.invariant);
+    }
+}
+
+#[test]
+fn every_operator_is_used() {
+    let mut operators = Operators::default();
+    for (_, bytes) in all_files() {
+        operators.design(&check(&bytes).unwrap());
+    }
+    let all = (0x01..=0x05).chain(0x10..=0x16).chain(0x20..=0x21);
+    assert_eq!(operators.0, all.collect());
+}
+
+/// By breadth-first search over STEP. Property 1 of the others is about no cell at all.
+#[test]
+fn small_designs_break_where_they_should() {
+    let expected = [
+        ("design-a", 0, Some(3)),
+        ("first-state", 0, Some(0)),
+        ("first-state", 1, Some(0)),
+        ("turnstile", 0, None),
+        ("turnstile", 1, Some(1)),
+        ("crossing", 0, None),
+        ("mutex", 0, Some(4)),
+        ("peterson", 0, None),
+        ("wrap", 0, Some(2)),
+        ("nested-ifs", 0, Some(4)),
+        ("old-status", 0, Some(3)),
+        ("operators", 0, Some(3)),
+        ("lock", 0, Some(6)),
+        ("longest", 0, None),
+    ];
+    let files = all_files();
+    for (name, property, step) in expected {
+        let file = files.iter().find(|file| file.0 == format!("{name}.stm")).unwrap();
+        let design = check(&file.1).unwrap();
+        assert_eq!(first_break(&design, property), step, "{name}, property {property}");
+    }
 }

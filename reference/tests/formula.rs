@@ -8,6 +8,7 @@ use reference::design::{Boolean, CellKind, Design, Integer, Kind, Matrix, Statem
 use reference::designs::{design_a, money_changer, Property, Version};
 use reference::formula::{decode, size, Formula};
 use reference::generator::trees::{chain_design, design, tiny_plan, Plan};
+use reference::models::models;
 use reference::random::Random;
 use reference::verdict::Finding;
 use std::collections::BTreeSet;

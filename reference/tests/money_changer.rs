@@ -5,6 +5,7 @@ mod support;
 use reference::builder::file_bytes;
 use reference::designs::{money_changer, Property, Version, ALL_PROPERTIES};
 use reference::formula::{decode, size};
+use reference::models::QuickSearch;
 use reference::programs::clauses_output;
 use reference::step::{replay, State};
 use support::*;

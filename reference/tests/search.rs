@@ -2,6 +2,7 @@
 
 mod support;
 
+use reference::models::{models, QuickSearch};
 use reference::random::Random;
 use reference::search::{Outcome, Solved};
 use support::*;

@@ -1,11 +1,43 @@
 //! The operations of the proved archive. Nothing checks these declarations against the Rattle source but the tests.
 
+mod formula;
+pub mod timing;
+
 use reference::design::Refusal;
 use reference::operations::{Answer, Operations};
 use reference::search::{Outcome, Solved};
+use reference::step::{State, Stepped};
+use std::io::{self, Write};
+use std::path::PathBuf;
+use std::process::{Command, Stdio};
 
 extern "C" {
     fn stm_check(design: *const u8, design_len: usize) -> u64;
+    fn stm_start(design: *const u8, design_len: usize, values: *mut [i16; 32], statuses: *mut [u16; 8]) -> u64;
+    fn stm_step(
+        design: *const u8,
+        design_len: usize,
+        values: *mut [i16; 32],
+        statuses: *mut [u16; 8],
+        choice: u64,
+        idle: *mut [u8; 1],
+    ) -> u64;
+    fn stm_holds(
+        design: *const u8,
+        design_len: usize,
+        values: *const [i16; 32],
+        statuses: *const [u16; 8],
+        property: u8,
+        holds: *mut [u8; 1],
+    ) -> u64;
+    fn stm_replay(
+        design: *const u8,
+        design_len: usize,
+        property: u8,
+        choices: *const u8,
+        choices_len: usize,
+        answer: *mut [u64; 2],
+    ) -> u64;
     fn stm_solve(
         n: u64,
         words: *const i32,
@@ -19,11 +51,78 @@ extern "C" {
     ) -> u64;
 }
 
+/// A refusal must leave lent memory as it was.
+fn unchanged<T: PartialEq + std::fmt::Debug>(code: u64, before: T, after: T) {
+    assert!(code == 0 || before == after, "code {code}: {before:?} became {after:?}");
+}
+
 /// A code of 0 is no refusal; else its low byte is the number and the rest the place.
 fn answered<T>(code: u64, done: impl FnOnce() -> T) -> Answer<T> {
     match code {
         0 => Answer::Done(done()),
         _ => Answer::Refused(Refusal { number: (code % 256) as u8, place: code / 256 }),
+    }
+}
+
+/// A state as the entries take it, with statuses of 16 bits.
+#[derive(Clone, Copy, Debug, PartialEq, Eq)]
+pub struct Lent {
+    pub values: [i16; 32],
+    pub statuses: [u16; 8],
+}
+
+impl Lent {
+    /// What stands in lent memory before START; a refused call must leave it.
+    pub const FILLED: Lent = Lent { values: [-77; 32], statuses: [777; 8] };
+
+    fn of(state: &State) -> Lent {
+        Lent { values: state.values, statuses: state.statuses.map(u16::from) }
+    }
+
+    fn state(&self) -> State {
+        State { values: self.values, statuses: self.statuses.map(|s| u8::try_from(s).expect("a status over 255")) }
+    }
+}
+
+/// The entries on lent memory, as C calls them.
+pub fn start(design: &[u8], lent: &mut Lent) -> u64 {
+    unsafe { stm_start(design.as_ptr(), design.len(), &mut lent.values, &mut lent.statuses) }
+}
+
+pub fn step(design: &[u8], lent: &mut Lent, choice: u64, idle: &mut [u8; 1]) -> u64 {
+    unsafe { stm_step(design.as_ptr(), design.len(), &mut lent.values, &mut lent.statuses, choice, idle) }
+}
+
+pub fn holds(design: &[u8], lent: &Lent, property: u8, holds: &mut [u8; 1]) -> u64 {
+    unsafe { stm_holds(design.as_ptr(), design.len(), &lent.values, &lent.statuses, property, holds) }
+}
+
+pub fn replay(design: &[u8], property: u8, choices: &[u8], answer: &mut [u64; 2]) -> u64 {
+    unsafe { stm_replay(design.as_ptr(), design.len(), property, choices.as_ptr(), choices.len(), answer) }
+}
+
+/// The Replay program: it stands beside the program that runs it.
+fn replay_program() -> io::Result<PathBuf> {
+    Ok(std::env::current_exe()?.with_file_name("replay"))
+}
+
+/// What the Replay program prints for the input.
+fn printed(input: &[u8]) -> io::Result<Vec<u8>> {
+    let mut child = Command::new(replay_program()?).stdin(Stdio::piped()).stdout(Stdio::piped()).spawn()?;
+    // It may end before it has read a design that is too long.
+    let _ = child.stdin.take().map(|mut stdin| stdin.write_all(input));
+    let output = child.wait_with_output()?;
+    if !output.status.success() {
+        return Err(io::Error::other(format!("the Replay program ended with {}", output.status)));
+    }
+    Ok(output.stdout)
+}
+
+fn flag(byte: u8) -> bool {
+    match byte {
+        0 => false,
+        1 => true,
+        _ => panic!("a flag of {byte}"),
     }
 }
 
@@ -37,6 +136,43 @@ impl Operations for Proved {
     fn check(&mut self, design: &[u8]) -> Answer<()> {
         let code = unsafe { stm_check(design.as_ptr(), design.len()) };
         answered(code, || ())
+    }
+
+    fn start(&mut self, design: &[u8]) -> Answer<State> {
+        let mut lent = Lent::FILLED;
+        let code = start(design, &mut lent);
+        unchanged(code, Lent::FILLED, lent);
+        answered(code, || lent.state())
+    }
+
+    fn step(&mut self, design: &[u8], state: &State, choice: u64) -> Answer<Stepped> {
+        let mut lent = Lent::of(state);
+        let mut idle = [7];
+        let code = step(design, &mut lent, choice, &mut idle);
+        unchanged(code, (Lent::of(state), [7]), (lent, idle));
+        answered(code, || Stepped { state: lent.state(), idle: flag(idle[0]) })
+    }
+
+    fn holds(&mut self, design: &[u8], state: &State, property: u8) -> Answer<bool> {
+        let mut answer = [7];
+        let code = holds(design, &Lent::of(state), property, &mut answer);
+        unchanged(code, [7], answer);
+        answered(code, || flag(answer[0]))
+    }
+
+    fn replay(&mut self, design: &[u8], property: u8, choices: &[u8]) -> Answer<Option<u64>> {
+        let mut answer = [7; 2];
+        let code = replay(design, property, choices, &mut answer);
+        unchanged(code, [7; 2], answer);
+        answered(code, || match answer {
+            [0, 0] => None,
+            [1, step] => Some(step),
+            _ => panic!("REPLAY answered {answer:?}"),
+        })
+    }
+
+    fn trace(&mut self, input: &[u8]) -> Answer<Vec<u8>> {
+        printed(input).map_or(Answer::Missing, Answer::Done)
     }
 
     fn solve(&mut self, n: u64, words: &[i32], values: &mut [u8], trail: &mut [u32], budget: u64) -> Answer<Solved> {
@@ -55,5 +191,31 @@ impl Operations for Proved {
             )
         };
         answered(code, || Solved { outcome: OUTCOMES[answer[0] as usize], tries: answer[1] })
+    }
+
+    fn size(&mut self, design: &[u8], property: u8, bound: u8) -> Answer<formula::Size> {
+        formula::size(design, property, bound)
+    }
+
+    fn encode(&mut self, design: &[u8], property: u8, bound: u8, part: u64, clauses: &mut [i32]) -> Answer<u64> {
+        formula::encode(design, property, bound, part, clauses)
+    }
+
+    fn decode(&mut self, design: &[u8], property: u8, bound: u8, values: &[u8], choices: &mut [u8]) -> Answer<()> {
+        formula::decode(design, property, bound, values, choices)
+    }
+
+    fn verdict(
+        &mut self,
+        design: &[u8],
+        property: u8,
+        bound: u8,
+        budget: u64,
+        clauses: &mut [i32],
+        values: &mut [u8],
+        trail: &mut [u32],
+        choices: &mut [u8],
+    ) -> Answer<formula::Verdict> {
+        formula::verdict(design, property, bound, budget, formula::Lent { clauses, values, trail, choices })
     }
 }

@@ -3,10 +3,11 @@
 //!
 //! compare A B [--seed N] [--count N] [--operations check,..] [--require 1,2,..]
 
+use reference::client::Program;
 use reference::generator::{all_operations, Generator};
 use std::collections::BTreeMap;
-use std::io::{BufRead, BufReader, Write};
-use std::process::{Child, ChildStdin, ChildStdout, Command, ExitCode, Stdio};
+use std::io::Write;
+use std::process::{ChildStdin, ExitCode};
 use std::sync::mpsc::{sync_channel, Receiver, SyncSender};
 use std::sync::Arc;
 use std::thread;
@@ -74,43 +75,14 @@ fn compare(settings: &Settings) -> Result<(), String> {
     for program in &mut programs {
         program.stop();
     }
-    compared?;
+    let compared = compared?;
     seen.print();
     seen.check_required(&settings.require)?;
-    println!("no difference in {} requests", settings.count);
+    if compared != settings.count {
+        return Err(format!("only {compared} requests were made"));
+    }
+    println!("no difference in {compared} requests");
     Ok(())
-}
-
-/// A serving program and what it writes.
-struct Program {
-    child: Child,
-    replies: BufReader<ChildStdout>,
-}
-
-impl Program {
-    /// Starts a command given as a path and arguments, parted by spaces.
-    fn start(command: &str) -> Result<Program, String> {
-        let mut words = command.split_whitespace();
-        let path = words.next().ok_or("an empty command")?;
-        let mut command = Command::new(path);
-        command.args(words).stdin(Stdio::piped()).stdout(Stdio::piped());
-        let mut child = command.spawn().map_err(|e| format!("cannot start {path}: {e}"))?;
-        let output = child.stdout.take().ok_or("no output")?;
-        Ok(Program { child, replies: BufReader::with_capacity(1 << 16, output) })
-    }
-
-    fn reply(&mut self) -> String {
-        let mut line = String::new();
-        match self.replies.read_line(&mut line) {
-            Ok(n) if n > 0 => line.trim_end_matches('\n').to_string(),
-            _ => "(the program ended)".to_string(),
-        }
-    }
-
-    fn stop(&mut self) {
-        let _ = self.child.kill();
-        let _ = self.child.wait();
-    }
 }
 
 /// Makes the requests in a thread of its own and writes them to both programs
@@ -122,7 +94,7 @@ fn send_requests(
     programs: &mut [Program; 2],
 ) -> Receiver<Arc<String>> {
     let writers: Vec<SyncSender<Arc<String>>> =
-        programs.iter_mut().filter_map(|p| p.child.stdin.take()).map(write_requests).collect();
+        programs.iter_mut().filter_map(Program::take_input).map(write_requests).collect();
     let (own, requests) = sync_channel(QUEUE);
     thread::spawn(move || {
         for _ in 0..count {
@@ -152,7 +124,8 @@ fn compare_replies(
     requests: &Receiver<Arc<String>>,
     programs: &mut [Program; 2],
     seen: &mut Seen,
-) -> Result<(), String> {
+) -> Result<u64, String> {
+    let mut compared = 0;
     for (index, request) in requests.iter().enumerate() {
         let replies = [programs[0].reply(), programs[1].reply()];
         let shown = || format!("request {index}: {request}\nA: {}\nB: {}", replies[0], replies[1]);
@@ -163,8 +136,9 @@ fn compare_replies(
             return Err(format!("no answer\n{}", shown()));
         }
         seen.add(&request, &replies[0]);
+        compared += 1;
     }
-    Ok(())
+    Ok(compared)
 }
 
 /// What kinds of requests and replies came.

@@ -1,5 +1,6 @@
 //! Requests for the operations on a design.
 
+use super::known::any_known;
 use super::trees::{
     any_plan, breakable, chain_design, crowded_plan, deep_plan, design, number, tiny_plan, Plan,
 };
@@ -78,7 +79,7 @@ pub fn decode(random: &mut Random) -> String {
     let bound = affordable_bound(&design, property, random.between(0, 6), |n, _| n <= MAX_VALUES);
     let mut values = flagged_values(random, &design, property & 1, bound);
     if random.chance(30) {
-        values.truncate(length_near(random, values.len()));
+        values.resize(length_near(random, values.len()), 255);
     }
     let bound = if random.chance(5) { random.pick(&[100, 101, 255]) } else { bound };
     let choices = length_near(random, bound as usize);
@@ -131,7 +132,7 @@ fn affordable_bound(
 }
 
 /// The tries of VERDICT with no budget set, where they are few.
-fn exact_tries(design: &Design, property: u8, bound: u8) -> Option<u64> {
+pub fn exact_tries(design: &Design, property: u8, bound: u8) -> Option<u64> {
     let size = Formula::new(design, property, bound).size();
     let n = size.variables as usize;
     let lent = Lent {
@@ -152,7 +153,7 @@ fn any_design(random: &mut Random) -> (Design, Vec<u8>) {
         return (design, file);
     }
     let plan = any_plan(random);
-    let design = accepted(random, plan);
+    let design = if random.chance(5) { any_known(random) } else { accepted(random, plan) };
     let file = file_or_fault(random, &design);
     (design, file)
 }
@@ -164,14 +165,20 @@ fn small_design(random: &mut Random) -> (Design, Vec<u8>) {
     (design, file)
 }
 
-/// Mostly a small design; else one with deep trees or many movers.
-fn design_to_encode(random: &mut Random) -> (Design, Vec<u8>) {
-    let plan = match random.below(20) {
-        0 | 1 => deep_plan(random),
-        2 => crowded_plan(random),
+/// Mostly a small design; else one with deep trees or many movers, or a known one.
+pub fn design_to_encode(random: &mut Random) -> (Design, Vec<u8>) {
+    let design = match random.below(20) {
+        0 | 1 => {
+            let plan = deep_plan(random);
+            accepted(random, plan)
+        }
+        2 => {
+            let plan = crowded_plan(random);
+            accepted(random, plan)
+        }
+        3 => any_known(random),
         _ => return small_design(random),
     };
-    let design = accepted(random, plan);
     let file = file_or_fault(random, &design);
     (design, file)
 }

@@ -1,24 +1,50 @@
 //! Requests for SOLVE: short clause lists, good and bad ones.
 
 use super::calls::{budget_near, length_near};
+use super::trees::chain_design;
+use crate::formula::Formula;
 use crate::protocol::list_text;
 use crate::random::Random;
-use crate::search::solve as solve_list;
+use crate::search::{solve as solve_list, Outcome};
 
 const MAX_VARIABLES: usize = 12;
 
+/// The tries of a request's search are at most these, but for lists of few variables.
+const MAX_TRIES: u64 = 100;
+
 pub fn solve(random: &mut Random) -> String {
-    let n = random.between(0, MAX_VARIABLES);
-    let mut words = clause_list(random, n);
-    let exact = exact_tries(n, &words);
+    let (count, mut words) = any_list(random);
+    let exact = exact_tries(count, &words);
     if random.chance(20) {
-        list_fault(random, n, &mut words);
+        list_fault(random, count, &mut words);
     }
-    let n = if random.chance(4) { far_count(random) } else { n as u64 };
-    let budget = budget_near(random, exact);
-    let lent = n.min(MAX_VARIABLES as u64) as usize;
-    let (values, trail) = (length_near(random, lent), length_near(random, lent));
+    let n = if random.chance(4) { far_count(random) } else { count as u64 };
+    let budget = match exact {
+        Some(tries) => budget_near(random, tries),
+        None => random.below(MAX_TRIES as usize) as u64,
+    };
+    let (values, trail) = (length_near(random, count), length_near(random, count));
     format!("solve {n} {} {values} {trail} {budget}", list_text(&words))
+}
+
+/// The number of variables and the words of a short list, or of a small formula.
+fn any_list(random: &mut Random) -> (usize, Vec<i32>) {
+    if random.chance(5) {
+        return formula_list(random);
+    }
+    let n = random.between(0, MAX_VARIABLES);
+    (n, clause_list(random, n))
+}
+
+fn formula_list(random: &mut Random) -> (usize, Vec<i32>) {
+    let design = chain_design(random);
+    let formula = Formula::new(&design, random.below(2) as u8, random.between(0, 2) as u8);
+    let mut words = vec![0; formula.size().words as usize];
+    let mut at = 0;
+    for part in 0..=formula.last_part() {
+        at += formula.write_part(part, &mut words[at..]) as usize;
+    }
+    (formula.variables() as usize, words)
 }
 
 /// Some lists have so few clauses that they are SAT, some so many that not.
@@ -55,9 +81,12 @@ fn literal(random: &mut Random, n: usize) -> i32 {
     }
 }
 
-fn exact_tries(n: usize, words: &[i32]) -> u64 {
+/// The tries with no budget set, where they are few.
+fn exact_tries(n: usize, words: &[i32]) -> Option<u64> {
     let (mut values, mut trail) = (vec![0; n], vec![0; n]);
-    solve_list(n as u64, words, &mut values, &mut trail, u64::MAX).map_or(0, |s| s.tries)
+    let budget = if n > MAX_VARIABLES { MAX_TRIES } else { u64::MAX };
+    let solved = solve_list(n as u64, words, &mut values, &mut trail, budget).ok()?;
+    (solved.outcome != Outcome::Spent).then_some(solved.tries)
 }
 
 fn list_fault(random: &mut Random, n: usize, words: &mut Vec<i32>) {

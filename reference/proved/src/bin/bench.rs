@@ -1,51 +1,47 @@
 //! Benchmarks: each job runs on the proved archive and on the second implementation in one process, and the ratio of the two
 //! times is printed. Times of one machine mean little elsewhere; the ratios are what to compare.
 
+use proved::timing::{make, note, report, seconds};
 use proved::Proved;
-use reference::design::{Boolean, Design, Integer};
-use reference::designs::{all_files, design_a};
+use reference::builder::file_bytes;
+use reference::design::{Boolean, Design, Integer, MAX_MOVERS};
+use reference::designs::{all_files, design_a, money_changer, Property, Version};
 use reference::formula::Formula;
+use reference::generator::trees::{crowded_plan, design, Plan};
 use reference::operations::{Answer, Operations, Reference};
+use reference::random::Random;
 use reference::search::Solved;
+use reference::step::MAX_CHOICES;
 use std::hint::black_box;
 use std::process::{Command, Stdio};
-use std::time::{Duration, Instant};
-
-/// How long each side of a job is repeated.
-const TIME: Duration = Duration::from_millis(300);
-
-/// Seconds that one call takes, by the fastest of five rounds.
-fn seconds(mut call: impl FnMut()) -> f64 {
-    let mut calls = 1u32;
-    loop {
-        let start = Instant::now();
-        (0..calls).for_each(|_| call());
-        let time = start.elapsed();
-        if time * 5 > TIME {
-            break;
-        }
-        calls *= 2;
-    }
-    let round = || {
-        let start = Instant::now();
-        (0..calls).for_each(|_| call());
-        start.elapsed().as_secs_f64() / f64::from(calls)
-    };
-    std::iter::repeat_with(round).take(5).fold(f64::INFINITY, f64::min)
-}
-
-/// A result that only has to be made.
-fn consume<T>(_: T) {}
-
-/// A line of the report: below 1 the proved side is faster.
-fn report(job: &str, proved: f64, reference: f64) {
-    println!("{job:<44} proved {:>10.2} us   reference {:>10.2} us   ratio {:.2}", proved * 1e6, reference * 1e6, proved / reference);
-}
+use std::time::Instant;
 
 fn check(name: &str, design: &[u8]) {
-    let proved = seconds(|| consume(black_box(Proved.check(black_box(design)))));
-    let reference = seconds(|| consume(black_box(Reference.check(black_box(design)))));
+    let [proved, reference] =
+        seconds([&mut || make(Proved.check(black_box(design))), &mut || make(Reference.check(black_box(design)))]);
     report(&format!("CHECK {name}"), proved, reference);
+}
+
+/// REPLAY of as many choices as it takes; a list that breaks nothing, so that no side may stop early.
+fn replay(name: &str, design: &Design) {
+    let file = file_bytes(design);
+    let movers = design.movers().len();
+    let mut random = Random::new(1);
+    let choices: Vec<u8> = (0..MAX_CHOICES).map(|_| random.below(movers) as u8).collect();
+    assert_eq!(Proved.replay(&file, 0, &choices), Answer::Done(None));
+    let [proved, reference] = seconds([
+        &mut || make(Proved.replay(black_box(&file), 0, black_box(&choices))),
+        &mut || make(Reference.replay(black_box(&file), 0, black_box(&choices))),
+    ]);
+    report(&format!("REPLAY {name}, {MAX_CHOICES} choices"), proved, reference);
+}
+
+/// A design of the most movers, whose invariant nothing breaks.
+fn crowded() -> Design {
+    let mut random = Random::new(1);
+    let plan = Plan { movers: MAX_MOVERS, variables: 3, integer_percent: 50, depth: 3, statements: 2, ..crowded_plan(&mut random) };
+    let never = Boolean::Less(Integer::Status(0), Integer::Constant(16));
+    Design { invariant: never, ..design(&mut random, plan) }
 }
 
 /// Design A with an invariant that no short run breaks.
@@ -64,23 +60,34 @@ fn formula(design: &Design, bound: u8) -> (u64, Vec<i32>) {
     (formula.variables(), words)
 }
 
-fn solved(operations: &mut impl Operations, n: u64, words: &[i32], values: &mut [u8], trail: &mut [u32]) -> Solved {
-    match operations.solve(n, words, values, trail, u64::MAX) {
-        Answer::Done(solved) => solved,
-        _ => panic!("SOLVE refused a formula"),
+/// Memory for SOLVE.
+#[derive(Clone)]
+struct Memory {
+    values: Vec<u8>,
+    trail: Vec<u32>,
+}
+
+impl Memory {
+    fn solve(&mut self, operations: &mut impl Operations, n: u64, words: &[i32]) -> Solved {
+        match operations.solve(n, words, &mut self.values, &mut self.trail, u64::MAX) {
+            Answer::Done(solved) => solved,
+            _ => panic!("SOLVE refused a formula"),
+        }
     }
 }
 
 fn solve(name: &str, design: &Design, bound: u8) {
     let (n, words) = formula(design, bound);
-    let mut values = vec![0; n as usize];
-    let mut trail = vec![0; n as usize];
-    let tries = solved(&mut Proved, n, &words, &mut values, &mut trail).tries;
-    assert_eq!(tries, solved(&mut Reference, n, &words, &mut values, &mut trail).tries);
-    let proved = seconds(|| consume(black_box(solved(&mut Proved, n, black_box(&words), &mut values, &mut trail))));
-    let reference = seconds(|| consume(black_box(solved(&mut Reference, n, black_box(&words), &mut values, &mut trail))));
+    let mut first = Memory { values: vec![0; n as usize], trail: vec![0; n as usize] };
+    let mut second = first.clone();
+    let tries = first.solve(&mut Proved, n, &words).tries;
+    assert_eq!(tries, second.solve(&mut Reference, n, &words).tries);
+    let [proved, reference] = seconds([
+        &mut || make(first.solve(&mut Proved, n, black_box(&words))),
+        &mut || make(second.solve(&mut Reference, n, black_box(&words))),
+    ]);
     report(&format!("SOLVE {name}, bound {bound}, {tries} tries"), proved, reference);
-    println!("{:<44} {:.0} tries a second{}", "", tries as f64 / proved, minisat(n, &words));
+    note(&format!("{:.0} tries a second{}", tries as f64 / proved, minisat(n, &words)));
 }
 
 /// For scale, what minisat takes for the same clauses as a process of its own, where it is installed.
@@ -106,6 +113,9 @@ fn main() {
     for (name, design) in all_files().iter().take(2) {
         check(name, design);
     }
+    replay("design-a, clean", &clean_a());
+    replay("money-changer, revised", &money_changer(Version::Revised, Property::Uic1));
+    replay("64 movers", &crowded());
     for bound in 1..=6 {
         solve("design-a", &design_a(), bound);
     }

@@ -1,0 +1,744 @@
+/* fuzz: calls the entries, and the program stm, on whole and damaged designs. Lent memory stands against a page that may not be
+ * touched, so that a read or write past it ends the program, also in code that no sanitizer has seen.
+ *
+ * fuzz SEED COUNT OPERATIONS FILE..      OPERATIONS as check,solve,stm; FILE a design
+ */
+#define _GNU_SOURCE
+#include <stdio.h>
+
+/* The program's own main, with its messages put where its output goes. */
+#define main stm_main
+#undef stderr
+#define stderr stdout
+#include "stm.c"
+#undef main
+#undef stderr
+
+#include <stdarg.h>
+#include <sys/mman.h>
+#include <unistd.h>
+
+static FILE *report;
+static uint64_t seed, calls;
+
+/* Calls by name, and how many of them were refused. */
+enum { MAX_NAMES = 16 };
+static struct tally {
+    const char *name;
+    uint64_t calls, refused;
+} tallies[MAX_NAMES];
+
+static void fault(const char *format, ...)
+{
+    va_list arguments;
+    va_start(arguments, format);
+    fprintf(report, "fault, seed %" PRIu64 ", call %" PRIu64 ": ", seed, calls);
+    vfprintf(report, format, arguments);
+    fprintf(report, "\n");
+    va_end(arguments);
+    fclose(report);
+    _exit(1);
+}
+
+static void count_call(const char *name, int was_refused)
+{
+    struct tally *t = tallies;
+    while (t->name && strcmp(t->name, name))
+        t++;
+    t->name = name;
+    t->calls++;
+    t->refused += was_refused != 0;
+    calls++;
+}
+
+/* Seeded numbers: the splitmix64 sequence. */
+static uint64_t state;
+
+static uint64_t word(void)
+{
+    uint64_t z = state += 0x9e3779b97f4a7c15u;
+    z = (z ^ (z >> 30)) * 0xbf58476d1ce4e5b9u;
+    z = (z ^ (z >> 27)) * 0x94d049bb133111ebu;
+    return z ^ (z >> 31);
+}
+
+static size_t below(size_t limit)
+{
+    return (size_t)(word() % limit);
+}
+
+static int chance(unsigned percent)
+{
+    return below(100) < percent;
+}
+
+#define PICK(...) (((const uint64_t[]){__VA_ARGS__})[below(sizeof((const uint64_t[]){__VA_ARGS__}) / sizeof(uint64_t))])
+
+/* Lent memory. */
+enum { MARGIN = 64, PAGE = 4096 };
+
+struct lent {
+    const char *name;
+    size_t capacity;
+    uint8_t *base, *copy;
+    uint8_t *at, *margin;
+    size_t bytes, margin_len;
+    uint8_t fill;
+};
+
+enum { DESIGN, VALUES, STATUSES, ANSWER, CHOICES, CLAUSES, ASSIGNED, TRAIL, REGIONS };
+
+static struct lent regions[REGIONS] = {
+    [DESIGN] = {.name = "design", .capacity = 8 * PAGE},   [VALUES] = {.name = "values", .capacity = PAGE},
+    [STATUSES] = {.name = "statuses", .capacity = PAGE},   [ANSWER] = {.name = "answer", .capacity = PAGE},
+    [CHOICES] = {.name = "choices", .capacity = PAGE},     [CLAUSES] = {.name = "clauses", .capacity = 512 * PAGE},
+    [ASSIGNED] = {.name = "values", .capacity = 64 * PAGE}, [TRAIL] = {.name = "trail", .capacity = 256 * PAGE},
+};
+
+static void open_regions(void)
+{
+    for (size_t i = 0; i < REGIONS; i++) {
+        struct lent *l = &regions[i];
+        uint8_t *all = mmap(NULL, l->capacity + 2 * PAGE, PROT_NONE, MAP_PRIVATE | MAP_ANONYMOUS, -1, 0);
+        if (all == MAP_FAILED || mprotect(all + PAGE, l->capacity, PROT_READ | PROT_WRITE))
+            fault("no memory");
+        l->base = all + PAGE;
+        l->copy = malloc(l->capacity);
+        if (!l->copy)
+            fault("no memory");
+    }
+}
+
+/* So many bytes of a region, at its end or at its start, filled with one value together with what is next to them. */
+static void *lent(size_t region, size_t bytes)
+{
+    struct lent *l = &regions[region];
+    if (bytes > l->capacity)
+        fault("%s: %zu bytes are asked for", l->name, bytes);
+    size_t room = l->capacity - bytes, margin = room < MARGIN ? room : MARGIN;
+    int at_end = chance(80);
+    l->bytes = bytes;
+    l->at = at_end ? l->base + room : l->base;
+    l->margin = at_end ? l->at - margin : l->at + bytes;
+    l->margin_len = margin;
+    l->fill = (uint8_t)PICK(0, 1, 2, 0x5a, 0xff);
+    memset(l->at, l->fill, bytes);
+    memset(l->margin, l->fill, margin);
+    return l->at;
+}
+
+/* Remembers what a region holds before a call. */
+static void keep(size_t region)
+{
+    struct lent *l = &regions[region];
+    memcpy(l->copy, l->at, l->bytes);
+}
+
+/* Whether the bytes from `from` on are as they were. */
+static void same(size_t region, size_t from, const char *call)
+{
+    struct lent *l = &regions[region];
+    if (from < l->bytes && memcmp(l->copy + from, l->at + from, l->bytes - from))
+        fault("%s: %s has changed", call, l->name);
+}
+
+/* Nothing next to a region has been written; on its other side no page may be touched. */
+static void margins(size_t region, const char *call)
+{
+    struct lent *l = &regions[region];
+    for (size_t i = 0; i < l->margin_len; i++)
+        if (l->margin[i] != l->fill)
+            fault("%s: bytes next to %s have changed", call, l->name);
+}
+
+/* The end of a call: a refused one has changed nothing. `writable` is a set of regions that it may write. */
+static void ended(const char *call, uint64_t code, unsigned readable, unsigned writable)
+{
+    count_call(call, code != 0);
+    for (size_t i = 0; i < REGIONS; i++) {
+        if ((readable | writable) >> i & 1)
+            margins(i, call);
+        if (readable >> i & 1 || (code && writable >> i & 1))
+            same(i, 0, call);
+    }
+}
+
+static void require(int true_, const char *call, const char *what, uint64_t code)
+{
+    if (!true_)
+        fault("%s: %s (code %" PRIu64 ")", call, what, code);
+}
+
+#define SET(region) (1u << (region))
+
+/* Designs: the given files, and the one under test, whole or damaged. */
+enum { MAX_FILES = 64, MAX_DESIGN = 20000 };
+static uint8_t *files[MAX_FILES];
+static size_t file_lens[MAX_FILES], file_count;
+static uint8_t draft[MAX_DESIGN + 512];
+static size_t draft_len;
+static uint8_t *design;
+static size_t design_len;
+static uint64_t design_code;
+
+static void read_file(const char *path)
+{
+    FILE *f = fopen(path, "rb");
+    if (!f || file_count == MAX_FILES)
+        fault("cannot open %s", path);
+    uint8_t *bytes = malloc(MAX_DESIGN);
+    if (!bytes)
+        fault("no memory");
+    file_lens[file_count] = fread(bytes, 1, MAX_DESIGN, f);
+    files[file_count++] = bytes;
+    fclose(f);
+}
+
+static uint8_t likely_byte(void)
+{
+    return (uint8_t)PICK(0, 1, 2, 3, 4, 5, 6, 8, 9, 0x10, 0x11, 0x12, 0x13, 0x14, 0x15, 0x16, 0x17, 0x20, 0x21, 0x22, 32, 33, 255);
+}
+
+/* A field of the trailer goes up or down, or becomes any number. */
+static void damage_trailer(void)
+{
+    if (draft_len < 16)
+        return;
+    uint8_t *field = draft + draft_len - 16 + 2 * below(8);
+    unsigned n = field[0] + 256u * field[1];
+    n = chance(70) ? n + (unsigned)PICK(1, 2, 0xffff, 0xfffe, 256) : (unsigned)word();
+    field[0] = (uint8_t)n;
+    field[1] = (uint8_t)(n >> 8);
+}
+
+/* A run of bytes of another design. */
+static void splice(void)
+{
+    size_t from = below(file_count), len = below(64);
+    if (file_lens[from] < len || draft_len < len || len == 0)
+        return;
+    memcpy(draft + below(draft_len - len + 1), files[from] + below(file_lens[from] - len + 1), len);
+}
+
+/* A byte more or less, with the trailer kept at the end. */
+static void shift(void)
+{
+    if (draft_len < 17)
+        return;
+    size_t at = below(draft_len - 16);
+    if (chance(50)) {
+        memmove(draft + at + 1, draft + at, draft_len - at);
+        draft[at] = likely_byte();
+        draft_len++;
+    } else {
+        memmove(draft + at, draft + at + 1, draft_len - at - 1);
+        draft_len--;
+    }
+}
+
+static void damage(void)
+{
+    switch (below(10)) {
+    case 0:
+    case 1:
+        damage_trailer();
+        break;
+    case 2:
+        splice();
+        break;
+    case 3:
+        shift();
+        break;
+    case 4:
+        draft_len = below(draft_len + 1);
+        break;
+    case 5:
+    case 6:
+        if (draft_len)
+            draft[below(draft_len)] = likely_byte();
+        break;
+    case 7:
+        if (draft_len)
+            draft[below(draft_len)] = (uint8_t)word();
+        break;
+    default:
+        if (draft_len)
+            draft[below(draft_len)] ^= (uint8_t)(1u << below(8));
+    }
+}
+
+/* A file of an edge length, its trailer in part a right one. */
+static void edge_design(void)
+{
+    draft_len = (size_t)PICK(0, 1, 15, 16, 17, 32, 16383, 16384, 16385, 20000);
+    for (size_t i = 0; i < draft_len; i++)
+        draft[i] = likely_byte();
+    if (draft_len >= 16 && chance(70))
+        memcpy(draft + draft_len - 16, "\1\0\0\0\0\0\1\0\2\0\5\0\0\0\5\0", 16);
+}
+
+static void next_design(void)
+{
+    if (chance(3)) {
+        edge_design();
+    } else {
+        size_t from = below(file_count);
+        draft_len = file_lens[from];
+        memcpy(draft, files[from], draft_len);
+        if (chance(45))
+            for (size_t i = 0, n = 1 + below(4); i < n; i++)
+                damage();
+    }
+    design = lent(DESIGN, draft_len);
+    design_len = draft_len;
+    memcpy(design, draft, draft_len);
+    keep(DESIGN);
+    design_code = stm_check(design, design_len);
+    ended("check", design_code, SET(DESIGN), 0);
+    require((design_code == 0) || (STM_NUMBER(design_code) >= 1 && STM_NUMBER(design_code) <= 10), "check", "no such refusal", design_code);
+}
+
+/* What a call with a property and a bound is refused for, before its own reasons. */
+static uint64_t first_refusal(uint8_t property, uint8_t bound)
+{
+    return design_code ? design_code : property > 1 ? 13 : bound > 100 ? 14 : 0;
+}
+
+static uint8_t any_property(void)
+{
+    return (uint8_t)PICK(0, 0, 0, 0, 1, 1, 1, 1, 2, 255);
+}
+
+static uint8_t any_bound(void)
+{
+    return (uint8_t)PICK(0, 0, 1, 1, 2, 2, 3, 4, 5, 99, 100, 101, 255);
+}
+
+/* A little less, exactly, or more than what is needed. */
+static size_t near(size_t len)
+{
+    switch (below(8)) {
+    case 0:
+        return len ? len - 1 : 0;
+    case 1:
+        return below(len + 1);
+    case 2:
+        return len + below(10);
+    default:
+        return len;
+    }
+}
+
+static void call_check(void)
+{
+    uint64_t code = stm_check(design, design_len);
+    ended("check", code, SET(DESIGN), 0);
+    require(code == design_code, "check", "another answer", code);
+}
+
+/* A state in lent memory: the first one, which is in `values` and `statuses`, with some entries changed. */
+static void any_state(int16_t *values, uint16_t *statuses)
+{
+    memset(values, 0, STM_VALUES * sizeof *values);
+    memset(statuses, 0, STM_STATUSES * sizeof *statuses);
+    if (chance(90))
+        stm_start(design, design_len, values, statuses);
+    for (size_t i = 0, n = below(3); i < n; i++)
+        values[chance(80) ? below(4) : below(STM_VALUES)] = (int16_t)PICK(0, 0, 1, 1, 1, 2, 0x7fff, 0x8000, 0xffff);
+    if (chance(40))
+        statuses[chance(80) ? below(2) : below(STM_STATUSES)] = (uint16_t)PICK(0, 0, 1, 1, 1, 2, 3, 15, 16, 255, 256, 65535);
+    keep(VALUES);
+    keep(STATUSES);
+}
+
+static void call_start(void)
+{
+    int16_t *values = lent(VALUES, STM_VALUES * sizeof *values);
+    uint16_t *statuses = lent(STATUSES, STM_STATUSES * sizeof *statuses);
+    keep(VALUES);
+    keep(STATUSES);
+    uint64_t code = stm_start(design, design_len, values, statuses);
+    ended("start", code, SET(DESIGN), SET(VALUES) | SET(STATUSES));
+    require(code == design_code, "start", "not CHECK's refusal", code);
+}
+
+/* No matrix has more than 16 statuses, so the call on such a state is refused. */
+static int high_status(const uint16_t *statuses)
+{
+    for (size_t i = 0; i < STM_STATUSES; i++)
+        if (statuses[i] > 15)
+            return 1;
+    return 0;
+}
+
+static void call_step(void)
+{
+    int16_t *values = lent(VALUES, STM_VALUES * sizeof *values);
+    uint16_t *statuses = lent(STATUSES, STM_STATUSES * sizeof *statuses);
+    uint8_t *idle = lent(ANSWER, 1);
+    any_state(values, statuses);
+    keep(ANSWER);
+    uint64_t choice = chance(90) ? below(chance(80) ? 4 : 12) : PICK(63, 64, 255, 256, (uint64_t)1 << 32, UINT64_MAX);
+    int high = high_status(statuses);
+    uint64_t code = stm_step(design, design_len, values, statuses, choice, idle);
+    ended("step", code, SET(DESIGN), SET(VALUES) | SET(STATUSES) | SET(ANSWER));
+    require(!design_code || code == design_code, "step", "not CHECK's refusal", code);
+    require(design_code || code == 0 || code == 12 || STM_NUMBER(code) == 11, "step", "no such refusal", code);
+    require(design_code || !high || STM_NUMBER(code) == 11, "step", "takes a status over 15", code);
+    if (code == 0 && idle[0] == 1) {
+        same(VALUES, 0, "an idle step");
+        same(STATUSES, 0, "an idle step");
+    }
+    require(code || idle[0] <= 1, "step", "idle is not 0 or 1", idle[0]);
+}
+
+static void call_holds(void)
+{
+    int16_t *values = lent(VALUES, STM_VALUES * sizeof *values);
+    uint16_t *statuses = lent(STATUSES, STM_STATUSES * sizeof *statuses);
+    uint8_t *holds = lent(ANSWER, 1), property = any_property();
+    any_state(values, statuses);
+    keep(ANSWER);
+    uint64_t code = stm_holds(design, design_len, values, statuses, property, holds);
+    ended("holds", code, SET(DESIGN) | SET(VALUES) | SET(STATUSES), SET(ANSWER));
+    require(!design_code || code == design_code, "holds", "not CHECK's refusal", code);
+    require(design_code || code == 0 || STM_NUMBER(code) == 11 || (property > 1 && code == 13), "holds", "no such refusal", code);
+    require(design_code || !high_status(statuses) || STM_NUMBER(code) == 11, "holds", "takes a status over 15", code);
+    require(code || holds[0] <= 1, "holds", "not 0 or 1", holds[0]);
+}
+
+/* A list for REPLAY. */
+static size_t any_choices(uint8_t **choices)
+{
+    size_t len = chance(90) ? below(9) : (size_t)PICK(50, 99, 100, 101, 102, 4096);
+    *choices = lent(CHOICES, len);
+    for (size_t i = 0; i < len; i++)
+        (*choices)[i] = (uint8_t)below(chance(98) ? 3 : 256);
+    keep(CHOICES);
+    return len;
+}
+
+static void call_replay(void)
+{
+    uint8_t property = any_property(), *choices;
+    size_t len = any_choices(&choices);
+    uint64_t *answer = lent(ANSWER, 2 * sizeof *answer);
+    keep(ANSWER);
+    uint64_t code = stm_replay(design, design_len, property, choices, len, answer);
+    ended("replay", code, SET(DESIGN) | SET(CHOICES), SET(ANSWER));
+    uint64_t first = first_refusal(property, len > 100 ? 101 : 0);
+    require(!first || code == first, "replay", "not the first refusal", code);
+    require(first || code == 0 || (STM_NUMBER(code) == 12 && STM_PLACE(code) < len), "replay", "no such refusal", code);
+    require(code || (answer[0] <= 1 && answer[1] <= len), "replay", "no such step", answer[1]);
+}
+
+/* SIZE, whose answer other calls use: 1 where it is not refused. */
+static int sizes_of(uint8_t property, uint8_t bound, uint64_t sizes[SIZE_LEN])
+{
+    uint64_t *answer = lent(ANSWER, SIZE_LEN * sizeof *answer);
+    keep(ANSWER);
+    uint64_t code = stm_size(design, design_len, property, bound, answer);
+    ended("size", code, SET(DESIGN), SET(ANSWER));
+    require(code == first_refusal(property, bound), "size", "not the first refusal", code);
+    if (code == 0)
+        memcpy(sizes, answer, SIZE_LEN * sizeof *answer);
+    return code == 0;
+}
+
+static void call_size(void)
+{
+    uint64_t sizes[SIZE_LEN];
+    if (!sizes_of(any_property(), any_bound(), sizes))
+        return;
+    require(sizes[2] >= 1 && sizes[2] <= 64 && sizes[SIZE_VARIABLES] < (uint64_t)1 << 31, "size", "out of range", sizes[SIZE_VARIABLES]);
+}
+
+/* One part into memory of some length. Answers the words written. */
+static uint64_t encode(uint8_t property, uint8_t bound, uint64_t part, size_t len)
+{
+    int32_t *clauses = lent(CLAUSES, len * sizeof *clauses);
+    uint64_t *answer = lent(ANSWER, sizeof *answer);
+    keep(CLAUSES);
+    keep(ANSWER);
+    uint64_t code = stm_encode(design, design_len, property, bound, part, clauses, len, answer);
+    ended("encode", code, SET(DESIGN), SET(CLAUSES) | SET(ANSWER));
+    uint64_t first = first_refusal(property, bound);
+    first = first ? first : part > (uint64_t)bound + 2 ? 15 : 0;
+    require(first ? code == first : code == 0 || code == 16, "encode", "not the first refusal", code);
+    if (code)
+        return 0;
+    require(answer[0] >= 1 || (part == (uint64_t)bound + 1), "encode", "an empty part", answer[0]);
+    require(answer[0] <= len && (answer[0] == 0 || clauses[answer[0] - 1] == 0), "encode", "no closing 0", answer[0]);
+    same(CLAUSES, (size_t)answer[0] * sizeof *clauses, "encode");
+    return answer[0];
+}
+
+enum { MAX_WORDS = 512 * PAGE / 4 };
+
+static void call_encode(void)
+{
+    uint8_t property = any_property(), bound = any_bound();
+    uint64_t last = (uint64_t)bound + 2;
+    uint64_t part = chance(80) ? below((size_t)last + 1) : PICK(last + 1, 255, 256, (uint64_t)1 << 32, UINT64_MAX);
+    encode(property, bound, part, below(chance(50) ? 2000 : 40000));
+}
+
+/* Every part into memory that just suffices, and into memory short by one word. */
+static void call_parts(void)
+{
+    uint8_t property = (uint8_t)below(2), bound = (uint8_t)below(3);
+    uint64_t sizes[SIZE_LEN], total = 0;
+    if (!sizes_of(property, bound, sizes) || sizes[SIZE_WORDS] > MAX_WORDS / 8)
+        return;
+    for (uint64_t part = 0; part <= (uint64_t)bound + 2; part++) {
+        size_t words = (size_t)encode(property, bound, part, (size_t)sizes[SIZE_WORDS]);
+        require(encode(property, bound, part, words) == words, "encode", "another length", words);
+        require(words == 0 || encode(property, bound, part, words - 1) == 0, "encode", "short memory is not refused", words);
+        total += words;
+    }
+    require(total == sizes[SIZE_WORDS], "encode", "not SIZE's words", total);
+}
+
+static size_t any_list(size_t n, int32_t *words)
+{
+    size_t len = 0;
+    for (size_t i = 0, clauses = below(1 + 4 * n); i < clauses; i++) {
+        for (size_t k = below(4); k > 0 && n > 0; k--)
+            words[len++] = (int32_t)(1 + below(n)) * (chance(50) ? 1 : -1);
+        if (chance(99) || len == 0)
+            words[len++] = 0;
+    }
+    if (len && chance(10))
+        words[below(len)] = (int32_t)PICK(0, 13, 0x7fffffff, 0x80000000u, 0xffffffffu);
+    return len;
+}
+
+static void call_solve(void)
+{
+    static int32_t list[400];
+    size_t count = below(13), len = any_list(count, list);
+    uint64_t n = chance(97) ? count : PICK(13, 0x7fffffff, 0x80000000u, (uint64_t)1 << 32, UINT64_MAX);
+    int32_t *words = lent(CLAUSES, len * sizeof *words);
+    memcpy(words, list, len * sizeof *words);
+    size_t values_len = near(count), trail_len = near(count);
+    uint8_t *values = lent(ASSIGNED, values_len);
+    uint32_t *trail = lent(TRAIL, trail_len * sizeof *trail);
+    uint64_t *answer = lent(ANSWER, 2 * sizeof *answer), budget = PICK(0, 1, 2, 5, 20, 100, UINT64_MAX);
+    keep(CLAUSES);
+    keep(ASSIGNED);
+    keep(TRAIL);
+    keep(ANSWER);
+    uint64_t code = stm_solve(n, words, len, values, values_len, trail, trail_len, budget, answer);
+    ended("solve", code, SET(CLAUSES), SET(ASSIGNED) | SET(TRAIL) | SET(ANSWER));
+    require(code == 0 || code == 16 || STM_NUMBER(code) == 17, "solve", "no such refusal", code);
+    if (code)
+        return;
+    same(ASSIGNED, (size_t)n, "solve");
+    same(TRAIL, (size_t)n * sizeof *trail, "solve");
+    for (size_t i = 0; i < n; i++)
+        require(trail[i] == 0 && values[i] <= (answer[0] == 0), "solve", "leaves other values", values[i]);
+    require(answer[0] <= 2 && answer[1] <= budget, "solve", "no such answer", answer[0]);
+}
+
+/* A few frames' worth of values, of which some are flags. */
+static void call_decode(void)
+{
+    uint8_t property = any_property(), bound = any_bound();
+    uint64_t sizes[SIZE_LEN] = {0};
+    int known = sizes_of(property, bound, sizes);
+    size_t n = sizes[SIZE_VARIABLES] > 60000 ? 60000 : (size_t)sizes[SIZE_VARIABLES];
+    size_t values_len = near(n), choices_len = near(bound);
+    uint8_t *values = lent(ASSIGNED, values_len);
+    memset(values, 0, values_len);
+    size_t frame = (size_t)(sizes[0] + sizes[1] + sizes[2] + sizes[3]), first = (size_t)(1 + sizes[0] + sizes[1]);
+    for (size_t j = 0; known && j < bound; j++) {
+        size_t at = first + j * frame + below((size_t)sizes[2]);
+        if (at < values_len)
+            values[at] = chance(97) ? 1 : (uint8_t)PICK(0, 2, 255);
+    }
+    uint8_t *choices = lent(CHOICES, choices_len);
+    keep(ASSIGNED);
+    keep(CHOICES);
+    uint64_t code = stm_decode(design, design_len, property, bound, values, values_len, choices, choices_len);
+    ended("decode", code, SET(DESIGN) | SET(ASSIGNED), SET(CHOICES));
+    uint64_t refusal = first_refusal(property, bound);
+    int short_ = values_len < sizes[SIZE_VARIABLES] || choices_len < bound;
+    refusal = refusal ? refusal : short_ ? 16 : 0;
+    require(refusal ? code == refusal : code == 0 || STM_NUMBER(code) == 18, "decode", "not the first refusal", code);
+    if (code)
+        return;
+    same(CHOICES, bound, "decode");
+    for (size_t j = 0; j < bound; j++)
+        require(choices[j] < sizes[2], "decode", "no such mover", choices[j]);
+}
+
+/* A search over a formula is affordable below this product of its variables and words. */
+static const uint64_t MAX_SEARCH = 3000000;
+
+/* The greatest bound up to `bound` whose formula is affordable, or 0; a bound that is refused stays. */
+static uint8_t affordable(uint8_t property, uint8_t bound, uint64_t sizes[SIZE_LEN])
+{
+    while (sizes_of(property, bound, sizes) && bound > 0 && sizes[SIZE_VARIABLES] * sizes[SIZE_WORDS] > MAX_SEARCH)
+        bound--;
+    return bound;
+}
+
+static void call_verdict(void)
+{
+    uint8_t property = any_property(), bound = (uint8_t)PICK(0, 1, 1, 2, 2, 3, 4, 101, 255);
+    uint64_t sizes[SIZE_LEN] = {0}, budget = PICK(0, 1, 2, 5, 20), refusal = first_refusal(property, bound);
+    bound = affordable(property, bound, sizes);
+    size_t words = (size_t)sizes[SIZE_WORDS], n = (size_t)sizes[SIZE_VARIABLES];
+    int exact = chance(60);
+    size_t clauses_len = exact ? words : near(words), values_len = exact ? n : near(n);
+    size_t trail_len = exact ? n : near(n), choices_len = exact ? bound : near(bound);
+    int32_t *clauses = lent(CLAUSES, clauses_len * sizeof *clauses);
+    uint8_t *values = lent(ASSIGNED, values_len), *choices = lent(CHOICES, choices_len);
+    uint32_t *trail = lent(TRAIL, trail_len * sizeof *trail);
+    uint64_t *answer = lent(ANSWER, 3 * sizeof *answer), found[3];
+    keep(CLAUSES);
+    keep(ASSIGNED);
+    keep(TRAIL);
+    keep(CHOICES);
+    keep(ANSWER);
+    uint64_t code = stm_verdict(design, design_len, property, bound, budget, clauses, clauses_len, values, values_len, trail,
+                                trail_len, choices, choices_len, answer);
+    ended("verdict", code, SET(DESIGN), SET(CLAUSES) | SET(ASSIGNED) | SET(TRAIL) | SET(CHOICES) | SET(ANSWER));
+    int short_ = clauses_len < words || values_len < n || trail_len < n || choices_len < bound;
+    require(code == (refusal ? refusal : short_ ? 16 : 0), "verdict", "not the first refusal", code);
+    if (code)
+        return;
+    memcpy(found, answer, sizeof found);
+    require(found[0] <= 2 && found[1] <= bound && found[2] <= budget, "verdict", "no such answer", found[0]);
+    same(CLAUSES, words * sizeof *clauses, "verdict");
+    same(ASSIGNED, n, "verdict");
+    same(TRAIL, n * sizeof *trail, "verdict");
+    same(CHOICES, found[0] == 1 ? (size_t)found[1] : 0, "verdict");
+    if (found[0] != 1)
+        return;
+    answer = lent(ANSWER, 2 * sizeof *answer);
+    keep(ANSWER);
+    keep(CHOICES);
+    code = stm_replay(design, design_len, property, choices, (size_t)found[1], answer);
+    ended("replay", code, SET(DESIGN) | SET(CHOICES), SET(ANSWER));
+    require(code == 0 && answer[0] == 1 && answer[1] == found[1], "verdict", "its choices do not break at its step", answer[1]);
+}
+
+/* The program, in this process. */
+static char path[64];
+
+/* Mostly a number that is taken. */
+static const char *any_number(void)
+{
+    static const char *const good[] = {"0", "1", "00", "01"}, *const bad[] = {"2", "3", "101", "255", "256", "-1", "", "x", "1x"};
+    return chance(90) ? good[below(sizeof good / sizeof good[0])] : bad[below(sizeof bad / sizeof bad[0])];
+}
+
+static void any_words(char *text, size_t len)
+{
+    static const char letters[] = "0123,,-9 x";
+    size_t count = below(len);
+    for (size_t i = 0; i < count; i++)
+        text[i] = letters[below(chance(90) ? 6 : sizeof letters - 1)];
+    text[count] = '\0';
+}
+
+/* The words of a command, and their number. */
+static int any_command(char words[6][420])
+{
+    static const char *const commands[] = {"check", "replay", "size", "cnf", "verdict", "verdict", "solve"};
+    strcpy(words[0], "stm");
+    strcpy(words[1], commands[below(sizeof commands / sizeof commands[0])]);
+    strcpy(words[2], chance(98) ? path : "/nowhere/none.stm");
+    strcpy(words[3], any_number());
+    strcpy(words[4], any_number());
+    strcpy(words[5], chance(90) ? "5" : any_number());
+    if (strcmp(words[1], "replay") == 0 && chance(40))
+        any_words(words[4], chance(90) ? 16 : 410);
+    if (chance(5))
+        return 1 + (int)below(6);
+    return strcmp(words[1], "check") == 0 ? 3 : strcmp(words[1], "verdict") == 0 ? 6 : 5;
+}
+
+static void call_stm(void)
+{
+    static char words[6][420];
+    char *argv[7] = {NULL};
+    int argc = any_command(words);
+    uint64_t sizes[SIZE_LEN];
+    /* a long search takes too long here */
+    if (design_code == 0 && argc >= 5 && strcmp(words[1], "verdict") == 0
+        && affordable((uint8_t)strtoul(words[3], NULL, 10), 1, sizes) == 0)
+        strcpy(words[4], "0");
+    FILE *f = fopen(path, "wb");
+    if (!f || fwrite(design, 1, design_len, f) != design_len || fclose(f))
+        fault("cannot write %s", path);
+    for (int i = 0; i < argc; i++)
+        argv[i] = words[i];
+    int status = stm_main(argc, argv);
+    count_call("stm", status == 2);
+    require(status == 0 || status == 2 || status == 10 || status == 20, "stm", "another exit status", (uint64_t)status);
+    if (argc == 3 && strcmp(words[1], "check") == 0 && strcmp(words[2], path) == 0)
+        require(status == (design_code ? 2 : 0), "stm", "check does not tell CHECK's refusal", (uint64_t)status);
+}
+
+static const struct operation {
+    const char *name;
+    void (*call)(void);
+    unsigned share;
+} operations[] = {
+    {"check", call_check, 2},   {"start", call_start, 2},   {"step", call_step, 4},       {"holds", call_holds, 3},
+    {"replay", call_replay, 4}, {"size", call_size, 3},     {"encode", call_encode, 3},   {"encode", call_parts, 1},
+    {"solve", call_solve, 4},   {"decode", call_decode, 3}, {"verdict", call_verdict, 2}, {"stm", call_stm, 3},
+};
+
+enum { OPERATIONS = sizeof operations / sizeof operations[0], MAX_SHARES = 64 };
+static const struct operation *shares[MAX_SHARES];
+static size_t share_count;
+
+/* The operations to call, each as often as its share. */
+static void choose(const char *list)
+{
+    for (size_t i = 0; i < OPERATIONS; i++) {
+        size_t len = strlen(operations[i].name);
+        for (const char *at = list; (at = strstr(at, operations[i].name)); at++) {
+            if ((at != list && at[-1] != ',') || (at[len] != ',' && at[len] != '\0'))
+                continue;
+            for (unsigned n = 0; n < operations[i].share && share_count < MAX_SHARES; n++)
+                shares[share_count++] = &operations[i];
+        }
+    }
+}
+
+int main(int argc, char **argv)
+{
+    uint64_t count;
+    report = fdopen(dup(1), "w");
+    if (argc < 5 || read_number(argv[1], UINT64_MAX, &seed) || read_number(argv[2], UINT64_MAX, &count))
+        return misuse("usage: fuzz SEED COUNT OPERATIONS FILE..", "");
+    if (!report || !freopen("/dev/null", "w", stdout))
+        return 2;
+    state = seed;
+    open_regions();
+    choose(argv[3]);
+    for (int i = 4; i < argc; i++)
+        read_file(argv[i]);
+    snprintf(path, sizeof path, "/tmp/stm-fuzz-%ld.stm", (long)getpid());
+    if (share_count == 0)
+        fault("no operation is chosen");
+    while (calls < count) {
+        next_design();
+        for (size_t i = 0; i < 6; i++)
+            shares[below(share_count)]->call();
+    }
+    unlink(path);
+    for (size_t i = 0; i < file_count; i++)
+        free(files[i]);
+    for (size_t i = 0; i < REGIONS; i++)
+        free(regions[i].copy);
+    for (const struct tally *t = tallies; t->name; t++)
+        fprintf(report, "%s %" PRIu64 ", refused %" PRIu64 "; ", t->name, t->calls, t->refused);
+    fprintf(report, "\n%" PRIu64 " calls, no fault\n", calls);
+    fclose(report);
+    return 0;
+}

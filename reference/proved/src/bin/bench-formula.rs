@@ -1,0 +1,121 @@
+//! Benchmarks of SIZE, ENCODE and VERDICT, beside the second implementation as in `bench`. ENCODE is also held against a plain
+//! copy of as many words: no writer can be faster.
+
+use proved::timing::{make, note, report, seconds};
+use proved::Proved;
+use reference::designs::all_files;
+use reference::formula::Size;
+use reference::operations::{Answer, Operations, Reference};
+use reference::verdict::Verdict;
+use std::hint::black_box;
+
+fn file(name: &str) -> Vec<u8> {
+    let found = all_files().into_iter().find(|file| file.0 == format!("{name}.stm"));
+    found.expect("a known design").1
+}
+
+fn done<T>(answer: Answer<T>) -> T {
+    match answer {
+        Answer::Done(value) => value,
+        _ => panic!("a call is refused"),
+    }
+}
+
+fn sizes(operations: &mut impl Operations, design: &[u8], property: u8, bound: u8) -> Size {
+    done(operations.size(design, property, bound))
+}
+
+fn size(name: &str, property: u8, bound: u8) {
+    let design = file(name);
+    assert_eq!(sizes(&mut Proved, &design, property, bound), sizes(&mut Reference, &design, property, bound));
+    let [proved, reference] = seconds([
+        &mut || make(sizes(&mut Proved, black_box(&design), property, bound)),
+        &mut || make(sizes(&mut Reference, black_box(&design), property, bound)),
+    ]);
+    report(&format!("SIZE {name}, bound {bound}"), proved, reference);
+}
+
+/// The words of every part, one after the other.
+fn encoded(operations: &mut impl Operations, design: &[u8], property: u8, bound: u8, words: &mut [i32]) -> usize {
+    let mut at = 0;
+    for part in 0..=bound as u64 + 2 {
+        at += done(operations.encode(design, property, bound, part, &mut words[at..])) as usize;
+    }
+    at
+}
+
+fn encode(name: &str, property: u8, bound: u8) {
+    let design = file(name);
+    let length = sizes(&mut Reference, &design, property, bound).words as usize;
+    let (mut first, mut second) = (vec![0; length], vec![0; length]);
+    assert_eq!(encoded(&mut Proved, &design, property, bound, &mut first), length);
+    assert_eq!(encoded(&mut Reference, &design, property, bound, &mut second), length);
+    assert_eq!(first, second);
+    let (words, mut third) = (first.clone(), first.clone());
+    let [proved, reference, copy] = seconds([
+        &mut || make(encoded(&mut Proved, black_box(&design), property, bound, &mut first)),
+        &mut || make(encoded(&mut Reference, black_box(&design), property, bound, &mut second)),
+        &mut || black_box(&mut third).copy_from_slice(black_box(&words)),
+    ]);
+    report(&format!("ENCODE {name}, bound {bound}, {length} words"), proved, reference);
+    let million = |time: f64| length as f64 / time / 1e6;
+    note(&format!(
+        "{:.0} million words a second; reference {:.0}; a plain copy {:.0}, {:.1} times as fast",
+        million(proved),
+        million(reference),
+        million(copy),
+        proved / copy
+    ));
+}
+
+/// Memory for VERDICT.
+#[derive(Clone)]
+struct Memory {
+    clauses: Vec<i32>,
+    values: Vec<u8>,
+    trail: Vec<u32>,
+    choices: Vec<u8>,
+}
+
+impl Memory {
+    fn verdict(&mut self, operations: &mut impl Operations, design: &[u8], property: u8, bound: u8) -> Verdict {
+        let (clauses, values) = (&mut self.clauses, &mut self.values);
+        let answer =
+            operations.verdict(design, property, bound, u64::MAX, clauses, values, &mut self.trail, &mut self.choices);
+        done(answer)
+    }
+}
+
+fn verdict(name: &str, property: u8, bound: u8) {
+    let design = file(name);
+    let size = sizes(&mut Reference, &design, property, bound);
+    let n = size.variables as usize;
+    let mut first = Memory {
+        clauses: vec![0; size.words as usize],
+        values: vec![0; n],
+        trail: vec![0; n],
+        choices: vec![0; bound as usize],
+    };
+    let mut second = first.clone();
+    let found = first.verdict(&mut Proved, &design, property, bound);
+    assert_eq!(found, second.verdict(&mut Reference, &design, property, bound));
+    let [proved, reference] = seconds([
+        &mut || make(first.verdict(&mut Proved, black_box(&design), property, bound)),
+        &mut || make(second.verdict(&mut Reference, black_box(&design), property, bound)),
+    ]);
+    report(&format!("VERDICT {name}, bound {bound}, {} tries", found.tries), proved, reference);
+}
+
+fn main() {
+    size("design-a", 0, 100);
+    size("money-changer-uic1", 0, 100);
+    size("wide", 1, 100);
+    encode("design-a", 0, 3);
+    encode("design-a", 0, 100);
+    encode("money-changer-uic1", 0, 21);
+    encode("wide", 1, 1);
+    verdict("design-a", 0, 3);
+    verdict("crossing", 0, 3);
+    verdict("mutex", 0, 3);
+    verdict("money-changer-uic1", 1, 1);
+}

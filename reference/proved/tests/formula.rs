@@ -1,0 +1,54 @@
+//! SIZE, ENCODE, DECODE and VERDICT of the proved archive on Design A: document 01's numbers, and the second implementation's
+//! words.
+
+use proved::Proved;
+use reference::builder::file_bytes;
+use reference::designs::design_a;
+use reference::formula::{Formula, Size};
+use reference::operations::{Answer, Operations};
+use reference::verdict::{Finding, Verdict};
+
+fn size(bound: u8) -> Size {
+    match Proved.size(&file_bytes(&design_a()), 0, bound) {
+        Answer::Done(size) => size,
+        other => panic!("SIZE answered {other:?}"),
+    }
+}
+
+#[test]
+fn sizes_of_document_01() {
+    let frame = (21, 80, 3, 371);
+    for (bound, numbers) in [(0, (102, 295, 1_038)), (3, (1_527, 5_413, 20_136))] {
+        let size = size(bound);
+        assert_eq!((size.state_bits, size.property_gates, size.movers, size.step_gates), frame);
+        assert_eq!((size.variables, size.clauses, size.words), numbers);
+    }
+}
+
+#[test]
+fn parts_are_the_second_implementations() {
+    let (design, bound) = (design_a(), 4);
+    let formula = Formula::new(&design, 0, bound);
+    let length = formula.size().words as usize;
+    for part in 0..=formula.last_part() {
+        let (mut words, mut expected) = (vec![7; length], vec![7; length]);
+        let count = formula.write_part(part, &mut expected);
+        let answer = Proved.encode(&file_bytes(&design), 0, bound, part, &mut words);
+        assert_eq!((answer, words), (Answer::Done(count), expected), "part {part}");
+    }
+}
+
+#[test]
+fn verdict_of_document_01() {
+    let size = size(5);
+    let n = size.variables as usize;
+    let (mut clauses, mut values, mut trail) = (vec![0; size.words as usize], vec![0; n], vec![0; n]);
+    let mut choices = [255; 5];
+    let file = file_bytes(&design_a());
+    let answer = Proved.verdict(&file, 0, 5, u64::MAX, &mut clauses, &mut values, &mut trail, &mut choices);
+    assert_eq!(answer, Answer::Done(Verdict { finding: Finding::Violated(3), tries: 37 }));
+    assert_eq!(choices, [2, 0, 1, 255, 255]);
+    let mut decoded = [255; 4];
+    assert_eq!(Proved.decode(&file, 0, 3, &values, &mut decoded), Answer::Done(()));
+    assert_eq!(decoded, [2, 0, 1, 255]);
+}

@@ -1,0 +1,228 @@
+//! The reference rows: asks a serving program for every row of a table again and compares.
+//!
+//! rows SERVER FILE [--write]
+//!
+//! FILE is the table, designs/rows.txt; the design files are in its folder. The first four words of a row say what to ask; with
+//! --write the rest is written anew, so that a new row is made by a line of four words.
+
+use reference::client::Program;
+use reference::models::models;
+use reference::protocol::hex;
+use std::path::Path;
+use std::process::ExitCode;
+
+const USAGE: &str = "usage: rows SERVER FILE [--write]";
+/// Models are counted where the lists of choices, times the variables, are at most so many.
+const MAX_COUNTED: u64 = 2_000_000;
+
+fn main() -> ExitCode {
+    let arguments: Vec<String> = std::env::args().skip(1).collect();
+    let words: Vec<&str> = arguments.iter().map(String::as_str).collect();
+    let (server, file, write) = match words[..] {
+        [server, file] => (server, file, false),
+        [server, file, "--write"] => (server, file, true),
+        _ => {
+            eprintln!("{USAGE}");
+            return ExitCode::from(2);
+        }
+    };
+    match run(server, Path::new(file), write) {
+        Ok(text) => {
+            println!("{text}");
+            ExitCode::SUCCESS
+        }
+        Err(text) => {
+            println!("{text}");
+            ExitCode::FAILURE
+        }
+    }
+}
+
+fn run(server: &str, path: &Path, write: bool) -> Result<String, String> {
+    let folder = path.parent().unwrap_or(Path::new("."));
+    let stored = std::fs::read_to_string(path).map_err(|e| format!("{}: {e}", path.display()))?;
+    let mut program = Program::start(server)?;
+    let table: Result<Vec<Line>, String> =
+        stored.lines().map(|line| read_line(&mut program, folder, line)).collect();
+    program.stop();
+    let table = table?;
+    let text = table_text(&table);
+    let rows = table.iter().filter(|line| matches!(line, Line::Row(_))).count();
+    if rows == 0 {
+        return Err("there are no rows".to_string());
+    }
+    if write {
+        std::fs::write(path, text).map_err(|e| format!("{}: {e}", path.display()))?;
+        return Ok(format!("{rows} rows written"));
+    }
+    match first_difference(&stored, &text) {
+        None => Ok(format!("{rows} rows as stored")),
+        Some(lines) => Err(lines),
+    }
+}
+
+/// A line of the table: a row as its words, or a comment.
+enum Line {
+    Comment(String),
+    Row(Vec<String>),
+}
+
+fn read_line(program: &mut Program, folder: &Path, line: &str) -> Result<Line, String> {
+    if line.starts_with('#') || line.is_empty() {
+        return Ok(Line::Comment(line.to_string()));
+    }
+    let words: Vec<&str> = line.split_whitespace().collect();
+    let row = row(program, folder, &words).map_err(|e| format!("{line}\n{e}"))?;
+    Ok(Line::Row(row))
+}
+
+/// The words of a row, from its first four.
+fn row(program: &mut Program, folder: &Path, words: &[&str]) -> Result<Vec<String>, String> {
+    let [file, property, bound, budget, ..] = words[..] else {
+        return Err("a row starts with file, property, bound and budget".to_string());
+    };
+    let bytes = std::fs::read(folder.join(file)).map_err(|e| format!("{file}: {e}"))?;
+    let mut design =
+        Served { program, design: hex(&bytes), property, bound: number(bound)? as u32 };
+    let size = design.size()?;
+    let verdict = design.verdict(budget, &size)?;
+    let models = match design.models(&size)? {
+        Some(count) => count.to_string(),
+        None => "?".to_string(),
+    };
+    let [n, clauses, length] = [size.variables, size.clauses, size.words].map(|x| x.to_string());
+    let [kind, at, tries, choices] = verdict;
+    let key = [file, property, bound, budget].map(String::from);
+    Ok([key.to_vec(), vec![kind, at, tries, n, clauses, length, models, choices]].concat())
+}
+
+/// A design at a serving program, with a property and a bound.
+struct Served<'a> {
+    program: &'a mut Program,
+    design: String,
+    property: &'a str,
+    bound: u32,
+}
+
+struct Size {
+    movers: u64,
+    variables: u64,
+    clauses: u64,
+    words: u64,
+}
+
+impl Served<'_> {
+    /// The words of a reply after `ok`.
+    fn ask(&mut self, operation: &str, rest: &str) -> Result<Vec<String>, String> {
+        let reply = self.program.ask(&format!("{operation} {} {rest}", self.design));
+        match reply.strip_prefix("ok ") {
+            Some(answer) => Ok(answer.split(' ').map(String::from).collect()),
+            None => Err(format!("{operation} replies: {reply}")),
+        }
+    }
+
+    fn size(&mut self) -> Result<Size, String> {
+        let answer = self.ask("size", &format!("{} {}", self.property, self.bound))?;
+        let [_, _, movers, _, variables, clauses, words] = &answer[..] else {
+            return Err(format!("size replies: {answer:?}"));
+        };
+        let [movers, variables] = [number(movers)?, number(variables)?];
+        Ok(Size { movers, variables, clauses: number(clauses)?, words: number(words)? })
+    }
+
+    /// Verdict, step or bound, tries, choices, on memory that just suffices.
+    fn verdict(&mut self, budget: &str, size: &Size) -> Result<[String; 4], String> {
+        let budget = if budget == "-" { u64::MAX } else { number(budget)? };
+        let (n, k) = (size.variables, self.bound);
+        let rest = format!("{} {k} {budget} {} {n} {n} {k}", self.property, size.words);
+        let answer = self.ask("verdict", &rest)?;
+        let words: Vec<&str> = answer.iter().map(String::as_str).collect();
+        let found = match words[..] {
+            ["clean", tries, "mem", ..] => ["CLEAN", "-", tries, "-"],
+            ["violated", step, tries, choices, "mem", ..] => ["VIOLATED", step, tries, choices],
+            ["spent", at, tries, "mem", ..] => ["SPENT", at, tries, "-"],
+            _ => return Err(format!("verdict replies: {answer:?}")),
+        };
+        Ok(found.map(String::from))
+    }
+
+    /// The number of models of the words that ENCODE writes. REPLAY has to find as many breaking lists.
+    fn models(&mut self, size: &Size) -> Result<Option<u64>, String> {
+        let lists = size.movers.saturating_pow(self.bound);
+        if lists.saturating_mul(size.variables) > MAX_COUNTED {
+            return Ok(None);
+        }
+        let words = self.words(size)?;
+        let found = models(size.variables as usize, &words).len() as u64;
+        let mut breaking = 0;
+        for list in 0..lists {
+            breaking += self.breaks(size.movers, list)? as u64;
+        }
+        if found != breaking {
+            return Err(format!("{found} models, but {breaking} breaking lists"));
+        }
+        Ok(Some(found))
+    }
+
+    /// All parts joined.
+    fn words(&mut self, size: &Size) -> Result<Vec<i32>, String> {
+        let mut words = vec![];
+        for part in 0..=self.bound + 2 {
+            let rest = format!("{} {} {part} {}", self.property, self.bound, size.words);
+            let answer = self.ask("encode", &rest)?;
+            let list = answer.get(1).filter(|list| *list != "-");
+            for word in list.iter().flat_map(|list| list.split(',')) {
+                words.push(word.parse().map_err(|_| format!("no word: {word}"))?);
+            }
+        }
+        if words.len() as u64 != size.words {
+            return Err(format!("size counts {} words, encode writes {}", size.words, words.len()));
+        }
+        Ok(words)
+    }
+
+    /// Whether list number `list` of all lists of as many choices as the bound breaks the property.
+    fn breaks(&mut self, movers: u64, list: u64) -> Result<bool, String> {
+        let digits: Vec<String> =
+            (0..self.bound).map(|i| (list / movers.pow(i) % movers).to_string()).collect();
+        let choices = if digits.is_empty() { "-".to_string() } else { digits.join(",") };
+        let answer = self.ask("replay", &format!("{} {choices}", self.property))?;
+        Ok(answer != ["none"])
+    }
+}
+
+fn number(text: &str) -> Result<u64, String> {
+    text.parse().map_err(|_| format!("no number: {text}"))
+}
+
+/// Columns are as wide as their widest word.
+fn table_text(table: &[Line]) -> String {
+    let rows =
+        || table.iter().filter_map(|line| if let Line::Row(r) = line { Some(r) } else { None });
+    let width = |i: usize| rows().map(|row| row[i].len()).max().unwrap_or(0);
+    let widths: Vec<usize> = (0..rows().map(Vec::len).max().unwrap_or(0)).map(width).collect();
+    let mut text = String::new();
+    for line in table {
+        let line = match line {
+            Line::Comment(line) => line.clone(),
+            Line::Row(row) => {
+                let padded = row.iter().zip(&widths).map(|(word, &w)| format!("{word:<w$}"));
+                padded.collect::<Vec<String>>().join(" ")
+            }
+        };
+        text += line.trim_end();
+        text.push('\n');
+    }
+    text
+}
+
+fn first_difference(stored: &str, text: &str) -> Option<String> {
+    if stored == text {
+        return None;
+    }
+    let mut pairs = stored.lines().zip(text.lines());
+    match pairs.find(|(a, b)| a != b) {
+        Some((a, b)) => Some(format!("difference\nstored: {a}\nnow:    {b}")),
+        None => Some("difference in line ends".to_string()),
+    }
+}

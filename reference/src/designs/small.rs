@@ -1,0 +1,273 @@
+//! Small designs, each of which shows a few things at once. What is known of them stands in designs/README.md and
+//! designs/rows.txt.
+
+use super::terms::*;
+use crate::builder::file_bytes;
+use crate::design::{Boolean, Cell, Design, Kind, MAX_FILE};
+
+/// The name and the tree of each, but for Design A.
+pub fn all() -> Vec<(&'static str, Design)> {
+    vec![
+        ("first-state", first_state()),
+        ("turnstile", turnstile()),
+        ("crossing", crossing()),
+        ("mutex", mutex()),
+        ("peterson", peterson()),
+        ("wrap", wrap()),
+        ("nested-ifs", nested_ifs()),
+        ("old-status", old_status()),
+        ("operators", operators()),
+        ("lock", lock()),
+        ("wide", wide()),
+        ("longest", longest()),
+    ]
+}
+
+/// Design A of document 01: an external 0 and a counter c below 2.
+pub fn design_a() -> Design {
+    let below_two = less(number(1), constant(2));
+    let count = assign_integer(1, plus(number(1), constant(1)));
+    Design {
+        variables: vec![external(), variable(Kind::Integer)],
+        matrices: vec![matrix(2, vec![is(0)])],
+        cells: vec![
+            normal((0, 0, 0), 1, None, vec![count.clone()]),
+            normal((0, 1, 0), 0, Some(below_two.clone()), vec![count]),
+        ],
+        invariant: below_two,
+    }
+}
+
+/// Both properties are false in the first state: step 0, no try.
+pub fn first_state() -> Design {
+    Design {
+        variables: vec![boolean_from(false), external()],
+        matrices: vec![matrix(1, vec![truth(true)])],
+        cells: vec![invalid((0, 0, 0))],
+        invariant: is(0),
+    }
+}
+
+/// Nobody may push while it is locked: an invalid cell, which property 1 is about. The invariant is constant.
+pub fn turnstile() -> Design {
+    const COIN: u8 = 0;
+    const PUSH: u8 = 1;
+    const LOCKED: u8 = 0;
+    const OPEN: u8 = 1;
+    Design {
+        variables: vec![external(), external()],
+        matrices: vec![matrix(2, vec![is(COIN), is(PUSH)])],
+        cells: vec![
+            normal((0, LOCKED, 0), OPEN, None, vec![assign(COIN, false)]),
+            invalid((0, LOCKED, 1)),
+            normal((0, OPEN, 1), LOCKED, None, vec![assign(PUSH, false)]),
+        ],
+        invariant: truth(true),
+    }
+}
+
+/// Two lights, each of which turns green only while the other is red. No variables, and cells that only change a status.
+pub fn crossing() -> Design {
+    const RED: u8 = 0;
+    const GREEN: u8 = 1;
+    let light = |own: u8, other: u8| {
+        vec![
+            normal((own, RED, 0), GREEN, Some(status_is(other, RED as i16)), vec![]),
+            normal((own, GREEN, 0), RED, None, vec![]),
+        ]
+    };
+    let both_green = and(status_is(0, GREEN as i16), status_is(1, GREEN as i16));
+    Design {
+        variables: vec![],
+        matrices: vec![matrix(2, vec![truth(true)]), matrix(2, vec![truth(true)])],
+        cells: [light(0, 1), light(1, 0)].concat(),
+        invariant: not(both_green),
+    }
+}
+
+/// A wrong mutual exclusion: a process tests the other's flag in one step and raises its own in the next.
+pub fn mutex() -> Design {
+    const IDLE: u8 = 0;
+    const TESTED: u8 = 1;
+    const INSIDE: u8 = 2;
+    let process = |own: u8, other: u8| {
+        vec![
+            normal((own, IDLE, 0), TESTED, Some(not(is(other))), vec![]),
+            normal((own, TESTED, 0), INSIDE, None, vec![assign(own, true)]),
+            normal((own, INSIDE, 0), IDLE, None, vec![assign(own, false)]),
+        ]
+    };
+    Design {
+        variables: vec![boolean_from(false); 2],
+        matrices: vec![matrix(3, vec![truth(true)]), matrix(3, vec![truth(true)])],
+        cells: [process(0, 1), process(1, 0)].concat(),
+        invariant: not(and(status_is(0, INSIDE as i16), status_is(1, INSIDE as i16))),
+    }
+}
+
+/// Peterson's mutual exclusion: raise the own flag, give the turn to the other, wait until the other's flag is down or the turn
+/// is one's own.
+pub fn peterson() -> Design {
+    const IDLE: u8 = 0;
+    const RAISED: u8 = 1;
+    const WAITING: u8 = 2;
+    const INSIDE: u8 = 3;
+    /// True while it is the turn of process 1.
+    const TURN: u8 = 2;
+    let process = |own: u8, other: u8| {
+        let own_turn = if own == 1 { is(TURN) } else { not(is(TURN)) };
+        vec![
+            normal((own, IDLE, 0), RAISED, None, vec![assign(own, true)]),
+            normal((own, RAISED, 0), WAITING, None, vec![assign(TURN, other == 1)]),
+            normal((own, WAITING, 0), INSIDE, Some(or(not(is(other)), own_turn)), vec![]),
+            normal((own, INSIDE, 0), IDLE, None, vec![assign(own, false)]),
+        ]
+    };
+    Design {
+        variables: vec![boolean_from(false); 3],
+        matrices: vec![matrix(4, vec![truth(true)]), matrix(4, vec![truth(true)])],
+        cells: [process(0, 1), process(1, 0)].concat(),
+        invariant: not(and(status_is(0, INSIDE as i16), status_is(1, INSIDE as i16))),
+    }
+}
+
+/// A sum that passes 32,767 and a difference that passes -32,768: both wrap, and both change their sign.
+pub fn wrap() -> Design {
+    const UP: u8 = 0;
+    const DOWN: u8 = 1;
+    let up = assign_integer(UP, plus(number(UP), constant(1)));
+    let down = assign_integer(DOWN, minus(number(DOWN), constant(1)));
+    Design {
+        variables: vec![integer_from(32_766), integer_from(-32_767)],
+        matrices: vec![matrix(1, vec![truth(true), truth(true)])],
+        cells: vec![normal((0, 0, 0), 0, None, vec![up]), normal((0, 0, 1), 0, None, vec![down])],
+        invariant: less(number(DOWN), number(UP)),
+    }
+}
+
+/// Ifs four deep, in then-lists and in else-lists; later statements read what earlier ones left.
+pub fn nested_ifs() -> Design {
+    const PLAY: u8 = 0;
+    const SCORE: u8 = 1;
+    const LEVEL: u8 = 2;
+    const TOP: u8 = 3;
+    let level = |value: i16| assign_integer(LEVEL, constant(value));
+    let below = |limit: i16| less(number(SCORE), constant(limit));
+    let reached = assign_boolean(TOP, equal(number(LEVEL), constant(3)));
+    let best = when(equal(number(SCORE), constant(28)), vec![level(3), reached], vec![level(4)]);
+    let high = when(below(25), vec![level(2)], vec![best]);
+    let middle = when(not(below(20)), vec![high], vec![level(1)]);
+    let grade = when(below(10), vec![level(0)], vec![middle]);
+    let score = assign_integer(SCORE, plus(number(SCORE), constant(7)));
+    Design {
+        variables: vec![external(), integer_from(7), integer_from(0), boolean_from(false)],
+        matrices: vec![matrix(1, vec![is(PLAY)])],
+        cells: vec![normal((0, 0, 0), 0, None, vec![score, grade])],
+        invariant: not(is(TOP)),
+    }
+}
+
+/// A status that an action reads is the old one; the last cell leads to its own status and is not idle.
+pub fn old_status() -> Design {
+    const LAST: u8 = 0;
+    let keep = || vec![assign_integer(LAST, status(0))];
+    Design {
+        variables: vec![integer_from(-1)],
+        matrices: vec![matrix(3, vec![truth(true)])],
+        cells: vec![
+            normal((0, 0, 0), 1, None, keep()),
+            normal((0, 1, 0), 2, None, keep()),
+            normal((0, 2, 0), 2, None, keep()),
+        ],
+        invariant: less(number(LAST), status(0)),
+    }
+}
+
+/// Every operator, in events, guards, actions and the invariant.
+pub fn operators() -> Design {
+    const E: u8 = 0;
+    const B: u8 = 1;
+    const X: u8 = 2;
+    const Y: u8 = 3;
+    let first = normal(
+        (0, 0, 0),
+        1,
+        Some(equal(number(X), plus(number(Y), constant(5)))),
+        vec![
+            assign_integer(Y, minus(number(X), status(0))),
+            assign_boolean(B, less(number(X), number(Y))),
+            assign(E, false),
+        ],
+    );
+    let second = normal(
+        (0, 1, 1),
+        0,
+        Some(and(or(truth(false), not(is(B))), less(constant(-3), number(Y)))),
+        vec![assign_integer(X, plus(minus(number(Y), constant(7)), status(0)))],
+    );
+    Design {
+        variables: vec![external(), boolean_from(true), integer_from(3), integer_from(-2)],
+        matrices: vec![matrix(2, vec![and(is(E), truth(true)), or(is(E), not(is(B)))])],
+        cells: vec![first, second],
+        invariant: or(
+            is(B),
+            not(equal(minus(number(X), number(Y)), plus(status(0), constant(-6)))),
+        ),
+    }
+}
+
+/// A lock that opens after the buttons 2, 0, 1. The search has to look at every order, so that a small budget is spent.
+pub fn lock() -> Design {
+    let press = |at: u8, button: u8| -> Cell {
+        normal((0, at, button), at + 1, None, vec![assign(button, false)])
+    };
+    let buttons: Vec<Boolean> = (0..3).map(is).collect();
+    Design {
+        variables: vec![external(); 3],
+        matrices: vec![matrix(4, buttons)],
+        cells: vec![press(0, 2), press(1, 0), press(2, 1)],
+        invariant: not(status_is(0, 3)),
+    }
+}
+
+/// At the ends of the format: 32 variables, 8 matrices of 16 statuses, 64 movers. Matrix m counts up while its external m stands;
+/// its last status is invalid then.
+pub fn wide() -> Design {
+    const MATRICES: u8 = 8;
+    const STEPS: u8 = 7;
+    let flag = |m: u8, s: u8| MATRICES + (3 * m + s) % 24;
+    let count = |m: u8, s: u8| normal((m, s, 0), s + 1, None, vec![assign(flag(m, s), true)]);
+    let cells = |m: u8| {
+        let mut cells: Vec<Cell> = (0..STEPS).map(|s| count(m, s)).collect();
+        cells.push(invalid((m, 15, 0)));
+        cells
+    };
+    Design {
+        variables: [vec![external(); 8], vec![boolean_from(false); 24]].concat(),
+        matrices: (0..MATRICES).map(|m| matrix(16, vec![is(m)])).collect(),
+        cells: (0..MATRICES).flat_map(cells).collect(),
+        invariant: (1..MATRICES)
+            .fold(not(status_is(0, 7)), |all, m| and(all, not(status_is(m, 7)))),
+    }
+}
+
+/// A file of the greatest length, by an invariant of constants that is true.
+pub fn longest() -> Design {
+    let mut design = Design { invariant: truth(true), ..crossing() };
+    let rest = file_bytes(&design).len() - 2;
+    design.invariant = true_of_length(MAX_FILE - rest);
+    design
+}
+
+/// A true expression of so many bytes, at least 2.
+fn true_of_length(length: usize) -> Boolean {
+    match length {
+        0..=2 => truth(true),
+        3 => not(truth(false)),
+        4 => not(not(truth(true))),
+        _ => {
+            let left = (length - 1) / 2;
+            and(true_of_length(left), true_of_length(length - 1 - left))
+        }
+    }
+}

@@ -1,0 +1,79 @@
+//! Requests on the known designs, and whole series of requests: every part of a formula, every kind of budget and memory.
+
+use super::calls::{design_to_encode, exact_tries};
+use crate::builder::file_bytes;
+use crate::design::{check, Design};
+use crate::designs::all_files;
+use crate::formula::Formula;
+use crate::protocol::hex;
+use crate::random::Random;
+
+/// A known design, small or large.
+pub fn any_known(random: &mut Random) -> Design {
+    let files = all_files();
+    let file = &files[random.below(files.len())].1;
+    check(file).expect("a known design is accepted")
+}
+
+/// Small designs and the bounds up to which a verdict on them takes few tries.
+const VERDICTS: [(&str, u8); 10] = [
+    ("design-a.stm", 4),
+    ("first-state.stm", 4),
+    ("turnstile.stm", 4),
+    ("crossing.stm", 3),
+    ("mutex.stm", 2),
+    ("wrap.stm", 4),
+    ("nested-ifs.stm", 4),
+    ("old-status.stm", 4),
+    ("operators.stm", 3),
+    ("lock.stm", 2),
+];
+
+fn design_for_verdict(random: &mut Random) -> (Design, u8) {
+    let (name, most) = random.pick(&VERDICTS);
+    let files = all_files();
+    let known = files.iter().find(|file| file.0 == name);
+    let design = check(&known.expect("a known name").1).expect("a known design is accepted");
+    (design, random.between(0, most as usize) as u8)
+}
+
+/// Every part of a formula, each into memory that is short by one, just suffices, and is longer.
+pub fn all_parts(random: &mut Random) -> Vec<String> {
+    let (design, file) = design_to_encode(random);
+    let (property, bound) = (random.below(2) as u8, random.between(0, 3) as u8);
+    let formula = Formula::new(&design, property, bound);
+    let mut requests = vec![];
+    for part in 0..=formula.last_part() {
+        let words = formula.part_count(part).words;
+        for length in [words.saturating_sub(1), words, words + 7] {
+            requests.push(format!("encode {} {property} {bound} {part} {length}", hex(&file)));
+        }
+    }
+    requests
+}
+
+/// A verdict with no try, one too few, just enough and more; then each memory short by one, and all of it longer.
+pub fn all_budgets(random: &mut Random) -> Vec<String> {
+    let (design, bound) = design_for_verdict(random);
+    let property = random.below(2) as u8;
+    let size = Formula::new(&design, property, bound).size();
+    let tries = exact_tries(&design, property, bound).unwrap_or(20);
+    let exact = [size.words, size.variables, size.variables, bound as u64];
+    let mut requests = vec![];
+    let mut add = |budget: u64, lengths: [u64; 4]| {
+        let [clauses, values, trail, choices] = lengths;
+        let design = hex(&file_bytes(&design));
+        let lengths = format!("{clauses} {values} {trail} {choices}");
+        requests.push(format!("verdict {design} {property} {bound} {budget} {lengths}"));
+    };
+    for budget in [0, tries.saturating_sub(1), tries, tries + 1, u64::MAX] {
+        add(budget, exact);
+    }
+    for short in 0..4 {
+        let mut lengths = exact;
+        lengths[short] = lengths[short].saturating_sub(1);
+        add(tries, lengths);
+    }
+    add(tries, exact.map(|length| length + 3));
+    requests
+}
