@@ -21,6 +21,21 @@ pub struct Size {
     pub words: u64,
 }
 
+impl Size {
+    /// Its numbers in document 01's order: S, P, w, G, n, clauses, words.
+    pub fn numbers(&self) -> [u64; 7] {
+        [
+            self.state_bits,
+            self.property_gates,
+            self.movers,
+            self.step_gates,
+            self.variables,
+            self.clauses,
+            self.words,
+        ]
+    }
+}
+
 /// Takes the clauses of a part one at a time, without their closing 0.
 pub trait Sink {
     fn clause(&mut self, literals: &[i32]);

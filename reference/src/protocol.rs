@@ -104,16 +104,7 @@ fn size(operations: &mut impl Operations, d: &str, property: &str, bound: &str) 
 }
 
 fn size_text(size: &Size) -> String {
-    format!(
-        "ok {} {} {} {} {} {} {}",
-        size.state_bits,
-        size.property_gates,
-        size.movers,
-        size.step_gates,
-        size.variables,
-        size.clauses,
-        size.words
-    )
+    format!("ok {}", size.numbers().map(|x| x.to_string()).join(" "))
 }
 
 fn encode(operations: &mut impl Operations, d: &str, rest: &[&str]) -> Option<String> {

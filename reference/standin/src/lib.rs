@@ -101,17 +101,7 @@ pub unsafe extern "C" fn stm_size(
     bound: u8,
     answer: &mut [u64; 7],
 ) -> u64 {
-    code(Reference.size(from_raw_parts(design, design_len), property, bound), |size| {
-        *answer = [
-            size.state_bits,
-            size.property_gates,
-            size.movers,
-            size.step_gates,
-            size.variables,
-            size.clauses,
-            size.words,
-        ];
-    })
+    code(Reference.size(from_raw_parts(design, design_len), property, bound), |size| *answer = size.numbers())
 }
 
 #[no_mangle]
