@@ -142,7 +142,8 @@ event-emits l s m st event x k q v r {n = n} ex ek w1 w2 w3 =
 pub enable-emits : (l : Layout) (s : Slots) (c : Cell) (a g r : Literal) {n : ℕ} {x0 x1 x2 x3 : List ℤ} {c0 c1 c2 c3 v1 v2 v3 : ℕ}
     → Emits n (statusAndEvent! l s (c .matrix) (c .status) (c .event) n) x0 x1 c0 a c1 v1 → Emits v1 (bool! l s (c .guard) v1) x1 x2 c1 g c2 v2 → Emits v2 (and! a g v2) x2 x3 c2 r c3 v3 → Emits n (enable! l s (cell c) n) x0 x3 c0 r c3 v3
 unfolding enable!
-enable-emits l s c a g r w1 w2 w3 = emits-bind (statusAndEvent! l s (c .matrix) (c .status) (c .event)) _ w1 (emits-bind (bool! l s (c .guard)) (and! a) w2 w3)
+enable-emits l s c a g r w1 w2 w3 =
+    emits-bind (statusAndEvent! l s (c .matrix) (c .status) (c .event)) _ w1 (emits-bind (bool! l s (c .guard)) (and! a) w2 w3)
 
 pub guard-true : (l : Layout) (s : Slots) (g : BoolExpr) (n : ℕ) (xs : List ℤ) (cur : ℕ) → g ≡ constantB true → Emits n (bool! l s g n) xs xs cur (fromCode 2) cur n
 unfolding bool!

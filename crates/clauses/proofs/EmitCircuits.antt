@@ -171,4 +171,6 @@ less-emits n a a′ b b′ l r ea eb el w =
 
 pub equal-emits : (n : ℕ) (a b x : Bits) (c l : Literal) {xs ys zs : List ℤ} {cur cur′ v cur″ v″ : ℕ} → c ≡ trueLiteral → Emits n (xors! a b n) xs ys cur x cur′ v → Emits v (chain! c (map negate x) v) ys zs cur′ l cur″ v″ → Emits n (equal! a b n) xs zs cur l cur″ v″
 unfolding equal!
-equal-emits n a b x c l {v = v} e w u = emits-bind (xors! a b) (λ (x : Bits). chain! trueLiteral (map negate x)) w (emits-same _ _ (ap (λ (y : Literal). chain! y (map negate x) v) e) u)
+equal-emits n a b x c l {v =
+    v} e w u = emits-bind (xors! a b) (λ (x : Bits). chain! trueLiteral (map negate x)) w (emits-same _ _ (ap (λ (y : Literal). chain! y (map negate x) v)
+        e) u)

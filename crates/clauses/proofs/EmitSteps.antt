@@ -194,7 +194,9 @@ bind-assoc m f g n =
 -- a cell of property 1's chain
 pub link-pass : (l : Layout) (s : Slots) (c : Literal) (k m st : ℕ) (e : BoolExpr) (n : ℕ) (xs : List ℤ) (cur : ℕ) → k ≡ 0 → Emits n (link! l s c k m st e n) xs xs cur c cur n
 unfolding link!
-link-pass l s c k m st e n xs cur z = emits-same _ _ (ap (λ (t : Bool). cond t (give c) (statusAndEvent! l s m st e >>= (λ (x : Literal). and! c (negate x))) n) (sym (eq-eqb k 0 z))) (emits-give n c xs cur)
+link-pass l s c k m st e n xs cur z =
+    emits-same _ _ (ap (λ (t : Bool). cond t (give c) (statusAndEvent! l s m st e >>= (λ (x : Literal). and! c (negate x))) n) (sym (eq-eqb k 0 z)))
+        (emits-give n c xs cur)
 
 pub link-emits : (l : Layout) (s : Slots) (c : Literal) (k m st : ℕ) (e : BoolExpr) (a b : Literal) {y : Literal} {n : ℕ} {x0 x1 x2 : List ℤ} {c0 c1 c2 v1 v2 : ℕ} → (k ≡ 0 → ⊥) → b ≡ negate a
     → Emits n (statusAndEvent! l s m st e n) x0 x1 c0 a c1 v1 → Emits v1 (and! c b v1) x1 x2 c1 y c2 v2 → Emits n (link! l s c k m st e n) x0 x2 c0 y c2 v2

@@ -66,7 +66,10 @@ length-list l bad s = refl
 
 if-value : (l : Layout) (s : State) (x : Read BoolExpr) (q : ℕ → Read Stmts) → isRead (three ifElse x q) ≡ true → afterStmt l (three ifElse x q) s ≡ cond (boolValue l s x) (afterList l (q (past x)) s) (afterList l (q (past (q (past x)))) s)
 unfolding execute executeAll
-if-value l s (got c m) q h = ap (λ (r : State → State). r s) (two-value (ifElse c) {P = State → State} {Q = State → State} {R = State → State} (λ (t : Stmt) (w : State). execute t l w) (λ w. w) (λ (t : Stmts) (w : State). executeAll t l w) (λ w. w) (λ (t : Stmts) (w : State). executeAll t l w) (λ w. w) (λ a b w. cond (evalBool l w c) (a w) (b w)) (λ a b. refl) (q m) q h)
+if-value l s (got c m) q h =
+    ap (λ (r : State → State). r s) (two-value (ifElse c) {P = State → State} {Q = State → State} {R = State → State} (λ (t : Stmt) (w : State). execute t
+        l w) (λ w. w) (λ (t : Stmts) (w : State). executeAll t l w) (λ w. w) (λ (t : Stmts) (w : State). executeAll t l w) (λ w. w) (λ a b w. cond
+        (evalBool l w c) (a w) (b w)) (λ a b. refl) (q m) q h)
 if-value l s bad q h = absurd (false≢true h)
 
 module _ (text : List ℕ) (N : Names) (end : ℕ) where

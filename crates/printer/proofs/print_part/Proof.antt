@@ -22,7 +22,10 @@ array-share-prefix-out : tie.Need-array-share-prefix-out
 array-share-prefix-out c = omega (arith, c .before .before .put-part-of .ensures .1, written-length (c .before .before .put-part-of .ensures .0))
 
 slice-aggregate-write-all : tie.Need-slice-aggregate-write-all
-slice-aggregate-write-all c = let b : c .before .before .before .put-part-of .result ≤ length (c .before .before .before .put-part-of .last .1 .1 .1 .0) = omega (arith, c .before .before .before .put-part-of .ensures .1, written-length (c .before .before .before .put-part-of .ensures .0)) in sym (length-take-le _ _ b)
+slice-aggregate-write-all c =
+    let at-put-part-of = c .before .before .before in
+    let b : at-put-part-of .put-part-of .result ≤ length (at-put-part-of .put-part-of .last .1 .1 .1 .0) = omega (arith, at-put-part-of .put-part-of
+        .ensures .1, written-length (at-put-part-of .put-part-of .ensures .0)) in sym (length-take-le _ _ b)
 
 write-all-requires : tie.Need-write-all-requires
 write-all-requires c κs = search needs

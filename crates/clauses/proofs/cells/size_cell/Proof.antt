@@ -42,25 +42,43 @@ shared-slice-read-if1 : tie.Need-shared-slice-read-if1
 shared-slice-read-if1 c = search needs
 
 size-normal-requires : tie.Need-size-normal-requires
-size-normal-requires c κs = (c .before .before .before .before .before .before .before .pre .0, here-normal _ _ _ _ _ (c .before .before .before .before .before .before .before .pre .0) _ (c .before .before .before .before .before .before .before .pre .1) (c .before .if1 .taken))
+size-normal-requires c κs =
+    let entry = c .before .before .before .before .before .before .before in
+    (entry .pre .0, here-normal _ _ _ _ _ (entry .pre .0) _ (entry .pre .1) (c .before .if1 .taken))
 
 size-place-requires : tie.Need-size-place-requires
-size-place-requires c κs = (c .before .before .before .before .before .before .before .pre .0, here-fields _ _ _ _ _ (c .before .before .before .before .before .before .before .pre .0) _ (c .before .before .before .before .before .before .before .pre .1))
+size-place-requires c κs =
+    let entry = c .before .before .before .before .before .before .before in
+    (entry .pre .0, here-fields _ _ _ _ _ (entry .pre .0) _ (entry .pre .1))
 
 add-t26 : tie.Need-add-t26
 add-t26 c = search needs
 
 returns : tie.Need-returns
-returns c = (ap₂ (λ (i j : ℕ). c .before .before .before .before .before .before .before .args .p + 8 + i + j) (c .before .before .before .before .wide .ensures .0) (c .before .before .before .word .ensures .0), normal-passed _ _ _ _ _ (c .before .before .before .before .before .before .before .pre .0) _ (c .before .if1 .taken) _ (c .if2 .taken) _ refl refl)
+returns c =
+    let entry = c .before .before .before .before .before .before .before in
+    (ap₂ (λ (i j : ℕ). entry .args .p + 8 + i + j) (c .before .before .before .before .wide .ensures .0) (c .before .before .before .word .ensures .0),
+        normal-passed _ _ _ _ _ (entry .pre .0) _ (c .before .if1 .taken) _ (c .if2 .taken) _ refl refl)
 
 returns-2 : tie.Need-returns-2
-returns-2 c = (ap₂ (λ (i j : ℕ). c .before .before .before .before .before .before .before .before .args .p + 8 + i + j) (c .before .before .before .before .before .wide .ensures .0) (c .before .before .before .before .word .ensures .0), normal-counted _ _ _ _ _ (c .before .before .before .before .before .before .before .before .pre .0) _ (c .before .before .if1 .taken) _ (c .before .if2 .left) _ _ (c .size-normal .ensures) refl refl)
+returns-2 c =
+    let entry = c .before .before .before .before .before .before .before .before in
+    (ap₂ (λ (i j : ℕ). entry .args .p + 8 + i + j) (c .before .before .before .before .before .wide .ensures .0) (c .before .before .before .before .word
+        .ensures .0), normal-counted _ _ _ _ _ (entry .pre .0) _ (c .before .before .if1 .taken) _ (c .before .if2 .left) _ _ (c .size-normal
+        .ensures) refl refl)
 
 returns-3 : tie.Need-returns-3
-returns-3 c = (ap₂ (λ (i j : ℕ). c .before .before .before .before .before .before .before .before .before .args .p + 8 + i + j) (c .before .before .before .before .before .before .wide .ensures .0) (c .before .before .before .before .before .word .ensures .0), invalid-counted _ _ _ _ _ (c .before .before .before .before .before .before .before .before .before .pre .0) _ (c .before .before .before .if1 .left) _ (c .before .before .if3 .taken) _ _ (c .before .size-place .ensures .1) refl refl)
+returns-3 c =
+    let entry = c .before .before .before .before .before .before .before .before .before in
+    (ap₂ (λ (i j : ℕ). entry .args .p + 8 + i + j) (c .before .before .before .before .before .before .wide .ensures .0) (c .before .before .before
+        .before .before .word .ensures .0), invalid-counted _ _ _ _ _ (entry .pre .0) _ (c .before .before .before .if1 .left) _ (c .before .before
+        .if3 .taken) _ _ (c .before .size-place .ensures .1) refl refl)
 
 returns-4 : tie.Need-returns-4
-returns-4 c = (ap₂ (λ (i j : ℕ). c .before .before .before .before .before .before .before .args .p + 8 + i + j) (c .before .before .before .before .wide .ensures .0) (c .before .before .before .word .ensures .0), invalid-passed _ _ _ _ _ (c .before .before .before .before .before .before .before .pre .0) _ (c .before .if1 .left) _ (c .if3 .left) _ refl refl)
+returns-4 c =
+    let entry = c .before .before .before .before .before .before .before in
+    (ap₂ (λ (i j : ℕ). entry .args .p + 8 + i + j) (c .before .before .before .before .wide .ensures .0) (c .before .before .before .word .ensures .0),
+        invalid-passed _ _ _ _ _ (entry .pre .0) _ (c .before .if1 .left) _ (c .if3 .left) _ refl refl)
 
 pub size-cell-spec : {M : Type 1} → statement M
 size-cell-spec =

@@ -19,7 +19,8 @@ array-write-out : tie.Need-array-write-out
 array-write-out c = search needs
 
 returns : tie.Need-returns
-returns c = negate-top (c .before .args .t1) 15 (c .negate .result) (let h : length (c .before .args .t1) ≡ 16 = search needs in h) (c .negate .ensures)
+returns c =
+    negate-top (c .before .args .t1) 15 (c .negate .result) (let h : length (c .before .args .t1) ≡ 16 = search needs in h) (c .negate .ensures)
 
 pub negate-top-spec : {M : Type 1} → statement M
 negate-top-spec = tie.close (tie.spec array-read-negate negate-requires array-write-out returns)

@@ -27,7 +27,11 @@ same-length : tie.Need-same-length
 same-length c = search needs
 
 returns : tie.Need-returns
-returns c = bit-emits _ _ _ _ _ _ _ _ _ (c .before .before .before .before .before .before .before .before .before .before .before .before .before .emit-xor .ensures) (c .before .before .before .before .before .before .before .before .before .before .emit-xor2 .ensures) (c .before .before .before .before .before .before .before .emit-and .ensures) (c .before .before .before .before .emit-and2 .ensures) (c .before .emit-or .ensures)
+returns c =
+    let at-emit-xor2 = c .before .before .before .before .before .before .before .before .before .before in
+    let at-emit-xor = at-emit-xor2 .before .before .before in
+    bit-emits _ _ _ _ _ _ _ _ _ (at-emit-xor .emit-xor .ensures) (at-emit-xor2 .emit-xor2 .ensures) (c .before .before .before .before .before .before
+        .before .emit-and .ensures) (c .before .before .before .before .emit-and2 .ensures) (c .before .emit-or .ensures)
 
 pub sum-bit-spec : {M : Type 1} → statement M
 sum-bit-spec =

@@ -12,10 +12,17 @@ variables-requires : tie.Need-variables-requires
 variables-requires c κs = search needs
 
 returns : tie.Need-returns
-returns c = short-values _ _ _ _ _ (c .before .before .before .before .before .before .pre .0) (c .before .before .before .before .before .before .pre .1) (c .before .before .before .before .before .before .pre .2) (λ i. omega (arith, c .before .before .before .before .before .shared-slice-known .given i)) _ (c .before .before .sizes .ensures .1) _ (c .before .variables .ensures .0) (c .if1 .taken)
+returns c =
+    let entry = c .before .before .before .before .before .before in
+    short-values _ _ _ _ _ (entry .pre .0) (entry .pre .1) (entry .pre .2) (λ i. omega (arith, c .before .before .before .before .before
+        .shared-slice-known .given i)) _ (c .before .before .sizes .ensures .1) _ (c .before .variables .ensures .0) (c .if1 .taken)
 
 returns-2 : tie.Need-returns-2
-returns-2 c = short-choices _ _ _ _ _ (c .before .before .before .before .before .before .before .pre .0) (c .before .before .before .before .before .before .before .pre .1) (c .before .before .before .before .before .before .before .pre .2) (λ i. omega (arith, c .before .before .before .before .before .before .shared-slice-known .given i)) _ (c .before .before .before .sizes .ensures .1) _ (c .before .before .variables .ensures .0) (c .before .if1 .left) (c .if2 .taken)
+returns-2 c =
+    let entry = c .before .before .before .before .before .before .before in
+    short-choices _ _ _ _ _ (entry .pre .0) (entry .pre .1) (entry .pre .2) (λ i. omega (arith, c .before .before .before .before .before .before
+        .shared-slice-known .given i)) _ (c .before .before .before .sizes .ensures .1) _ (c .before .before .variables .ensures .0) (c .before .if1
+        .left) (c .if2 .taken)
 
 frame-length-requires : tie.Need-frame-length-requires
 frame-length-requires c κs = search needs
@@ -30,19 +37,46 @@ add-base-3 : tie.Need-add-base-3
 add-base-3 c = search needs
 
 first-bad-requires : tie.Need-first-bad-requires
-first-bad-requires c κs = frames-fit (c .before .before .before .before .before .before .before .before .before .before .args .values .now) (c .before .before .before .before .before .before .sizes .result) (c .before .before .before .before .before .before .before .before .before .before .args .bound) _ _ (c .before .before .before .before .before .variables .ensures .0) (c .before .before .before .before .if1 .left) (c .before .before .frame-length .ensures .0)
+first-bad-requires c κs =
+    let entry = c .before .before .before .before .before .before .before .before .before .before in
+    frames-fit (entry .args .values .now) (c .before .before .before .before .before .before .sizes .result) (entry .args .bound) _ _ (c .before .before
+        .before .before .before .variables .ensures .0) (c .before .before .before .before .if1 .left) (c .before .before .frame-length .ensures .0)
 
 returns-3 : tie.Need-returns-3
-returns-3 c = bad-frame _ _ _ _ _ (c .before .before .before .before .before .before .before .before .before .before .before .before .pre .0) (c .before .before .before .before .before .before .before .before .before .before .before .before .pre .1) (c .before .before .before .before .before .before .before .before .before .before .before .before .pre .2) (λ i. omega (arith, c .before .before .before .before .before .before .before .before .before .before .before .shared-slice-known .given i)) _ (c .before .before .before .before .before .before .before .before .sizes .ensures .1) _ (c .before .before .before .before .before .before .before .variables .ensures .0) (c .before .before .before .before .before .before .if1 .left) (c .before .before .before .before .before .if2 .left) _ _ _ (c .before .before .before .before .frame-length .ensures .0) refl refl _ (c .before .first-bad .ensures .0) (c .if3 .taken)
+returns-3 c =
+    let at-sizes = c .before .before .before .before .before .before .before .before in
+    let at-shared-slice-known = at-sizes .before .before .before in
+    let entry = at-shared-slice-known .before in
+    bad-frame _ _ _ _ _ (entry .pre .0) (entry .pre .1) (entry .pre .2) (λ i. omega (arith, at-shared-slice-known .shared-slice-known .given i)) _
+        (at-sizes .sizes .ensures .1) _ (c .before .before .before .before .before .before .before .variables .ensures .0) (c .before .before .before
+        .before .before .before .if1 .left) (c .before .before .before .before .before .if2 .left) _ _ _ (c .before .before .before .before
+        .frame-length .ensures .0) refl refl _ (c .before .first-bad .ensures .0) (c .if3 .taken)
 
 write-choices-requires : tie.Need-write-choices-requires
-write-choices-requires c κs = let h = frames-fit (c .before .before .before .before .before .before .before .before .before .before .before .before .before .args .values .now) (c .before .before .before .before .before .before .before .before .before .sizes .result) (c .before .before .before .before .before .before .before .before .before .before .before .before .before .args .bound) _ _ (c .before .before .before .before .before .before .before .before .variables .ensures .0) (c .before .before .before .before .before .before .before .if1 .left) (c .before .before .before .before .before .frame-length .ensures .0) in (h .0, h .1, c .before .before .before .before .before .before .before .before .before .sizes .ensures .0 .movers, c .before .before .before .before .before .before .if2 .left)
+write-choices-requires c κs =
+    let at-variables = c .before .before .before .before .before .before .before .before in
+    let at-sizes = at-variables .before in
+    let entry = at-sizes .before .before .before .before in
+    let h = frames-fit (entry .args .values .now) (at-sizes .sizes .result) (entry .args .bound) _ _ (at-variables .variables .ensures .0) (c .before
+        .before .before .before .before .before .before .if1 .left) (c .before .before .before .before .before .frame-length .ensures .0) in (h .0, h
+        .1, at-sizes .sizes .ensures .0 .movers, c .before .before .before .before .before .before .if2 .left)
 
 same-length : tie.Need-same-length
 same-length c = search needs
 
 returns-4 : tie.Need-returns-4
-returns-4 c = good-frames _ _ _ _ _ (c .before .before .before .before .before .before .before .before .before .before .before .before .before .before .before .before .pre .0) (c .before .before .before .before .before .before .before .before .before .before .before .before .before .before .before .before .pre .1) (c .before .before .before .before .before .before .before .before .before .before .before .before .before .before .before .before .pre .2) (λ i. omega (arith, c .before .before .before .before .before .before .before .before .before .before .before .before .before .before .before .shared-slice-known .given i)) _ (c .before .before .before .before .before .before .before .before .before .before .before .before .sizes .ensures .1) _ (c .before .before .before .before .before .before .before .before .before .before .before .variables .ensures .0) (c .before .before .before .before .before .before .before .before .before .before .if1 .left) (c .before .before .before .before .before .before .before .before .before .if2 .left) _ _ _ (c .before .before .before .before .before .before .before .before .frame-length .ensures .0) refl refl _ (c .before .before .before .before .before .first-bad .ensures .0) (c .before .before .before .before .if3 .left) _ (c .before .before .write-choices .ensures)
+returns-4 c =
+    let at-frame-length = c .before .before .before .before .before .before .before .before in
+    let at-if2 = at-frame-length .before in
+    let at-if1 = at-if2 .before in
+    let at-variables = at-if1 .before in
+    let at-sizes = at-variables .before in
+    let at-shared-slice-known = at-sizes .before .before .before in
+    let entry = at-shared-slice-known .before in
+    good-frames _ _ _ _ _ (entry .pre .0) (entry .pre .1) (entry .pre .2) (λ i. omega (arith, at-shared-slice-known .shared-slice-known .given i)) _
+        (at-sizes .sizes .ensures .1) _ (at-variables .variables .ensures .0) (at-if1 .if1 .left) (at-if2 .if2 .left) _ _ _ (at-frame-length
+        .frame-length .ensures .0) refl refl _ (c .before .before .before .before .before .first-bad .ensures .0) (c .before .before .before .before
+        .if3 .left) _ (c .before .before .write-choices .ensures)
 
 pub decode-accepted-spec : {M : Type 1} → statement M
 decode-accepted-spec =

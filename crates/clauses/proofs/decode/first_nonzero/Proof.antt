@@ -18,7 +18,9 @@ shared-slice-read-if1 : tie.Need-shared-slice-read-if1 Inv-loop μ-loop
 shared-slice-read-if1 c = search needs
 
 returns : tie.Need-returns Inv-loop μ-loop
-returns c = (passing-found _ _ (c .before .before .loop-test .taken) (c .before .before .before .loop .inv) (c .if1 .taken), c .before .before .before .loop .inv .inside)
+returns c =
+    let at-loop = c .before .before .before in
+    (passing-found _ _ (c .before .before .loop-test .taken) (at-loop .loop .inv) (c .if1 .taken), at-loop .loop .inv .inside)
 
 add-i : tie.Need-add-i Inv-loop μ-loop
 add-i c = search needs

@@ -30,7 +30,10 @@ chosen-requires : tie.Need-chosen-requires Inv-loop μ-loop
 chosen-requires c κs = search needs
 
 cast-choices : tie.Need-cast-choices Inv-loop μ-loop
-cast-choices c = omega (arith, c .chosen .ensures .1, c .before .before .before .before .before .before .pre .2, flags-long _ _ _ _ _ _ _ (c .before .before .loop-test .taken) (c .before .before .before .loop .inv .next) (c .before .before .before .before .before .before .pre .1))
+cast-choices c =
+    let entry = c .before .before .before .before .before .before in
+    omega (arith, c .chosen .ensures .1, entry .pre .2, flags-long _ _ _ _ _ _ _ (c .before .before .loop-test .taken) (c .before .before .before .loop
+        .inv .next) (entry .pre .1))
 
 slice-write-choices : tie.Need-slice-write-choices Inv-loop μ-loop
 slice-write-choices c = omega (arith, c .before .before .before .loop .inv .long, c .before .before .before .before .before .before .pre .3)
@@ -45,7 +48,9 @@ loop-less : tie.Need-loop-less Inv-loop μ-loop
 loop-less c = search needs
 
 loop-again : tie.Need-loop-again Inv-loop μ-loop
-loop-again c = writing-on _ _ _ _ _ _ _ _ _ _ (c .before .before .loop-test .taken) (c .before .before .before .before .before .before .pre .3) (c .before .before .before .loop .inv) (c .chosen .ensures .0)
+loop-again c =
+    writing-on _ _ _ _ _ _ _ _ _ _ (c .before .before .loop-test .taken) (c .before .before .before .before .before .before .pre .3) (c .before .before
+        .before .loop .inv) (c .chosen .ensures .0)
 
 same-length : tie.Need-same-length Inv-loop μ-loop
 same-length c = c .before .loop .inv .long

@@ -21,7 +21,10 @@ part-words-requires : tie.Need-part-words-requires
 part-words-requires c κs = search needs
 
 returns : tie.Need-returns
-returns c = encode-short _ _ _ _ _ (c .before .before .before .before .pre .0) (c .before .before .before .before .pre .1) (c .before .before .before .before .pre .2) (c .before .before .before .before .pre .3) (λ i. omega (arith, c .before .before .before .shared-slice-known .given i)) _ (c .before .before .sizes .ensures .1) _ (c .before .part-words .ensures) (c .if1 .taken)
+returns c =
+    let entry = c .before .before .before .before in
+    encode-short _ _ _ _ _ (entry .pre .0) (entry .pre .1) (entry .pre .2) (entry .pre .3) (λ i. omega (arith, c .before .before .before
+        .shared-slice-known .given i)) _ (c .before .before .sizes .ensures .1) _ (c .before .part-words .ensures) (c .if1 .taken)
 
 trailer-word-requires : tie.Need-trailer-word-requires
 trailer-word-requires c κs = (bounds _ (c .before .before .before .before .pre .0) .long, omega arith)
@@ -36,13 +39,28 @@ index-cells-requires : tie.Need-index-cells-requires
 index-cells-requires c κs = search needs
 
 put-part-requires : tie.Need-put-part-requires
-put-part-requires c κs = (frame-ready _ _ _ _ _ _ _ _ (c .before .before .before .before .before .before .before .before .before .before .before .before .before .pre .0) (λ i. omega (arith, c .before .before .before .before .before .before .before .before .before .before .before .before .shared-slice-known .given i)) (c .before .before .before .before .before .index-events .ensures) (c .before .before .before .before .before .before .before .before .trailer-word .ensures .0) (c .before .before .before .before .before .before .before .trailer-word2 .ensures .0) (c .before .before .before .index-cells .ensures) (c .before .before .before .before .before .before .before .before .before .before .before .sizes .ensures .0) (c .before .before .before .before .before .before .before .before .before .before .before .sizes .ensures .1), c .before .before .before .before .before .before .before .before .before .before .before .before .before .pre .2, c .before .before .before .before .before .before .before .before .before .before .before .before .before .pre .3)
+put-part-requires c κs =
+    let at-trailer-word = c .before .before .before .before .before .before .before .before in
+    let at-sizes = at-trailer-word .before .before .before in
+    let at-shared-slice-known = at-sizes .before in
+    let entry = at-shared-slice-known .before in
+    (frame-ready _ _ _ _ _ _ _ _ (entry .pre .0) (λ i. omega (arith, at-shared-slice-known .shared-slice-known .given i)) (c .before .before .before
+        .before .before .index-events .ensures) (at-trailer-word .trailer-word .ensures .0) (c .before .before .before .before .before .before .before
+        .trailer-word2 .ensures .0) (c .before .before .before .index-cells .ensures) (at-sizes .sizes .ensures .0) (at-sizes .sizes .ensures .1),
+        entry .pre .2, entry .pre .3)
 
 same-length : tie.Need-same-length
 same-length c = search needs
 
 returns-2 : tie.Need-returns-2
-returns-2 c = encode-done _ _ _ _ _ (c .before .before .before .before .before .before .before .before .before .before .before .before .before .before .before .pre .0) (c .before .before .before .before .before .before .before .before .before .before .before .before .before .before .before .pre .1) (c .before .before .before .before .before .before .before .before .before .before .before .before .before .before .before .pre .2) (c .before .before .before .before .before .before .before .before .before .before .before .before .before .before .before .pre .3) (λ i. omega (arith, c .before .before .before .before .before .before .before .before .before .before .before .before .before .before .shared-slice-known .given i)) _ (c .before .before .before .before .before .before .before .before .before .before .before .before .before .sizes .ensures .1) _ (c .before .before .before .before .before .before .before .before .before .before .before .before .part-words .ensures) (c .before .before .before .before .before .before .before .before .before .before .before .if1 .left) _ _ (c .before .put-part .ensures)
+returns-2 c =
+    let at-if1 = c .before .before .before .before .before .before .before .before .before .before .before in
+    let at-part-words = at-if1 .before in
+    let at-sizes = at-part-words .before in
+    let at-shared-slice-known = at-sizes .before in
+    let entry = at-shared-slice-known .before in
+    encode-done _ _ _ _ _ (entry .pre .0) (entry .pre .1) (entry .pre .2) (entry .pre .3) (λ i. omega (arith, at-shared-slice-known .shared-slice-known
+        .given i)) _ (at-sizes .sizes .ensures .1) _ (at-part-words .part-words .ensures) (at-if1 .if1 .left) _ _ (c .before .put-part .ensures)
 
 pub encode-accepted-spec : {M : Type 1} → statement M
 encode-accepted-spec =

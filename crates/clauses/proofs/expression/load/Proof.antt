@@ -37,7 +37,9 @@ loop-less : tie.Need-loop-less Inv-loop μ-loop
 loop-less c = omega arith
 
 loop-again : tie.Need-loop-again Inv-loop μ-loop
-loop-again c = loading-on _ _ _ _ _ (c .before .before .before .pre .0) (c .before .before .before .pre .1) (c .before .loop-test .taken) (c .before .before .loop .inv)
+loop-again c =
+    let entry = c .before .before .before in
+    loading-on _ _ _ _ _ (entry .pre .0) (entry .pre .1) (c .before .loop-test .taken) (c .before .before .loop .inv)
 
 returns : tie.Need-returns Inv-loop μ-loop
 returns c = loading-end _ _ _ _ _ (c .before .before .pre .0) (c .before .before .pre .1) (c .loop-test .left) (c .before .loop .inv)

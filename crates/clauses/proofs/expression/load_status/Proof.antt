@@ -18,13 +18,21 @@ mul-o : tie.Need-mul-o
 mul-o c = search needs
 
 add-o : tie.Need-add-o
-add-o c = omega (arith, status-room (c .before .before .before .args .file .now) (c .before .before .before .args .nv) (c .before .before .before .args .nm) (c .before .before .before .args .m) _ (c .before .before .before .pre .1) (ap (λ (j : ℕ). j + 4 * (c .before .before .before .args .m)) (c .offset .ensures)), c .before .before .before .pre .0)
+add-o c =
+    let entry = c .before .before .before in
+    omega (arith, status-room (entry .args .file .now) (entry .args .nv) (entry .args .nm) (entry .args .m) _ (entry .pre .1) (ap (λ (j : ℕ). j + 4 *
+        (entry .args .m)) (c .offset .ensures)), entry .pre .0)
 
 load-requires : tie.Need-load-requires
-load-requires c κs = omega (arith, status-room (c .before .before .before .args .file .now) (c .before .before .before .args .nv) (c .before .before .before .args .nm) (c .before .before .before .args .m) _ (c .before .before .before .pre .1) (ap (λ (j : ℕ). j + 4 * (c .before .before .before .args .m)) (c .offset .ensures)), c .before .before .before .pre .0)
+load-requires c κs =
+    let entry = c .before .before .before in
+    omega (arith, status-room (entry .args .file .now) (entry .args .nv) (entry .args .nm) (entry .args .m) _ (entry .pre .1) (ap (λ (j : ℕ). j + 4 *
+        (entry .args .m)) (c .offset .ensures)), entry .pre .0)
 
 returns : tie.Need-returns
-returns c = c .load .ensures ∙ ap (pad 16) (sym (status-slot _ _ _ _ _ _ (c .before .before .before .before .pre .1) (ap (λ (j : ℕ). j + 4 * (c .before .before .before .before .args .m)) (c .before .offset .ensures))))
+returns c =
+    let entry = c .before .before .before .before in
+    c .load .ensures ∙ ap (pad 16) (sym (status-slot _ _ _ _ _ _ (entry .pre .1) (ap (λ (j : ℕ). j + 4 * (entry .args .m)) (c .before .offset .ensures))))
 
 pub load-status-spec : {M : Type 1} → statement M
 load-status-spec = tie.close (tie.spec offset-requires mul-o add-o load-requires returns)

@@ -14,10 +14,16 @@ offset-requires : tie.Need-offset-requires
 offset-requires c κs = search needs
 
 load-requires : tie.Need-load-requires
-load-requires c κs = omega (arith, variable-room (c .before .before .before .args .file .now) (c .before .before .before .args .nv) (c .before .before .before .args .nm) (c .before .before .before .args .v) (c .offset .result) 16 (c .before .before .before .pre .1) (c .offset .ensures) (integer-width (c .before .before .before .args .file .now) (c .before .before .before .args .v) (c .before .before .before .pre .2)), c .before .before .before .pre .0)
+load-requires c κs =
+    let entry = c .before .before .before in
+    omega (arith, variable-room (entry .args .file .now) (entry .args .nv) (entry .args .nm) (entry .args .v) (c .offset .result) 16 (entry .pre .1) (c
+        .offset .ensures) (integer-width (entry .args .file .now) (entry .args .v) (entry .pre .2)), entry .pre .0)
 
 returns : tie.Need-returns
-returns c = c .load .ensures ∙ ap (pad 16) (sym (variable-slot _ _ _ _ _ _ _ (c .before .before .before .before .pre .1) (c .before .offset .ensures) (integer-width (c .before .before .before .before .args .file .now) (c .before .before .before .before .args .v) (c .before .before .before .before .pre .2))))
+returns c =
+    let entry = c .before .before .before .before in
+    c .load .ensures ∙ ap (pad 16) (sym (variable-slot _ _ _ _ _ _ _ (entry .pre .1) (c .before .offset .ensures) (integer-width (entry .args .file .now)
+        (entry .args .v) (entry .pre .2))))
 
 pub load-variable-spec : {M : Type 1} → statement M
 load-variable-spec = tie.close (tie.spec offset-requires load-requires returns)

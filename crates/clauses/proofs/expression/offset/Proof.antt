@@ -26,7 +26,9 @@ width-requires : tie.Need-width-requires Inv-loop μ-loop
 width-requires c κs = tt
 
 add-bits : tie.Need-add-bits Inv-loop μ-loop
-add-bits c = omega (arith, wd-bound (c .before .before .before .before .before .args .file .now) (c .before .before .before .loop .i) (c .width .result) (c .width .ensures))
+add-bits c =
+    omega (arith, wd-bound (c .before .before .before .before .before .args .file .now) (c .before .before .before .loop .i) (c .width .result) (c .width
+        .ensures))
 
 add-i : tie.Need-add-i Inv-loop μ-loop
 add-i c = omega arith

@@ -12,25 +12,46 @@ put-values-requires : tie.Need-put-values-requires
 put-values-requires c κs = search needs
 
 offset-requires : tie.Need-offset-requires
-offset-requires c κs = (first-small (c .before .before .before .before .before .before .before .args .file .now) (c .before .before .before .before .before .before .before .pre .0) (c .before .before .before .before .before .before .before .args .nv) (c .before .before .before .before .before .before .before .args .nm) (c .before .before .before .before .before .before .before .pre .1) (c .before .before .before .before .before .before .before .pre .2) _ refl .3, omega (arith, first-small (c .before .before .before .before .before .before .before .args .file .now) (c .before .before .before .before .before .before .before .pre .0) (c .before .before .before .before .before .before .before .args .nv) (c .before .before .before .before .before .before .before .args .nm) (c .before .before .before .before .before .before .before .pre .1) (c .before .before .before .before .before .before .before .pre .2) _ refl))
+offset-requires c κs =
+    let entry = c .before .before .before .before .before .before .before in
+    (first-small (entry .args .file .now) (entry .pre .0) (entry .args .nv) (entry .args .nm) (entry .pre .1) (entry .pre .2) _ refl .3, omega (arith,
+        first-small (entry .args .file .now) (entry .pre .0) (entry .args .nv) (entry .args .nm) (entry .pre .1) (entry .pre .2) _ refl))
 
 add-x : tie.Need-add-x
-add-x c = omega (arith, first-small (c .before .before .before .before .before .before .before .before .args .file .now) (c .before .before .before .before .before .before .before .before .pre .0) (c .before .before .before .before .before .before .before .before .args .nv) (c .before .before .before .before .before .before .before .before .args .nm) (c .before .before .before .before .before .before .before .before .pre .1) (c .before .before .before .before .before .before .before .before .pre .2) (c .offset .result) (c .offset .ensures))
+add-x c =
+    let entry = c .before .before .before .before .before .before .before .before in
+    omega (arith, first-small (entry .args .file .now) (entry .pre .0) (entry .args .nv) (entry .args .nm) (entry .pre .1) (entry .pre .2) (c .offset
+        .result) (c .offset .ensures))
 
 cast-put-units : tie.Need-cast-put-units
-cast-put-units c = omega (arith, first-small (c .before .before .before .before .before .before .before .before .before .args .file .now) (c .before .before .before .before .before .before .before .before .before .pre .0) (c .before .before .before .before .before .before .before .before .before .args .nv) (c .before .before .before .before .before .before .before .before .before .args .nm) (c .before .before .before .before .before .before .before .before .before .pre .1) (c .before .before .before .before .before .before .before .before .before .pre .2) (c .before .offset .result) (c .before .offset .ensures))
+cast-put-units c =
+    let entry = c .before .before .before .before .before .before .before .before .before in
+    omega (arith, first-small (entry .args .file .now) (entry .pre .0) (entry .args .nv) (entry .args .nm) (entry .pre .1) (entry .pre .2) (c .before
+        .offset .result) (c .before .offset .ensures))
 
 mul-put-units : tie.Need-mul-put-units
-mul-put-units c = omega (arith, first-small (c .before .before .before .before .before .before .before .before .before .args .file .now) (c .before .before .before .before .before .before .before .before .before .pre .0) (c .before .before .before .before .before .before .before .before .before .args .nv) (c .before .before .before .before .before .before .before .before .before .args .nm) (c .before .before .before .before .before .before .before .before .before .pre .1) (c .before .before .before .before .before .before .before .before .before .pre .2) (c .before .offset .result) (c .before .offset .ensures))
+mul-put-units c =
+    let entry = c .before .before .before .before .before .before .before .before .before in
+    omega (arith, first-small (entry .args .file .now) (entry .pre .0) (entry .args .nv) (entry .args .nm) (entry .pre .1) (entry .pre .2) (c .before
+        .offset .result) (c .before .offset .ensures))
 
 put-units-requires : tie.Need-put-units-requires
-put-units-requires c κs = omega (arith, first-small (c .before .before .before .before .before .before .before .before .before .args .file .now) (c .before .before .before .before .before .before .before .before .before .pre .0) (c .before .before .before .before .before .before .before .before .before .args .nv) (c .before .before .before .before .before .before .before .before .before .args .nm) (c .before .before .before .before .before .before .before .before .before .pre .1) (c .before .before .before .before .before .before .before .before .before .pre .2) (c .before .offset .result) (c .before .offset .ensures))
+put-units-requires c κs =
+    let entry = c .before .before .before .before .before .before .before .before .before in
+    omega (arith, first-small (entry .args .file .now) (entry .pre .0) (entry .args .nv) (entry .args .nm) (entry .pre .1) (entry .pre .2) (c .before
+        .offset .result) (c .before .offset .ensures))
 
 same-length : tie.Need-same-length
 same-length c = search needs
 
 returns : tie.Need-returns
-returns c = first-puts (c .before .before .before .before .before .before .before .before .before .before .before .args .file .now) (c .before .before .before .before .before .before .before .before .before .before .before .pre .0) (c .before .before .before .before .before .before .before .before .before .before .before .args .nv) (c .before .before .before .before .before .before .before .before .before .before .before .args .nm) (c .before .before .before .before .before .before .before .before .before .before .before .pre .1) (c .before .before .before .before .before .before .before .before .before .before .before .pre .2) (c .before .before .before .offset .result) (c .before .before .before .offset .ensures) _ refl (c .before .before .before .before .before .before .before .before .clause1 .ensures) (c .before .before .before .before .before .put-values .ensures) (c .before .put-units .ensures)
+returns c =
+    let at-offset = c .before .before .before in
+    let at-clause1 = at-offset .before .before .before .before .before in
+    let entry = at-clause1 .before .before .before in
+    first-puts (entry .args .file .now) (entry .pre .0) (entry .args .nv) (entry .args .nm) (entry .pre .1) (entry .pre .2) (at-offset .offset .result)
+        (at-offset .offset .ensures) _ refl (at-clause1 .clause1 .ensures) (c .before .before .before .before .before .put-values .ensures) (c .before
+        .put-units .ensures)
 
 pub put-first-spec : {M : Type 1} → statement M
 put-first-spec =

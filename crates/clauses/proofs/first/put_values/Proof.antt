@@ -17,46 +17,82 @@ loop-holds : tie.Need-loop-holds Inv-loop μ-loop
 loop-holds c = (valuing-start _ _ _ _, refl)
 
 mul-width : tie.Need-mul-width Inv-loop μ-loop
-mul-width c = omega (arith, values-inside (c .before .before .before .args .file .now) (c .before .before .before .pre .0) (c .before .before .before .args .nv) (c .before .before .before .pre .1) (c .before .loop .v) (c .loop-test .taken))
+mul-width c =
+    let entry = c .before .before .before in
+    omega (arith, values-inside (entry .args .file .now) (entry .pre .0) (entry .args .nv) (entry .pre .1) (c .before .loop .v) (c .loop-test .taken))
 
 shared-slice-read-width : tie.Need-shared-slice-read-width Inv-loop μ-loop
-shared-slice-read-width c = omega (arith, values-inside (c .before .before .before .before .args .file .now) (c .before .before .before .before .pre .0) (c .before .before .before .before .args .nv) (c .before .before .before .before .pre .1) (c .before .before .loop .v) (c .before .loop-test .taken))
+shared-slice-read-width c =
+    let entry = c .before .before .before .before in
+    omega (arith, values-inside (entry .args .file .now) (entry .pre .0) (entry .args .nv) (entry .pre .1) (c .before .before .loop .v) (c .before
+        .loop-test .taken))
 
 width-requires : tie.Need-width-requires Inv-loop μ-loop
 width-requires c κs = tt
 
 mul-word : tie.Need-mul-word Inv-loop μ-loop
-mul-word c = omega (arith, values-inside (c .before .before .before .before .before .args .file .now) (c .before .before .before .before .before .pre .0) (c .before .before .before .before .before .args .nv) (c .before .before .before .before .before .pre .1) (c .before .before .before .loop .v) (c .before .before .loop-test .taken))
+mul-word c =
+    let entry = c .before .before .before .before .before in
+    omega (arith, values-inside (entry .args .file .now) (entry .pre .0) (entry .args .nv) (entry .pre .1) (c .before .before .before .loop .v) (c .before
+        .before .loop-test .taken))
 
 add-word : tie.Need-add-word Inv-loop μ-loop
-add-word c = omega (arith, values-inside (c .before .before .before .before .before .args .file .now) (c .before .before .before .before .before .pre .0) (c .before .before .before .before .before .args .nv) (c .before .before .before .before .before .pre .1) (c .before .before .before .loop .v) (c .before .before .loop-test .taken))
+add-word c =
+    let entry = c .before .before .before .before .before in
+    omega (arith, values-inside (entry .args .file .now) (entry .pre .0) (entry .args .nv) (entry .pre .1) (c .before .before .before .loop .v) (c .before
+        .before .loop-test .taken))
 
 word-requires : tie.Need-word-requires Inv-loop μ-loop
-word-requires c κs = values-inside (c .before .before .before .before .before .args .file .now) (c .before .before .before .before .before .pre .0) (c .before .before .before .before .before .args .nv) (c .before .before .before .before .before .pre .1) (c .before .before .before .loop .v) (c .before .before .loop-test .taken) .0
+word-requires c κs =
+    let entry = c .before .before .before .before .before in
+    values-inside (entry .args .file .now) (entry .pre .0) (entry .args .nv) (entry .pre .1) (c .before .before .before .loop .v) (c .before .before
+        .loop-test .taken) .0
 
 put-units-requires : tie.Need-put-units-requires Inv-loop μ-loop
-put-units-requires c κs = omega (arith, wd-bound (c .before .before .before .before .before .before .before .args .file .now) (c .before .before .before .before .before .loop .v) (c .before .before .width .result) (c .before .before .width .ensures))
+put-units-requires c κs =
+    omega (arith, wd-bound (c .before .before .before .before .before .before .before .args .file .now) (c .before .before .before .before .before .loop
+        .v) (c .before .before .width .result) (c .before .before .width .ensures))
 
 cast-x : tie.Need-cast-x Inv-loop μ-loop
-cast-x c = omega (arith, wd-bound (c .before .before .before .before .before .before .before .before .before .args .file .now) (c .before .before .before .before .before .before .before .loop .v) (c .before .before .before .before .width .result) (c .before .before .before .before .width .ensures))
+cast-x c =
+    let at-width = c .before .before .before .before in
+    let entry = at-width .before .before .before .before .before in
+    omega (arith, wd-bound (entry .args .file .now) (c .before .before .before .before .before .before .before .loop .v) (at-width .width .result)
+        (at-width .width .ensures))
 
 add-x : tie.Need-add-x Inv-loop μ-loop
-add-x c = omega (arith, wd-bound (c .before .before .before .before .before .before .before .before .before .args .file .now) (c .before .before .before .before .before .before .before .loop .v) (c .before .before .before .before .width .result) (c .before .before .before .before .width .ensures), c .before .before .before .before .before .before .before .loop .inv .0 .small, values-inside (c .before .before .before .before .before .before .before .before .before .args .file .now) (c .before .before .before .before .before .before .before .before .before .pre .0) (c .before .before .before .before .before .before .before .before .before .args .nv) (c .before .before .before .before .before .before .before .before .before .pre .1) (c .before .before .before .before .before .before .before .loop .v) (c .before .before .before .before .before .before .loop-test .taken))
+add-x c =
+    let at-width = c .before .before .before .before in
+    let at-loop = at-width .before .before .before in
+    let entry = at-loop .before .before in
+    omega (arith, wd-bound (entry .args .file .now) (at-loop .loop .v) (at-width .width .result) (at-width .width .ensures), at-loop .loop .inv .0 .small,
+        values-inside (entry .args .file .now) (entry .pre .0) (entry .args .nv) (entry .pre .1) (at-loop .loop .v) (c .before .before .before .before
+        .before .before .loop-test .taken))
 
 add-v : tie.Need-add-v Inv-loop μ-loop
-add-v c = omega (arith, values-inside (c .before .before .before .before .before .before .before .before .before .args .file .now) (c .before .before .before .before .before .before .before .before .before .pre .0) (c .before .before .before .before .before .before .before .before .before .args .nv) (c .before .before .before .before .before .before .before .before .before .pre .1) (c .before .before .before .before .before .before .before .loop .v) (c .before .before .before .before .before .before .loop-test .taken))
+add-v c =
+    let entry = c .before .before .before .before .before .before .before .before .before in
+    omega (arith, values-inside (entry .args .file .now) (entry .pre .0) (entry .args .nv) (entry .pre .1) (c .before .before .before .before .before
+        .before .before .loop .v) (c .before .before .before .before .before .before .loop-test .taken))
 
 loop-less : tie.Need-loop-less Inv-loop μ-loop
 loop-less c = omega arith
 
 loop-again : tie.Need-loop-again Inv-loop μ-loop
-loop-again c = (valuing-on (c .before .before .before .before .before .before .before .before .before .args .file .now) (c .before .before .before .before .before .before .before .before .before .pre .0) (c .before .before .before .before .before .before .before .before .before .args .nv) (c .before .before .before .before .before .before .before .before .before .pre .1) (c .before .before .before .before .before .before .loop-test .taken) (c .before .before .before .before .before .before .before .loop .inv .0) _ _ _ (c .before .before .before .before .width .ensures) (c .before .before .before .word .ensures .0) refl (c .before .put-units .ensures), omega arith)
+loop-again c =
+    (valuing-on (c .before .before .before .before .before .before .before .before .before .args .file .now) (c .before .before .before .before .before
+        .before .before .before .before .pre .0) (c .before .before .before .before .before .before .before .before .before .args .nv) (c .before
+        .before .before .before .before .before .before .before .before .pre .1) (c .before .before .before .before .before .before .loop-test .taken)
+        (c .before .before .before .before .before .before .before .loop .inv .0) _ _ _ (c .before .before .before .before .width .ensures) (c .before
+        .before .before .word .ensures .0) refl (c .before .put-units .ensures), omega arith)
 
 same-length : tie.Need-same-length Inv-loop μ-loop
 same-length c = omega (arith, c .before .loop .inv .1)
 
 returns : tie.Need-returns Inv-loop μ-loop
-returns c = valuing-end (c .before .before .before .args .file .now) (c .before .before .before .pre .0) (c .before .before .before .args .nv) (c .before .before .before .pre .1) (c .loop-test .left) (c .before .loop .inv .0)
+returns c =
+    let entry = c .before .before .before in
+    valuing-end (entry .args .file .now) (entry .pre .0) (entry .args .nv) (entry .pre .1) (c .loop-test .left) (c .before .loop .inv .0)
 
 pub put-values-spec : {M : Type 1} → statement M
 put-values-spec =

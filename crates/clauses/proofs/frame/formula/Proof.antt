@@ -85,7 +85,13 @@ add-t25 : tie.Need-add-t25
 add-t25 c = search needs
 
 returns : tie.Need-returns
-returns c = formula-same (c .before .before .before .before .before .before .before .before .before .before .before .before .before .before .before .args .s) _ _ _ _ (c .before .before .before .before .before .before .before .before .variables .ensures .0) (clauses-sum (c .before .before .before .before .before .before .before .before .before .before .before .before .before .before .before .args .s) _ _ _ _ (c .before .before .before .before .times2 .ensures .0) (c .before .before .before .before .before .before .times .ensures .0) (c .before .before .before .before .before .step-clauses .ensures .0)) (words-sum (c .before .before .before .before .before .before .before .before .before .before .before .before .before .before .before .args .s) _ _ _ _ (c .times4 .ensures .0) (c .before .before .times3 .ensures .0) (c .before .step-words .ensures .0))
+returns c =
+    let at-variables = c .before .before .before .before .before .before .before .before in
+    let entry = at-variables .before .before .before .before .before .before .before in
+    let s = entry .args .s in
+    formula-same s _ _ _ _ (at-variables .variables .ensures .0) (clauses-sum s _ _ _ _ (c .before .before .before .before .times2 .ensures .0) (c .before
+        .before .before .before .before .before .times .ensures .0) (c .before .before .before .before .before .step-clauses .ensures .0)) (words-sum
+        s _ _ _ _ (c .times4 .ensures .0) (c .before .before .times3 .ensures .0) (c .before .step-words .ensures .0))
 
 pub formula-spec : {M : Type 1} → statement M
 formula-spec =

@@ -32,7 +32,11 @@ add-result-4 : tie.Need-add-result-4
 add-result-4 c = search needs
 
 returns : tie.Need-returns
-returns c = (omega (arith, c .before .before .before .pairs .ensures .0, c .times .ensures .0), omega (arith, c .before .before .before .pairs .ensures .1, c .times .ensures .0, ties-small _ (c .before .before .before .before .pre), c .before .before .before .before .pre .gates))
+returns c =
+    let at-pairs = c .before .before .before in
+    let entry = at-pairs .before in
+    (omega (arith, at-pairs .pairs .ensures .0, c .times .ensures .0), omega (arith, at-pairs .pairs .ensures .1, c .times .ensures .0, ties-small _
+        (entry .pre), entry .pre .gates))
 
 pub step-clauses-spec : {M : Type 1} → statement M
 step-clauses-spec =

@@ -38,7 +38,11 @@ add-result-5 : tie.Need-add-result-5
 add-result-5 c = search needs
 
 returns : tie.Need-returns
-returns c = (omega (arith, c .before .before .before .pairs .ensures .0, c .times .ensures .0), omega (arith, c .before .before .before .pairs .ensures .1, c .times .ensures .0, ties-small _ (c .before .before .before .before .before .pre), c .before .before .before .before .before .pre .gates, c .before .before .before .before .before .pre .movers))
+returns c =
+    let at-pairs = c .before .before .before in
+    let entry = at-pairs .before .before in
+    (omega (arith, at-pairs .pairs .ensures .0, c .times .ensures .0), omega (arith, at-pairs .pairs .ensures .1, c .times .ensures .0, ties-small _
+        (entry .pre), entry .pre .gates, entry .pre .movers))
 
 pub step-words-spec : {M : Type 1} → statement M
 step-words-spec =

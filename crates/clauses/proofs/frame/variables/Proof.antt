@@ -22,7 +22,9 @@ add-result-3 : tie.Need-add-result-3
 add-result-3 c = search needs
 
 returns : tie.Need-returns
-returns c = variables-sum _ (c .before .before .before .before .pre .0) _ _ _ (c .before .before .before .before .pre .1) (c .before .before .frame-length .ensures .0) (c .before .times .ensures .0)
+returns c =
+    let entry = c .before .before .before .before in
+    variables-sum _ (entry .pre .0) _ _ _ (entry .pre .1) (c .before .before .frame-length .ensures .0) (c .before .times .ensures .0)
 
 pub variables-spec : {M : Type 1} → statement M
 variables-spec =

@@ -38,7 +38,15 @@ same-length : tie.Need-same-length
 same-length c = search needs
 
 returns : tie.Need-returns
-returns c = and-emits _ _ _ _ _ _ _ (c .before .before .before .before .before .before .before .before .before .before .before .before .before .positive .ensures) (c .next .ensures) (c .before .before .before .before .before .before .before .before .before .before .before .before .negate .ensures) (c .before .before .before .before .before .before .before .before .before .before .before .negate2 .ensures) (c .before .before .before .before .before .before .before .before .before .before .negate3 .ensures) (c .before .before .before .before .before .before .before .before .clause2 .ensures) (c .before .before .before .before .before .clause22 .ensures) (c .before .before .clause3 .ensures)
+returns c =
+    let at-clause2 = c .before .before .before .before .before .before .before .before in
+    let at-negate3 = at-clause2 .before .before in
+    let at-negate2 = at-negate3 .before in
+    let at-negate = at-negate2 .before in
+    let at-positive = at-negate .before in
+    and-emits _ _ _ _ _ _ _ (at-positive .positive .ensures) (c .next .ensures) (at-negate .negate .ensures) (at-negate2 .negate2 .ensures) (at-negate3
+        .negate3 .ensures) (at-clause2 .clause2 .ensures) (c .before .before .before .before .before .clause22 .ensures) (c .before .before .clause3
+        .ensures)
 
 pub emit-and-spec : {M : Type 1} → statement M
 emit-and-spec =

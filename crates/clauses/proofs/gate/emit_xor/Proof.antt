@@ -40,7 +40,16 @@ same-length : tie.Need-same-length
 same-length c = search needs
 
 returns : tie.Need-returns
-returns c = xor-emits _ _ _ _ _ _ _ (c .before .before .before .before .before .before .before .before .before .before .before .before .before .before .before .before .positive .ensures) (c .next .ensures) (c .before .before .before .before .before .before .before .before .before .before .before .before .before .before .before .negate .ensures) (c .before .before .before .before .before .before .before .before .before .before .before .before .before .before .negate2 .ensures) (c .before .before .before .before .before .before .before .before .before .before .before .before .before .negate3 .ensures) (c .before .before .before .before .before .before .before .before .before .before .before .clause3 .ensures) (c .before .before .before .before .before .before .before .before .clause32 .ensures) (c .before .before .before .before .before .clause33 .ensures) (c .before .before .clause34 .ensures)
+returns c =
+    let at-clause32 = c .before .before .before .before .before .before .before .before in
+    let at-clause3 = at-clause32 .before .before .before in
+    let at-negate3 = at-clause3 .before .before in
+    let at-negate2 = at-negate3 .before in
+    let at-negate = at-negate2 .before in
+    let at-positive = at-negate .before in
+    xor-emits _ _ _ _ _ _ _ (at-positive .positive .ensures) (c .next .ensures) (at-negate .negate .ensures) (at-negate2 .negate2 .ensures) (at-negate3
+        .negate3 .ensures) (at-clause3 .clause3 .ensures) (at-clause32 .clause32 .ensures) (c .before .before .before .before .before .clause33
+        .ensures) (c .before .before .clause34 .ensures)
 
 pub emit-xor-spec : {M : Type 1} → statement M
 emit-xor-spec =

@@ -15,13 +15,18 @@ abbrev μ-loop : tie.MeasureT-loop
 μ-loop file events nv nm property stride bound buf₀ cur s at₀ x₀ j₀ buf at x j = bound + 1 - j
 
 state-bits-requires : tie.Need-state-bits-requires Inv-loop μ-loop
-state-bits-requires c κs = (kinds (c .before .args .file .now) (c .before .args .events .now) (c .before .args .nv) (c .before .args .nm) (c .before .pre .0), sizes (c .before .args .file .now) (c .before .args .events .now) (c .before .args .nv) (c .before .args .nm) (c .before .pre .0) .3, sizes (c .before .args .file .now) (c .before .args .events .now) (c .before .args .nv) (c .before .args .nm) (c .before .pre .0) .2)
+state-bits-requires c κs =
+    (kinds (c .before .args .file .now) (c .before .args .events .now) (c .before .args .nv) (c .before .args .nm) (c .before .pre .0), sizes (c .before
+        .args .file .now) (c .before .args .events .now) (c .before .args .nv) (c .before .args .nm) (c .before .pre .0) .3, sizes (c .before .args
+        .file .now) (c .before .args .events .now) (c .before .args .nv) (c .before .args .nm) (c .before .pre .0) .2)
 
 loop-holds : tie.Need-loop-holds Inv-loop μ-loop
 loop-holds c = (closing-start _ _ _ _ _ _, refl)
 
 property-literal-requires : tie.Need-property-literal-requires Inv-loop μ-loop
-property-literal-requires c κs = (c .before .before .before .before .pre .0, c .before .before .state-bits .ensures .0, omega (arith, c .before .loop .inv .0 .small, c .before .before .before .before .pre .2, c .loop-test .taken))
+property-literal-requires c κs =
+    let entry = c .before .before .before .before in
+    (entry .pre .0, c .before .before .state-bits .ensures .0, omega (arith, c .before .loop .inv .0 .small, entry .pre .2, c .loop-test .taken))
 
 negate-requires : tie.Need-negate-requires Inv-loop μ-loop
 negate-requires c κs = tt
@@ -30,16 +35,29 @@ put-literal-requires : tie.Need-put-literal-requires Inv-loop μ-loop
 put-literal-requires c κs = tt
 
 add-x : tie.Need-add-x Inv-loop μ-loop
-add-x c = omega (arith, c .before .before .before .before .before .before .loop .inv .0 .small, c .before .before .before .before .before .before .before .before .before .pre .1, c .before .before .before .before .before .before .before .before .before .pre .2, c .before .before .before .before .before .loop-test .taken)
+add-x c =
+    let entry = c .before .before .before .before .before .before .before .before .before in
+    omega (arith, c .before .before .before .before .before .before .loop .inv .0 .small, entry .pre .1, entry .pre .2, c .before .before .before .before
+        .before .loop-test .taken)
 
 add-j : tie.Need-add-j Inv-loop μ-loop
-add-j c = omega (arith, c .before .before .before .before .before .before .before .before .before .pre .2, c .before .before .before .before .before .loop-test .taken)
+add-j c =
+    let entry = c .before .before .before .before .before .before .before .before .before in
+    omega (arith, entry .pre .2, c .before .before .before .before .before .loop-test .taken)
 
 loop-less : tie.Need-loop-less Inv-loop μ-loop
 loop-less c = omega (arith, c .before .before .before .before .before .loop-test .taken)
 
 loop-again : tie.Need-loop-again Inv-loop μ-loop
-loop-again c = (closing-on (c .before .before .before .before .before .before .before .before .before .args .file .now) _ _ _ _ _ (c .before .before .before .before .before .loop-test .taken) (c .before .before .before .before .before .before .before .before .before .pre .1) (c .before .before .before .before .before .before .loop .inv .0) _ _ _ _ (λ d w. c .before .before .before .before .before .before .before .state-bits .ensures .0 ∙ bits-are (c .before .before .before .before .before .before .before .before .before .args .file .now) (c .before .before .before .before .before .before .before .before .before .args .events .now) (c .before .before .before .before .before .before .before .before .before .args .nv) (c .before .before .before .before .before .before .before .before .before .args .nm) (c .before .before .before .before .before .before .before .before .before .pre .0) d w) refl (c .before .before .before .before .property-literal .ensures) (c .before .before .negate .ensures) (c .before .put-literal .ensures), omega arith)
+loop-again c =
+    (closing-on (c .before .before .before .before .before .before .before .before .before .args .file .now) _ _ _ _ _ (c .before .before .before .before
+        .before .loop-test .taken) (c .before .before .before .before .before .before .before .before .before .pre .1) (c .before .before .before
+        .before .before .before .loop .inv .0) _ _ _ _ (λ d w. c .before .before .before .before .before .before .before .state-bits .ensures .0 ∙
+        bits-are (c .before .before .before .before .before .before .before .before .before .args .file .now) (c .before .before .before .before
+        .before .before .before .before .before .args .events .now) (c .before .before .before .before .before .before .before .before .before .args
+        .nv) (c .before .before .before .before .before .before .before .before .before .args .nm) (c .before .before .before .before .before .before
+        .before .before .before .pre .0) d w) refl (c .before .before .before .before .property-literal .ensures) (c .before .before .negate .ensures)
+        (c .before .put-literal .ensures), omega arith)
 
 put-end-requires : tie.Need-put-end-requires Inv-loop μ-loop
 put-end-requires c κs = tt
@@ -48,7 +66,8 @@ same-length : tie.Need-same-length Inv-loop μ-loop
 same-length c = omega (arith, c .before .before .before .before .loop .inv .1)
 
 returns : tie.Need-returns Inv-loop μ-loop
-returns c = closing-end _ _ _ _ _ _ (c .before .before .before .loop-test .left) (c .before .before .before .before .loop .inv .0) (c .before .put-end .ensures)
+returns c =
+    closing-end _ _ _ _ _ _ (c .before .before .before .loop-test .left) (c .before .before .before .before .loop .inv .0) (c .before .put-end .ensures)
 
 pub put-last-spec : {M : Type 1} → statement M
 put-last-spec =

@@ -21,19 +21,28 @@ use Rattle.clauses.proofs.mover.encode_event.Reads as encode-event-read
 use Rattle.design.proofs.bytes.wide.Reads as wide-reads
 
 shared-slice-read-wide : tie.Need-shared-slice-read-wide
-shared-slice-read-wide c = omega (arith, (c .before .before .pre .2) .header, sizes (c .before .before .args .file .now) (c .before .before .args .events .now) (c .before .before .args .nv) (c .before .before .args .nm) (c .before .before .pre .0))
+shared-slice-read-wide c =
+    omega (arith, (c .before .before .pre .2) .header, sizes (c .before .before .args .file .now) (c .before .before .args .events .now) (c .before
+        .before .args .nv) (c .before .before .args .nm) (c .before .before .pre .0))
 
 wide-requires : tie.Need-wide-requires
 wide-requires c κs = tt
 
 load-status-requires : tie.Need-load-status-requires
-load-status-requires c κs = (slotted (c .before .before .before .before .args .file .now) (c .before .before .before .before .args .events .now) (c .before .before .before .before .args .nv) (c .before .before .before .before .args .nm) (c .before .before .before .before .pre .0) _ (c .before .before .before .before .pre .1), omega (arith, c .before .wide .ensures .0, (c .before .before .before .before .pre .2) .matrix, (c .before .before .before .before .pre .0) .matrices))
+load-status-requires c κs =
+    let entry = c .before .before .before .before in
+    (slotted (entry .args .file .now) (entry .args .events .now) (entry .args .nv) (entry .args .nm) (entry .pre .0) _ (entry .pre .1), omega (arith, c
+        .before .wide .ensures .0, (entry .pre .2) .matrix, (entry .pre .0) .matrices))
 
 add-wide : tie.Need-add-wide
-add-wide c = omega (arith, (c .before .before .before .before .before .pre .2) .header, sizes (c .before .before .before .before .before .args .file .now) (c .before .before .before .before .before .args .events .now) (c .before .before .before .before .before .args .nv) (c .before .before .before .before .before .args .nm) (c .before .before .before .before .before .pre .0))
+add-wide c =
+    let entry = c .before .before .before .before .before in
+    omega (arith, (entry .pre .2) .header, sizes (entry .args .file .now) (entry .args .events .now) (entry .args .nv) (entry .args .nm) (entry .pre .0))
 
 shared-slice-read-wide-2 : tie.Need-shared-slice-read-wide-2
-shared-slice-read-wide-2 c = omega (arith, (c .before .before .before .before .before .before .pre .2) .header, sizes (c .before .before .before .before .before .before .args .file .now) (c .before .before .before .before .before .before .args .events .now) (c .before .before .before .before .before .before .args .nv) (c .before .before .before .before .before .before .args .nm) (c .before .before .before .before .before .before .pre .0))
+shared-slice-read-wide-2 c =
+    let entry = c .before .before .before .before .before .before in
+    omega (arith, (entry .pre .2) .header, sizes (entry .args .file .now) (entry .args .events .now) (entry .args .nv) (entry .args .nm) (entry .pre .0))
 
 wide-requires-2 : tie.Need-wide-requires-2
 wide-requires-2 c κs = tt
@@ -48,16 +57,25 @@ equal-requires : tie.Need-equal-requires
 equal-requires c κs = tt
 
 add-wide-2 : tie.Need-add-wide-2
-add-wide-2 c = omega (arith, (c .before .before .before .before .before .before .before .before .before .before .before .pre .2) .header, sizes (c .before .before .before .before .before .before .before .before .before .before .before .args .file .now) (c .before .before .before .before .before .before .before .before .before .before .before .args .events .now) (c .before .before .before .before .before .before .before .before .before .before .before .args .nv) (c .before .before .before .before .before .before .before .before .before .before .before .args .nm) (c .before .before .before .before .before .before .before .before .before .before .before .pre .0))
+add-wide-2 c =
+    let entry = c .before .before .before .before .before .before .before .before .before .before .before in
+    omega (arith, (entry .pre .2) .header, sizes (entry .args .file .now) (entry .args .events .now) (entry .args .nv) (entry .args .nm) (entry .pre .0))
 
 shared-slice-read-wide-3 : tie.Need-shared-slice-read-wide-3
-shared-slice-read-wide-3 c = omega (arith, (c .before .before .before .before .before .before .before .before .before .before .before .before .pre .2) .header, sizes (c .before .before .before .before .before .before .before .before .before .before .before .before .args .file .now) (c .before .before .before .before .before .before .before .before .before .before .before .before .args .events .now) (c .before .before .before .before .before .before .before .before .before .before .before .before .args .nv) (c .before .before .before .before .before .before .before .before .before .before .before .before .args .nm) (c .before .before .before .before .before .before .before .before .before .before .before .before .pre .0))
+shared-slice-read-wide-3 c =
+    let entry = c .before .before .before .before .before .before .before .before .before .before .before .before in
+    omega (arith, (entry .pre .2) .header, sizes (entry .args .file .now) (entry .args .events .now) (entry .args .nv) (entry .args .nm) (entry .pre .0))
 
 wide-requires-3 : tie.Need-wide-requires-3
 wide-requires-3 c κs = tt
 
 encode-event-requires : tie.Need-encode-event-requires
-encode-event-requires c κs = ((c .before .before .before .before .before .before .before .before .before .before .before .before .before .before .pre .0), (c .before .before .before .before .before .before .before .before .before .before .before .before .before .before .pre .1), omega (arith, c .before .before .before .before .before .before .before .before .before .before .before .wide .ensures .0, (c .before .before .before .before .before .before .before .before .before .before .before .before .before .before .pre .2) .matrix, (c .before .before .before .before .before .before .before .before .before .before .before .before .before .before .pre .0) .matrices), subst (λ (k : ℕ). c .before .wide3 .result < eventCount (c .before .before .before .before .before .before .before .before .before .before .before .before .before .before .args .file .now) (matricesOffset (c .before .before .before .before .before .before .before .before .before .before .before .before .before .before .args .file .now)) k) (sym (c .before .before .before .before .before .before .before .before .before .before .before .wide .ensures .0)) (omega (arith, (c .before .before .before .before .before .before .before .before .before .before .before .before .before .before .pre .2) .event, c .before .wide3 .ensures .0)))
+encode-event-requires c κs =
+    let at-wide = c .before .before .before .before .before .before .before .before .before .before .before in
+    let entry = at-wide .before .before .before in
+    ((entry .pre .0), (entry .pre .1), omega (arith, at-wide .wide .ensures .0, (entry .pre .2) .matrix, (entry .pre .0) .matrices), subst (λ (k : ℕ). c
+        .before .wide3 .result < eventCount (entry .args .file .now) (matricesOffset (entry .args .file .now)) k) (sym (at-wide .wide .ensures .0))
+        (omega (arith, (entry .pre .2) .event, c .before .wide3 .ensures .0)))
 
 emit-and-requires : tie.Need-emit-and-requires
 emit-and-requires c κs = tt
@@ -66,7 +84,24 @@ same-length : tie.Need-same-length
 same-length c = search needs
 
 returns : tie.Need-returns
-returns c = λ d w. event-emits (layoutOf (c .before .before .before .before .before .before .before .before .before .before .before .before .before .before .before .before .before .before .before .args .nv)) (slotsOf (c .before .before .before .before .before .before .before .before .before .before .before .before .before .before .before .before .before .before .before .args .file .now) (c .before .before .before .before .before .before .before .before .before .before .before .before .before .before .before .before .before .before .before .args .nv) (c .before .before .before .before .before .before .before .before .before .before .before .before .before .before .before .before .before .before .before .args .nm) (c .before .before .before .before .before .before .before .before .before .before .before .before .before .before .before .before .before .before .before .args .bits .now)) (c-matrix (c .before .before .before .before .before .before .before .before .before .before .before .before .before .before .before .before .before .before .before .args .file .now) (c .before .before .before .before .before .before .before .before .before .before .before .before .before .before .before .before .before .before .before .args .p)) (c-status (c .before .before .before .before .before .before .before .before .before .before .before .before .before .before .before .before .before .before .before .args .file .now) (c .before .before .before .before .before .before .before .before .before .before .before .before .before .before .before .before .before .before .before .args .p)) (eventIn (w .rows) (c-matrix (c .before .before .before .before .before .before .before .before .before .before .before .before .before .before .before .before .before .before .before .args .file .now) (c .before .before .before .before .before .before .before .before .before .before .before .before .before .before .before .before .before .before .before .args .p)) (c-event (c .before .before .before .before .before .before .before .before .before .before .before .before .before .before .before .before .before .before .before .args .file .now) (c .before .before .before .before .before .before .before .before .before .before .before .before .before .before .before .before .before .before .before .args .p))) _ _ _ _ _ (c .before .before .before .before .before .before .before .before .before .before .before .before .before .before .load-status .ensures ∙ ap (λ (m : ℕ). integerAt (slotsOf (c .before .before .before .before .before .before .before .before .before .before .before .before .before .before .before .before .before .before .before .args .file .now) (c .before .before .before .before .before .before .before .before .before .before .before .before .before .before .before .before .before .before .before .args .nv) (c .before .before .before .before .before .before .before .before .before .before .before .before .before .before .before .before .before .before .before .args .nm) (c .before .before .before .before .before .before .before .before .before .before .before .before .before .before .before .before .before .before .before .args .bits .now)) (c .before .before .before .before .before .before .before .before .before .before .before .before .before .before .before .before .before .before .before .args .nv + m)) (c .before .before .before .before .before .before .before .before .before .before .before .before .before .before .before .before .wide .ensures .0)) (c .before .before .before .before .before .before .before .before .before .before .before .constant .ensures ∙ ap (constantBits 16) (c .before .before .before .before .before .before .before .before .before .before .before .before .wide2 .ensures .0)) (c .before .before .before .before .before .before .before .before .before .equal .ensures) (emits-same _ _ (ap₂ (λ (a b : ℕ). bool! (layoutOf (c .before .before .before .before .before .before .before .before .before .before .before .before .before .before .before .before .before .before .before .args .nv)) (slotsOf (c .before .before .before .before .before .before .before .before .before .before .before .before .before .before .before .before .before .before .before .args .file .now) (c .before .before .before .before .before .before .before .before .before .before .before .before .before .before .before .before .before .before .before .args .nv) (c .before .before .before .before .before .before .before .before .before .before .before .before .before .before .before .before .before .before .before .args .nm) (c .before .before .before .before .before .before .before .before .before .before .before .before .before .before .before .before .before .before .before .args .bits .now)) (eventIn (w .rows) a b) (c .before .before .before .before .before .before .before .before .before .equal .result .var)) (c .before .before .before .before .before .before .before .before .before .before .before .before .before .before .before .before .wide .ensures .0) (c .before .before .before .before .before .before .wide3 .ensures .0)) (c .before .before .before .before .encode-event .ensures d w)) (c .before .emit-and .ensures)
+returns c =
+    let at-equal = c .before .before .before .before .before .before .before .before .before in
+    let at-constant = at-equal .before .before in
+    let at-wide2 = at-constant .before in
+    let at-load-status = at-wide2 .before .before in
+    let at-wide = at-load-status .before .before in
+    let entry = at-wide .before .before .before in
+    let bits = entry .args .bits .now in
+    let file = entry .args .file .now in
+    let nm = entry .args .nm in
+    let nv = entry .args .nv in
+    let p = entry .args .p in
+    λ d w. event-emits (layoutOf nv) (slotsOf file nv nm bits) (c-matrix file p) (c-status file p) (eventIn (w .rows) (c-matrix file p) (c-event file p))
+        _ _ _ _ _ (at-load-status .load-status .ensures ∙ ap (λ (m : ℕ). integerAt (slotsOf file nv nm bits) (nv + m)) (at-wide .wide .ensures .0))
+        (at-constant .constant .ensures ∙ ap (constantBits 16) (at-wide2 .wide2 .ensures .0)) (at-equal .equal .ensures) (emits-same _ _ (ap₂ (λ (a b
+        : ℕ). bool! (layoutOf nv) (slotsOf file nv nm bits) (eventIn (w .rows) a b) (at-equal .equal .result .var)) (at-wide .wide .ensures .0) (c
+        .before .before .before .before .before .before .wide3 .ensures .0)) (c .before .before .before .before .encode-event .ensures d w)) (c
+        .before .emit-and .ensures)
 
 pub status-and-event-spec : {M : Type 1} → statement M
 status-and-event-spec =

@@ -49,13 +49,23 @@ encode-step-requires : tie.Need-encode-step-requires
 encode-step-requires c κs = search needs
 
 put-all-ties-requires : tie.Need-put-all-ties-requires
-put-all-ties-requires c κs = (omega (arith, c .before .before .before .before .before .before .before .before .before .before .before .before .before .before .before .before .pre .0 .small .movers), omega (arith, c .before .before .before .before .before .before .before .before .before .before .before .before .before .before .before .before .pre .0 .small .bits), c .before .before .before .encode-step .ensures .1)
+put-all-ties-requires c κs =
+    let entry = c .before .before .before .before .before .before .before .before .before .before .before .before .before .before .before .before in
+    (omega (arith, entry .pre .0 .small .movers), omega (arith, entry .pre .0 .small .bits), c .before .before .before .encode-step .ensures .1)
 
 same-length : tie.Need-same-length
 same-length c = search needs
 
 returns : tie.Need-returns
-returns c = step-written _ _ _ _ _ _ _ (c .before .before .before .before .before .before .before .before .before .before .before .before .before .before .before .before .before .before .pre .0) _ _ _ _ _ _ _ _ refl refl refl (omega (arith, c .before .before .before .before .before .before .before .before .before .before .before .before .before .before .frame-length .ensures .0)) refl (c .before .before .before .before .before .encode-step .ensures .1) (c .before .before .before .before .before .before .before .before .before .before .before .before .put-any .ensures) (c .before .before .before .before .before .before .before .before .before .put-pairs .ensures) (c .before .before .before .before .before .encode-step .ensures .0) (c .before .put-all-ties .ensures)
+returns c =
+    let at-encode-step = c .before .before .before .before .before in
+    let at-put-pairs = at-encode-step .before .before .before .before in
+    let at-put-any = at-put-pairs .before .before .before in
+    let at-frame-length = at-put-any .before .before in
+    let entry = at-frame-length .before .before .before .before in
+    step-written _ _ _ _ _ _ _ (entry .pre .0) _ _ _ _ _ _ _ _ refl refl refl (omega (arith, at-frame-length .frame-length .ensures .0)) refl
+        (at-encode-step .encode-step .ensures .1) (at-put-any .put-any .ensures) (at-put-pairs .put-pairs .ensures) (at-encode-step .encode-step
+        .ensures .0) (c .before .put-all-ties .ensures)
 
 pub put-step-spec : {M : Type 1} → statement M
 put-step-spec =

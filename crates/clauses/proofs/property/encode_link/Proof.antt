@@ -15,16 +15,23 @@ use Rattle.clauses.proofs.mover.status_and_event.Reads as status-and-ev
 use Rattle.design.proofs.bytes.wide.Reads as wide-reads
 
 add-wide : tie.Need-add-wide
-add-wide c = omega (arith, (c .before .pre .2) .header, sizes (c .before .args .file .now) (c .before .args .events .now) (c .before .args .nv) (c .before .args .nm) (c .before .pre .0))
+add-wide c =
+    omega (arith, (c .before .pre .2) .header, sizes (c .before .args .file .now) (c .before .args .events .now) (c .before .args .nv) (c .before .args
+        .nm) (c .before .pre .0))
 
 shared-slice-read-wide : tie.Need-shared-slice-read-wide
-shared-slice-read-wide c = omega (arith, (c .before .before .pre .2) .header, sizes (c .before .before .args .file .now) (c .before .before .args .events .now) (c .before .before .args .nv) (c .before .before .args .nm) (c .before .before .pre .0))
+shared-slice-read-wide c =
+    omega (arith, (c .before .before .pre .2) .header, sizes (c .before .before .args .file .now) (c .before .before .args .events .now) (c .before
+        .before .args .nv) (c .before .before .args .nm) (c .before .before .pre .0))
 
 wide-requires : tie.Need-wide-requires
 wide-requires c κs = tt
 
 returns : tie.Need-returns
-returns c = λ d w. link-pass (layoutOf (c .before .before .before .before .args .nv)) (slotsOf (c .before .before .before .before .args .file .now) (c .before .before .before .before .args .nv) (c .before .before .before .before .args .nm) (c .before .before .before .before .args .bits .now)) _ _ _ _ _ _ _ _ (sym (c .before .wide .ensures .0) ∙ c .if1 .taken)
+returns c =
+    let entry = c .before .before .before .before in
+    λ d w. link-pass (layoutOf (entry .args .nv)) (slotsOf (entry .args .file .now) (entry .args .nv) (entry .args .nm) (entry .args .bits .now)) _ _ _ _
+        _ _ _ _ (sym (c .before .wide .ensures .0) ∙ c .if1 .taken)
 
 status-and-event-requires : tie.Need-status-and-event-requires
 status-and-event-requires c κs = c .before .before .before .before .before .pre
@@ -39,7 +46,12 @@ same-length : tie.Need-same-length
 same-length c = search needs
 
 returns-2 : tie.Need-returns-2
-returns-2 c = λ d w. link-emits (layoutOf (c .before .before .before .before .before .before .before .before .before .before .before .args .nv)) (slotsOf (c .before .before .before .before .before .before .before .before .before .before .before .args .file .now) (c .before .before .before .before .before .before .before .before .before .before .before .args .nv) (c .before .before .before .before .before .before .before .before .before .before .before .args .nm) (c .before .before .before .before .before .before .before .before .before .before .before .args .bits .now)) _ _ _ _ _ _ _ (λ e. c .before .before .before .before .before .before .before .if1 .left (c .before .before .before .before .before .before .before .before .wide .ensures .0 ∙ e)) (c .before .before .before .negate .ensures) (c .before .before .before .before .before .status-and-event .ensures d w) (c .before .emit-and .ensures)
+returns-2 c =
+    let at-wide = c .before .before .before .before .before .before .before .before in
+    let entry = at-wide .before .before .before in
+    λ d w. link-emits (layoutOf (entry .args .nv)) (slotsOf (entry .args .file .now) (entry .args .nv) (entry .args .nm) (entry .args .bits .now)) _ _ _ _
+        _ _ _ (λ e. c .before .before .before .before .before .before .before .if1 .left (at-wide .wide .ensures .0 ∙ e)) (c .before .before .before
+        .negate .ensures) (c .before .before .before .before .before .status-and-event .ensures d w) (c .before .emit-and .ensures)
 
 pub encode-link-spec : {M : Type 1} → statement M
 encode-link-spec =

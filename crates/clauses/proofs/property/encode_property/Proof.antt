@@ -16,13 +16,25 @@ use Rattle.clauses.proofs.property.encode_invalid.Reads as encode-inval
 use Rattle.design.proofs.index.trailer_word.Reads as trailer-word-reads
 
 trailer-word-requires : tie.Need-trailer-word-requires
-trailer-word-requires c κs = omega (arith, sizes (c .before .before .args .file .now) (c .before .before .args .events .now) (c .before .before .args .nv) (c .before .before .args .nm) (c .before .before .pre .0))
+trailer-word-requires c κs =
+    omega (arith, sizes (c .before .before .args .file .now) (c .before .before .args .events .now) (c .before .before .args .nv) (c .before .before .args
+        .nm) (c .before .before .pre .0))
 
 sub-end : tie.Need-sub-end
-sub-end c = omega (arith, sizes (c .before .before .before .args .file .now) (c .before .before .before .args .events .now) (c .before .before .before .args .nv) (c .before .before .before .args .nm) (c .before .before .before .pre .0))
+sub-end c =
+    let entry = c .before .before .before in
+    omega (arith, sizes (entry .args .file .now) (entry .args .events .now) (entry .args .nv) (entry .args .nm) (entry .pre .0))
 
 encode-bool-requires : tie.Need-encode-bool-requires
-encode-bool-requires c κs = ((omega (arith, sizes (c .before .before .before .before .before .args .file .now) (c .before .before .before .before .before .args .events .now) (c .before .before .before .before .before .args .nv) (c .before .before .before .before .before .args .nm) (c .before .before .before .before .before .pre .0)), slotted (c .before .before .before .before .before .args .file .now) (c .before .before .before .before .before .args .events .now) (c .before .before .before .before .before .args .nv) (c .before .before .before .before .before .args .nm) (c .before .before .before .before .before .pre .0) _ (c .before .before .before .before .before .pre .1)), record { tree = read (c .before .before .before .before .before .args .file .now) ((c .before .before .before .before .before .pre .0) .accepted) .tree .invariant; past = _; reads = (invariant-got (c .before .before .before .before .before .args .file .now) (c .before .before .before .before .before .args .events .now) (c .before .before .before .before .before .args .nv) (c .before .before .before .before .before .args .nm) (c .before .before .before .before .before .pre .0) (read (c .before .before .before .before .before .args .file .now) ((c .before .before .before .before .before .pre .0) .accepted) .tree) (read (c .before .before .before .before .before .args .file .now) ((c .before .before .before .before .before .pre .0) .accepted) .all .parts) _ _ (c .before .before .trailer-word .ensures .0) refl) })
+encode-bool-requires c κs =
+    let entry = c .before .before .before .before .before in
+    let events = entry .args .events .now in
+    let file = entry .args .file .now in
+    let nm = entry .args .nm in
+    let nv = entry .args .nv in
+    ((omega (arith, sizes file events nv nm (entry .pre .0)), slotted file events nv nm (entry .pre .0) _ (entry .pre .1)), record { tree = read file
+        ((entry .pre .0) .accepted) .tree .invariant; past = _; reads = (invariant-got file events nv nm (entry .pre .0) (read file ((entry .pre .0)
+        .accepted) .tree) (read file ((entry .pre .0) .accepted) .all .parts) _ _ (c .before .before .trailer-word .ensures .0) refl) })
 
 encode-invalid-requires : tie.Need-encode-invalid-requires
 encode-invalid-requires c κs = c .before .before .before .pre
@@ -31,13 +43,24 @@ same-length : tie.Need-same-length
 same-length c = search needs
 
 returns : tie.Need-returns
-returns c = λ d w. emits-same _ _ (property-0 (c .before .before .before .before .before .before .before .args .file .now) (c .before .before .before .before .before .before .before .args .events .now) (c .before .before .before .before .before .before .before .args .nv) (c .before .before .before .before .before .before .before .args .nm) (c .before .before .before .before .before .before .before .pre .0) d w _ (slotsOf (c .before .before .before .before .before .before .before .args .file .now) (c .before .before .before .before .before .before .before .args .nv) (c .before .before .before .before .before .before .before .args .nm) (c .before .before .before .before .before .before .before .args .bits .now)) _ (c .before .before .before .before .before .if1 .taken)) (c .before .encode-bool .ensures _ _ (invariant-got (c .before .before .before .before .before .before .before .args .file .now) (c .before .before .before .before .before .before .before .args .events .now) (c .before .before .before .before .before .before .before .args .nv) (c .before .before .before .before .before .before .before .args .nm) (c .before .before .before .before .before .before .before .pre .0) d w _ _ (c .before .before .before .before .trailer-word .ensures .0) refl) .0)
+returns c =
+    let entry = c .before .before .before .before .before .before .before in
+    let file = entry .args .file .now in
+    let nm = entry .args .nm in
+    let nv = entry .args .nv in
+    λ d w. emits-same _ _ (property-0 file (entry .args .events .now) nv nm (entry .pre .0) d w _ (slotsOf file nv nm (entry .args .bits .now)) _ (c
+        .before .before .before .before .before .if1 .taken)) (c .before .encode-bool .ensures _ _ (invariant-got file (entry .args .events .now) nv
+        nm (entry .pre .0) d w _ _ (c .before .before .before .before .trailer-word .ensures .0) refl) .0)
 
 same-length-2 : tie.Need-same-length-2
 same-length-2 c = search needs
 
 returns-2 : tie.Need-returns-2
-returns-2 c = λ d w. emits-same _ _ (property-1 (c .before .before .before .before .before .args .file .now) (c .before .before .before .before .before .args .events .now) (c .before .before .before .before .before .args .nv) (c .before .before .before .before .before .args .nm) (c .before .before .before .before .before .pre .0) d w _ (slotsOf (c .before .before .before .before .before .args .file .now) (c .before .before .before .before .before .args .nv) (c .before .before .before .before .before .args .nm) (c .before .before .before .before .before .args .bits .now)) _ (c .before .before .before .if1 .left)) (c .before .encode-invalid .ensures d w)
+returns-2 c =
+    let entry = c .before .before .before .before .before in
+    λ d w. emits-same _ _ (property-1 (entry .args .file .now) (entry .args .events .now) (entry .args .nv) (entry .args .nm) (entry .pre .0) d w _
+        (slotsOf (entry .args .file .now) (entry .args .nv) (entry .args .nm) (entry .args .bits .now)) _ (c .before .before .before .if1 .left)) (c
+        .before .encode-invalid .ensures d w)
 
 pub encode-property-spec : {M : Type 1} → statement M
 encode-property-spec =

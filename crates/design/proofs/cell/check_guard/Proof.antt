@@ -23,7 +23,9 @@ add-middle-2 : tie.Need-add-middle-2
 add-middle-2 c = omega arith
 
 returns : tie.Need-returns
-returns c = guard-none (c .before .before .before .args .file .now) (c .before .before .before .args .end) _ (c .before .before .before .args .at) _ (c .if1 .taken) _ refl
+returns c =
+    let entry = c .before .before .before in
+    guard-none (entry .args .file .now) (entry .args .end) _ (entry .args .at) _ (c .if1 .taken) _ refl
 
 add-check-bool : tie.Need-add-check-bool
 add-check-bool c = omega arith
@@ -35,7 +37,10 @@ fill-length-requires : tie.Need-fill-length-requires
 fill-length-requires c κs = omega arith
 
 returns-2 : tie.Need-returns-2
-returns-2 c = guard-read _ (c .before .before .before .before .before .args .end) _ _ _ (c .before .before .if1 .left) (c .before .before .before .before .before .args .at + 8 + getD (c .before .before .before .before .before .args .file .now) (c .before .before .before .before .before .args .at + 5) 0) (omega arith) _ _ (c .fill-length .ensures) (c .before .check-bool .ensures)
+returns-2 c =
+    guard-read _ (c .before .before .before .before .before .args .end) _ _ _ (c .before .before .if1 .left) (c .before .before .before .before .before
+        .args .at + 8 + getD (c .before .before .before .before .before .args .file .now) (c .before .before .before .before .before .args .at + 5) 0)
+        (omega arith) _ _ (c .fill-length .ensures) (c .before .check-bool .ensures)
 
 pub check-guard-spec : {M : Type 1} → statement M
 check-guard-spec =

@@ -12,10 +12,17 @@ enum-known-p : tie.Need-enum-known-p
 enum-known-p c = c .match .keys1
 
 returns : tie.Need-returns
-returns c = x-matrices (c .before .before .before .before .before .before .args .file .now) (c .before .before .before .before .before .before .args .end) (c .before .before .before .before .before .before .args .nv) (c .before .before .before .before .before .before .args .mats) (c .before .before .before .before .before .before .args .nm) (c .before .before .before .before .before .before .args .events) (c .before .before .before .before .before .before .args .cells) (c .before .before .before .before .before .before .args .nc) (c .before .before .before .before .before .before .args .invariant) _ _ (sym (c .before .before .p .given .1) ∙ c .before .before .before .before .check-variables .ensures) (c .if1 .taken)
+returns c =
+    let entry = c .before .before .before .before .before .before in
+    x-matrices (entry .args .file .now) (entry .args .end) (entry .args .nv) (entry .args .mats) (entry .args .nm) (entry .args .events) (entry .args
+        .cells) (entry .args .nc) (entry .args .invariant) _ _ (sym (c .before .before .p .given .1) ∙ c .before .before .before .before
+        .check-variables .ensures) (c .if1 .taken)
 
 check-from-matrices-requires : tie.Need-check-from-matrices-requires
-check-from-matrices-requires c κs = (c .before .before .before .before .before .before .pre .0, c .before .before .before .before .before .before .pre .1, c .before .before .before .before .before .before .pre .2, passed-at _ _ _ _ (c .if1 .left) (sym (c .before .before .p .given .1) ∙ c .before .before .before .before .check-variables .ensures))
+check-from-matrices-requires c κs =
+    let entry = c .before .before .before .before .before .before in
+    (entry .pre .0, entry .pre .1, entry .pre .2, passed-at _ _ _ _ (c .if1 .left) (sym (c .before .before .p .given .1) ∙ c .before .before .before
+        .before .check-variables .ensures))
 
 enum-known-number : tie.Need-enum-known-number
 enum-known-number c = c .match .keys2
@@ -24,7 +31,11 @@ returns-2 : tie.Need-returns-2
 returns-2 c = c .check-from-matrices .ensures
 
 returns-3 : tie.Need-returns-3
-returns-3 c = x-variables (c .before .before .before .before .before .args .file .now) (c .before .before .before .before .before .args .end) (c .before .before .before .before .before .args .nv) (c .before .before .before .before .before .args .mats) (c .before .before .before .before .before .args .nm) (c .before .before .before .before .before .args .events) (c .before .before .before .before .before .args .cells) (c .before .before .before .before .before .args .nc) (c .before .before .before .before .before .args .invariant) _ _ (sym (c .before .number .given .1) ∙ c .before .before .before .check-variables .ensures)
+returns-3 c =
+    let entry = c .before .before .before .before .before in
+    x-variables (entry .args .file .now) (entry .args .end) (entry .args .nv) (entry .args .mats) (entry .args .nm) (entry .args .events) (entry .args
+        .cells) (entry .args .nc) (entry .args .invariant) _ _ (sym (c .before .number .given .1) ∙ c .before .before .before .check-variables
+        .ensures)
 
 pub check-sections-spec : {M : Type 1} → statement M
 check-sections-spec =

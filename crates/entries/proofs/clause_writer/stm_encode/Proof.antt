@@ -22,7 +22,8 @@ same-length c = search needs
 
 returns : tie.Need-returns
 unfolding encodeEntry
-returns c = encode-refused _ _ _ (c .before .before .before .before .before .encode .ensures) _ _ _ _ (c .before .before .number .given .1) (c .code-of .ensures)
+returns c =
+    encode-refused _ _ _ (c .before .before .before .before .before .encode .ensures) _ _ _ _ (c .before .before .number .given .1) (c .code-of .ensures)
 
 same-length-2 : tie.Need-same-length-2
 same-length-2 c = search needs

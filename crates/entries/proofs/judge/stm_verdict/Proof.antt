@@ -37,7 +37,9 @@ same-length-4 c = search needs
 
 returns : tie.Need-returns
 unfolding verdictEntry
-returns c = refused-exit _ _ _ (c .before .before .before .before .before .before .before .before .before .before .before .verdict .ensures) _ _ _ _ (c .before .before .number .given .1) (c .code-of .ensures)
+returns c =
+    let at-verdict = c .before .before .before .before .before .before .before .before .before .before .before in
+    refused-exit _ _ _ (at-verdict .verdict .ensures) _ _ _ _ (c .before .before .number .given .1) (c .code-of .ensures)
 
 same-length-5 : tie.Need-same-length-5
 same-length-5 c = search needs
@@ -53,7 +55,10 @@ same-length-8 c = search needs
 
 returns-2 : tie.Need-returns-2
 unfolding verdictEntry
-returns-2 c = done-exit _ _ _ (c .before .before .before .before .before .before .before .before .before .before .before .before .before .verdict .ensures) _ _ _ _ (c .before .before .before .before .j .given .1) (c .before .before .verdict-number .ensures) (c .before .verdict-step .ensures)
+returns-2 c =
+    let at-verdict = c .before .before .before .before .before .before .before .before .before .before .before .before .before in
+    done-exit _ _ _ (at-verdict .verdict .ensures) _ _ _ _ (c .before .before .before .before .j .given .1) (c .before .before .verdict-number .ensures)
+        (c .before .verdict-step .ensures)
 
 pub stm-verdict-spec : {M : Type 1} → statement M
 stm-verdict-spec =

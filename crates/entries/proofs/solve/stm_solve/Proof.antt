@@ -31,7 +31,9 @@ same-length-2 c = search needs
 
 returns : tie.Need-returns
 unfolding solveEntry
-returns c = refused-exit _ _ _ _ (c .before .before .before .before .before .before .before .before .solve .ensures) _ _ _ _ (c .before .before .number .given .1) (c .code-of .ensures)
+returns c =
+    let at-solve = c .before .before .before .before .before .before .before .before in
+    refused-exit _ _ _ _ (at-solve .solve .ensures) _ _ _ _ (c .before .before .number .given .1) (c .code-of .ensures)
 
 same-length-3 : tie.Need-same-length-3
 same-length-3 c = search needs
@@ -41,7 +43,11 @@ same-length-4 c = search needs
 
 returns-2 : tie.Need-returns-2
 unfolding solveEntry
-returns-2 c = done-exit _ _ _ _ (c .before .before .before .before .before .before .before .before .before .solve .ensures) 0 _ _ _ (c .before .before .before .s .given .1) (ap (λ (k : ℕ). k ∷ c .before .before .before .s .given .0 .0 .tries ∷ []) (c .before .answer-number .ensures))
+returns-2 c =
+    let at-s = c .before .before .before in
+    let at-solve = at-s .before .before .before .before .before .before in
+    done-exit _ _ _ _ (at-solve .solve .ensures) 0 _ _ _ (at-s .s .given .1) (ap (λ (k : ℕ). k ∷ at-s .s .given .0 .0 .tries ∷ []) (c .before
+        .answer-number .ensures))
 
 pub stm-solve-spec : {M : Type 1} → statement M
 stm-solve-spec =

@@ -20,7 +20,8 @@ long-flag-requires c κs = search needs
 
 returns-2 : tie.Need-returns-2
 unfolding replayEntry
-returns-2 c = replay-told _ _ (c .before .before .before .before .before .replay .ensures) _ _ (c .before .before .if1 .left) (c .before .long-flag .ensures)
+returns-2 c =
+    replay-told _ _ (c .before .before .before .before .before .replay .ensures) _ _ (c .before .before .if1 .left) (c .before .long-flag .ensures)
 
 pub stm-replay-spec : {M : Type 1} → statement M
 stm-replay-spec =

@@ -12,16 +12,27 @@ index-events-requires : tie.Need-index-events-requires
 index-events-requires c κs = search needs
 
 add-n : tie.Need-add-n
-add-n c = omega (arith, c .before .before .before .pre .1, c .before .before .before .pre .2, read _ (c .before .before .before .pre .0) .all .variables, read _ (c .before .before .before .pre .0) .all .matrices)
+add-n c =
+    let entry = c .before .before .before in
+    omega (arith, entry .pre .1, entry .pre .2, read _ (entry .pre .0) .all .variables, read _ (entry .pre .0) .all .matrices)
 
 array-borrow-prefix-all : tie.Need-array-borrow-prefix-all
-array-borrow-prefix-all c = omega (arith, c .before .before .before .before .pre .1, c .before .before .before .before .pre .2, read _ (c .before .before .before .before .pre .0) .all .variables, read _ (c .before .before .before .before .pre .0) .all .matrices)
+array-borrow-prefix-all c =
+    let entry = c .before .before .before .before in
+    omega (arith, entry .pre .1, entry .pre .2, read _ (entry .pre .0) .all .variables, read _ (entry .pre .0) .all .matrices)
 
 slice-aggregate-holds-slots : tie.Need-slice-aggregate-holds-slots
-slice-aggregate-holds-slots c = let b : c .before .before .before .before .before .args .nv + c .before .before .before .before .before .args .nm ≤ 40 = omega (arith, c .before .before .before .before .before .pre .1, c .before .before .before .before .before .pre .2, read _ (c .before .before .before .before .before .pre .0) .all .variables, read _ (c .before .before .before .before .before .pre .0) .all .matrices) in sym (length-take-le _ _ b)
+slice-aggregate-holds-slots c =
+    let entry = c .before .before .before .before .before in
+    let b : entry .args .nv + entry .args .nm ≤ 40 = omega (arith, entry .pre .1, entry .pre .2, read _ (entry .pre .0) .all .variables, read _ (entry
+        .pre .0) .all .matrices) in sym (length-take-le _ _ b)
 
 holds-slots-requires : tie.Need-holds-slots-requires
-holds-slots-requires c κs = let b : c .before .before .before .before .before .args .nv + c .before .before .before .before .before .args .nm ≤ 40 = omega (arith, c .before .before .before .before .before .pre .1, c .before .before .before .before .before .pre .2, read _ (c .before .before .before .before .before .pre .0) .all .variables, read _ (c .before .before .before .before .before .pre .0) .all .matrices) in record { accepted = c .before .before .before .before .before .pre .0; events = c .before .before .index-events .ensures; variables = c .before .before .before .before .before .pre .1; matrices = c .before .before .before .before .before .pre .2; size = length-take-le _ _ b }
+holds-slots-requires c κs =
+    let entry = c .before .before .before .before .before in
+    let b : entry .args .nv + entry .args .nm ≤ 40 = omega (arith, entry .pre .1, entry .pre .2, read _ (entry .pre .0) .all .variables, read _ (entry
+        .pre .0) .all .matrices) in record { accepted = entry .pre .0; events = c .before .before .index-events .ensures; variables = entry .pre .1;
+        matrices = entry .pre .2; size = length-take-le _ _ b }
 
 returns : tie.Need-returns
 returns c = search needs

@@ -12,16 +12,21 @@ use Rattle.step.proofs.calls.load_entries.Reads as load-entries-reads
 use Rattle.step.proofs.property.property_true.Reads as property-true-reads
 
 load-entries-requires : tie.Need-load-entries-requires
-load-entries-requires c κs = (sizes _ _ _ _ _ (c .before .before .before .pre) .3, sizes _ _ _ _ _ (c .before .before .before .pre) .2, c .before .before .before .pre .size)
+load-entries-requires c κs =
+    let entry = c .before .before .before in
+    (sizes _ _ _ _ _ (entry .pre) .3, sizes _ _ _ _ _ (entry .pre) .2, entry .pre .size)
 
 property-true-requires : tie.Need-property-true-requires
-property-true-requires c κs = ready-same _ _ _ _ _ _ (omega (arith, c .before .before .slots .given)) (c .before .before .before .before .before .before .before .pre)
+property-true-requires c κs =
+    ready-same _ _ _ _ _ _ (omega (arith, c .before .before .slots .given)) (c .before .before .before .before .before .before .before .pre)
 
 same-length : tie.Need-same-length
 same-length c = search needs
 
 returns : tie.Need-returns
-returns c = λ d w. c .property-true .ensures d w ∙ ap (property d (c .before .before .before .before .before .before .before .before .args .property)) (c .before .before .before .before .load-entries .ensures)
+returns c =
+    let entry = c .before .before .before .before .before .before .before .before in
+    λ d w. c .property-true .ensures d w ∙ ap (property d (entry .args .property)) (c .before .before .before .before .load-entries .ensures)
 
 pub holds-slots-spec : {M : Type 1} → statement M
 holds-slots-spec =

@@ -17,16 +17,26 @@ load-start-requires : tie.Need-load-start-requires
 load-start-requires c κs = search needs
 
 give-values-requires : tie.Need-give-values-requires
-give-values-requires c κs = let n : length (c .before .before .before .before .before .before .before .args .slots .now) ≡ c .before .before .before .before .before .before .before .args .nv + c .before .before .before .before .before .before .before .args .nm = ap length (c .before .before .before .before .before .before .before .pre .3) ∙ length-replicate _ _ in omega (arith, c .before .before .slots .given, c .before .before .before .before .before .before .before .pre .1, read _ (c .before .before .before .before .before .before .before .pre .0) .all .variables)
+give-values-requires c κs =
+    let entry = c .before .before .before .before .before .before .before in
+    let n : length (entry .args .slots .now) ≡ entry .args .nv + entry .args .nm = ap length (entry .pre .3) ∙ length-replicate _ _ in omega (arith, c
+        .before .before .slots .given, entry .pre .1, read _ (entry .pre .0) .all .variables)
 
 give-statuses-requires : tie.Need-give-statuses-requires
-give-statuses-requires c κs = let n : length (c .before .before .before .before .before .before .before .before .before .args .slots .now) ≡ c .before .before .before .before .before .before .before .before .before .args .nv + c .before .before .before .before .before .before .before .before .before .args .nm = ap length (c .before .before .before .before .before .before .before .before .before .pre .3) ∙ length-replicate _ _ in omega (arith, c .before .before .before .before .slots .given, c .before .before .before .before .before .before .before .before .before .pre .2, read _ (c .before .before .before .before .before .before .before .before .before .pre .0) .all .matrices)
+give-statuses-requires c κs =
+    let entry = c .before .before .before .before .before .before .before .before .before in
+    let n : length (entry .args .slots .now) ≡ entry .args .nv + entry .args .nm = ap length (entry .pre .3) ∙ length-replicate _ _ in omega (arith, c
+        .before .before .before .before .slots .given, entry .pre .2, read _ (entry .pre .0) .all .matrices)
 
 same-length : tie.Need-same-length
 same-length c = search needs
 
 returns : tie.Need-returns
-returns c = let n : length (c .before .before .before .before .before .before .before .before .before .before .args .slots .now) ≡ c .before .before .before .before .before .before .before .before .before .before .args .nv + c .before .before .before .before .before .before .before .before .before .before .args .nm = ap length (c .before .before .before .before .before .before .before .before .before .before .pre .3) ∙ length-replicate _ _ in start-answer _ (c .before .before .before .before .before .before .before .before .before .before .pre .0) _ _ (c .before .before .before .before .before .before .before .before .before .before .pre .1) (c .before .before .before .before .before .before .before .before .before .before .pre .2) _ _ _ (omega (arith, c .before .before .before .before .before .slots .given)) (c .before .before .before .before .before .before .load-start .ensures) (c .before .before .give-values .ensures) (c .give-statuses .ensures)
+returns c =
+    let entry = c .before .before .before .before .before .before .before .before .before .before in
+    let n : length (entry .args .slots .now) ≡ entry .args .nv + entry .args .nm = ap length (entry .pre .3) ∙ length-replicate _ _ in start-answer _
+        (entry .pre .0) _ _ (entry .pre .1) (entry .pre .2) _ _ _ (omega (arith, c .before .before .before .before .before .slots .given)) (c .before
+        .before .before .before .before .before .load-start .ensures) (c .before .before .give-values .ensures) (c .give-statuses .ensures)
 
 pub start-slots-spec : {M : Type 1} → statement M
 start-slots-spec =

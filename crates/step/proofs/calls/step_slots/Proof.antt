@@ -16,22 +16,39 @@ use Rattle.step.proofs.interface.give_values.Reads as give-values-reads
 use Rattle.step.proofs.mover.move_chosen.Reads as move-chosen-reads
 
 load-entries-requires : tie.Need-load-entries-requires
-load-entries-requires c κs = (sizes _ _ _ _ _ (c .before .before .before .pre .0) .3, sizes _ _ _ _ _ (c .before .before .before .pre .0) .2, c .before .before .before .pre .0 .size)
+load-entries-requires c κs =
+    let entry = c .before .before .before in
+    (sizes _ _ _ _ _ (entry .pre .0) .3, sizes _ _ _ _ _ (entry .pre .0) .2, entry .pre .0 .size)
 
 move-chosen-requires : tie.Need-move-chosen-requires
-move-chosen-requires c κs = (ready-same _ _ _ _ _ _ (omega (arith, c .before .before .slots .given)) (c .before .before .before .before .before .before .before .pre .0), c .before .before .before .before .before .before .before .pre .1, c .before .before .before .before .before .before .before .pre .2)
+move-chosen-requires c κs =
+    let entry = c .before .before .before .before .before .before .before in
+    (ready-same _ _ _ _ _ _ (omega (arith, c .before .before .slots .given)) (entry .pre .0), entry .pre .1, entry .pre .2)
 
 give-values-requires : tie.Need-give-values-requires
-give-values-requires c κs = omega (arith, sizes _ _ _ _ _ (c .before .before .before .before .before .before .before .before .before .before .before .pre .0), c .before .before .before .before .before .before .before .before .before .before .before .pre .0 .size, c .before .before .before .before .before .before .slots .given, c .before .before .slots2 .given)
+give-values-requires c κs =
+    let entry = c .before .before .before .before .before .before .before .before .before .before .before in
+    omega (arith, sizes _ _ _ _ _ (entry .pre .0), entry .pre .0 .size, c .before .before .before .before .before .before .slots .given, c .before .before
+        .slots2 .given)
 
 give-statuses-requires : tie.Need-give-statuses-requires
-give-statuses-requires c κs = omega (arith, sizes _ _ _ _ _ (c .before .before .before .before .before .before .before .before .before .before .before .before .before .pre .0), c .before .before .before .before .before .before .before .before .before .before .before .before .before .pre .0 .size, c .before .before .before .before .before .before .before .before .slots .given, c .before .before .before .before .slots2 .given)
+give-statuses-requires c κs =
+    let at-slots = c .before .before .before .before .before .before .before .before in
+    let entry = at-slots .before .before .before .before .before in
+    omega (arith, sizes _ _ _ _ _ (entry .pre .0), entry .pre .0 .size, at-slots .slots .given, c .before .before .before .before .slots2 .given)
 
 same-length : tie.Need-same-length
 same-length c = search needs
 
 returns : tie.Need-returns
-returns c = λ d e. step-answer _ d e _ _ (c .before .before .before .before .before .before .before .before .before .before .before .before .before .before .pre .0 .variables) (c .before .before .before .before .before .before .before .before .before .before .before .before .before .before .pre .0 .matrices) _ _ _ _ _ _ (omega (arith, c .before .before .before .before .before .before .before .before .before .before .before .before .before .before .pre .0 .size, c .before .before .before .before .before .before .before .before .before .slots .given, c .before .before .before .before .before .slots2 .given)) (c .before .before .before .before .before .before .move-chosen .ensures d e) (c .before .before .give-values .ensures) (c .give-statuses .ensures) ∙ ap (λ (s : State). answerStep d s (c .before .before .before .before .before .before .before .before .before .before .before .before .before .before .args .choice)) (c .before .before .before .before .before .before .before .before .before .before .load-entries .ensures)
+returns c =
+    let at-slots = c .before .before .before .before .before .before .before .before .before in
+    let at-load-entries = at-slots .before in
+    let entry = at-load-entries .before .before .before .before in
+    λ d e. step-answer _ d e _ _ (entry .pre .0 .variables) (entry .pre .0 .matrices) _ _ _ _ _ _ (omega (arith, entry .pre .0 .size, at-slots .slots
+        .given, c .before .before .before .before .before .slots2 .given)) (c .before .before .before .before .before .before .move-chosen .ensures d
+        e) (c .before .before .give-values .ensures) (c .give-statuses .ensures) ∙ ap (λ (s : State). answerStep d s (entry .args .choice))
+        (at-load-entries .load-entries .ensures)
 
 pub step-slots-spec : {M : Type 1} → statement M
 step-slots-spec =

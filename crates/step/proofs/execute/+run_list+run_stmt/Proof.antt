@@ -62,7 +62,10 @@ run-list-loop-holds : (t : ℕ) → run-list-lts.Need-loop-holds (run-list-claim
 run-list-loop-holds t c = going-start _ _ _ _ _ _ _ _ (c .wide .ensures .0) (c .before .before .before .before .before .pre .1 .0)
 
 run-list-run-stmt-requires : (t : ℕ) → run-list-lts.Need-run-stmt-requires (run-list-claims t) (run-list-at t) run-list.Post run-list-Inv-loop run-list-μ-loop
-run-list-run-stmt-requires t c κs = (omega (arith, list-live _ _ _ _ _ (c .before .before .before .before .before .before .before .before .pre .1 .0), c .before .before .loop .inv .on, stmt-live _ _ _ _ _ (seq-first _ _ _ _ _ _ (c .before .before .loop .inv .live) (c .before .loop-test .taken))), (seq-first _ _ _ _ _ _ (c .before .before .loop .inv .live) (c .before .loop-test .taken), omega arith, omega arith, omega (arith, c .before .before .loop .inv .size)))
+run-list-run-stmt-requires t c κs =
+    (omega (arith, list-live _ _ _ _ _ (c .before .before .before .before .before .before .before .before .pre .1 .0), c .before .before .loop .inv .on,
+        stmt-live _ _ _ _ _ (seq-first _ _ _ _ _ _ (c .before .before .loop .inv .live) (c .before .loop-test .taken))), (seq-first _ _ _ _ _ _ (c
+        .before .before .loop .inv .live) (c .before .loop-test .taken), omega arith, omega arith, omega (arith, c .before .before .loop .inv .size)))
 
 run-list-sub-left : (t : ℕ) → run-list-lts.Need-sub-left (run-list-claims t) (run-list-at t) run-list.Post run-list-Inv-loop run-list-μ-loop
 run-list-sub-left t c = omega arith
@@ -71,7 +74,9 @@ run-list-loop-less : (t : ℕ) → run-list-lts.Need-loop-less (run-list-claims 
 run-list-loop-less t c = omega arith
 
 run-list-loop-again : (t : ℕ) → run-list-lts.Need-loop-again (run-list-claims t) (run-list-at t) run-list.Post run-list-Inv-loop run-list-μ-loop
-run-list-loop-again t c = going-on _ _ _ _ _ _ _ _ _ _ _ _ (c .before .before .before .before .loop-test .taken) (c .before .before .before .before .before .loop .inv) (c .before .before .run-stmt .ensures)
+run-list-loop-again t c =
+    going-on _ _ _ _ _ _ _ _ _ _ _ _ (c .before .before .before .before .loop-test .taken) (c .before .before .before .before .before .loop .inv) (c
+        .before .before .run-stmt .ensures)
 
 run-list-same-length : (t : ℕ) → run-list-lts.Need-same-length (run-list-claims t) (run-list-at t) run-list.Post run-list-Inv-loop run-list-μ-loop
 run-list-same-length t c = c .before .loop .inv .size
@@ -89,55 +94,96 @@ run-stmt-add-run-assign : (t : ℕ) → run-stmt-lts.Need-add-run-assign (run-st
 run-stmt-add-run-assign t c = omega (arith, stmt-live _ _ _ _ _ (c .before .before .before .before .before .before .before .pre .1 .0))
 
 run-stmt-run-assign-requires : (t : ℕ) → run-stmt-lts.Need-run-assign-requires (run-stmt-claims t) (run-stmt-at t) run-stmt.Post
-run-stmt-run-assign-requires t c κs = (assign-live _ _ _ _ _ (c .before .before .before .before .before .before .before .before .pre .1 .0) (c .before .if3 .taken), omega arith, omega arith, omega arith)
+run-stmt-run-assign-requires t c κs =
+    (assign-live _ _ _ _ _ (c .before .before .before .before .before .before .before .before .pre .1 .0) (c .before .if3 .taken), omega arith, omega
+        arith, omega arith)
 
 run-stmt-same-length : (t : ℕ) → run-stmt-lts.Need-same-length (run-stmt-claims t) (run-stmt-at t) run-stmt.Post
 run-stmt-same-length t c = omega (arith, c .before .slots .given)
 
 run-stmt-returns : (t : ℕ) → run-stmt-lts.Need-returns (run-stmt-claims t) (run-stmt-at t) run-stmt.Post
-run-stmt-returns t c = assign-runs _ _ _ _ _ (c .before .before .before .before .before .before .before .before .before .before .before .pre .1 .0) (c .before .before .before .before .if3 .taken) _ _ _ _ (c .before .before .run-assign .ensures)
+run-stmt-returns t c =
+    let entry = c .before .before .before .before .before .before .before .before .before .before .before in
+    assign-runs _ _ _ _ _ (entry .pre .1 .0) (c .before .before .before .before .if3 .taken) _ _ _ _ (c .before .before .run-assign .ensures)
 
 run-stmt-add-eval-bool : (t : ℕ) → run-stmt-lts.Need-add-eval-bool (run-stmt-claims t) (run-stmt-at t) run-stmt.Post
 run-stmt-add-eval-bool t c = omega (arith, stmt-live _ _ _ _ _ (c .before .before .before .before .before .before .before .pre .1 .0))
 
 run-stmt-eval-bool-requires : (t : ℕ) → run-stmt-lts.Need-eval-bool-requires (run-stmt-claims t) (run-stmt-at t) run-stmt.Post
-run-stmt-eval-bool-requires t c κs = (if-test _ _ _ _ _ (c .before .before .before .before .before .before .before .before .pre .1 .0) (c .before .if3 .left), omega arith, omega arith)
+run-stmt-eval-bool-requires t c κs =
+    (if-test _ _ _ _ _ (c .before .before .before .before .before .before .before .before .pre .1 .0) (c .before .if3 .left), omega arith, omega arith)
 
 run-stmt-sub-run-list : (t : ℕ) → run-stmt-lts.Need-sub-run-list (run-stmt-claims t) (run-stmt-at t) run-stmt.Post
-run-stmt-sub-run-list t c = omega (arith, if-deep _ _ _ _ _ (c .before .before .before .before .before .before .before .before .before .before .pre .1 .0) (c .before .before .before .if3 .left))
+run-stmt-sub-run-list t c =
+    let entry = c .before .before .before .before .before .before .before .before .before .before in
+    omega (arith, if-deep _ _ _ _ _ (entry .pre .1 .0) (c .before .before .before .if3 .left))
 
 run-stmt-run-list-requires : (t : ℕ) → run-stmt-lts.Need-run-list-requires (run-stmt-claims t) (run-stmt-at t) run-stmt.Post
-run-stmt-run-list-requires t c κs = (omega (arith, stmt-live _ _ _ _ _ (c .before .before .before .before .before .before .before .before .before .before .before .pre .1 .0), bool-forward _ _ _ _ _ (if-test _ _ _ _ _ (c .before .before .before .before .before .before .before .before .before .before .before .pre .1 .0) (c .before .before .before .before .if3 .left)) (c .before .before .eval-bool .ensures .1), list-live _ _ _ _ _ (if-then _ _ _ _ _ (c .before .before .before .before .before .before .before .before .before .before .before .pre .1 .0) (c .before .before .before .before .if3 .left) _ (c .before .before .eval-bool .ensures .1))), (if-then _ _ _ _ _ (c .before .before .before .before .before .before .before .before .before .before .before .pre .1 .0) (c .before .before .before .before .if3 .left) _ (c .before .before .eval-bool .ensures .1), omega arith, omega arith, omega arith))
+run-stmt-run-list-requires t c κs =
+    (omega (arith, stmt-live _ _ _ _ _ (c .before .before .before .before .before .before .before .before .before .before .before .pre .1 .0),
+        bool-forward _ _ _ _ _ (if-test _ _ _ _ _ (c .before .before .before .before .before .before .before .before .before .before .before .pre .1
+        .0) (c .before .before .before .before .if3 .left)) (c .before .before .eval-bool .ensures .1), list-live _ _ _ _ _ (if-then _ _ _ _ _ (c
+        .before .before .before .before .before .before .before .before .before .before .before .pre .1 .0) (c .before .before .before .before .if3
+        .left) _ (c .before .before .eval-bool .ensures .1))), (if-then _ _ _ _ _ (c .before .before .before .before .before .before .before .before
+        .before .before .before .pre .1 .0) (c .before .before .before .before .if3 .left) _ (c .before .before .eval-bool .ensures .1), omega arith,
+        omega arith, omega arith))
 
 run-stmt-sub-skip-list : (t : ℕ) → run-stmt-lts.Need-sub-skip-list (run-stmt-claims t) (run-stmt-at t) run-stmt.Post
-run-stmt-sub-skip-list t c = omega (arith, if-deep _ _ _ _ _ (c .before .before .before .before .before .before .before .before .before .before .before .before .before .before .pre .1 .0) (c .before .before .before .before .before .before .before .if3 .left))
+run-stmt-sub-skip-list t c =
+    let entry = c .before .before .before .before .before .before .before .before .before .before .before .before .before .before in
+    omega (arith, if-deep _ _ _ _ _ (entry .pre .1 .0) (c .before .before .before .before .before .before .before .if3 .left))
 
 run-stmt-skip-list-requires : (t : ℕ) → run-stmt-lts.Need-skip-list-requires (run-stmt-claims t) (run-stmt-at t) run-stmt.Post
 run-stmt-skip-list-requires t c κs = omega arith
 
 run-stmt-sub-skip-list-2 : (t : ℕ) → run-stmt-lts.Need-sub-skip-list-2 (run-stmt-claims t) (run-stmt-at t) run-stmt.Post
-run-stmt-sub-skip-list-2 t c = omega (arith, if-deep _ _ _ _ _ (c .before .before .before .before .before .before .before .before .before .before .pre .1 .0) (c .before .before .before .if3 .left))
+run-stmt-sub-skip-list-2 t c =
+    let entry = c .before .before .before .before .before .before .before .before .before .before in
+    omega (arith, if-deep _ _ _ _ _ (entry .pre .1 .0) (c .before .before .before .if3 .left))
 
 run-stmt-skip-list-requires-2 : (t : ℕ) → run-stmt-lts.Need-skip-list-requires-2 (run-stmt-claims t) (run-stmt-at t) run-stmt.Post
 run-stmt-skip-list-requires-2 t c κs = omega arith
 
 run-stmt-sub-run-list-2 : (t : ℕ) → run-stmt-lts.Need-sub-run-list-2 (run-stmt-claims t) (run-stmt-at t) run-stmt.Post
-run-stmt-sub-run-list-2 t c = omega (arith, if-deep _ _ _ _ _ (c .before .before .before .before .before .before .before .before .before .before .before .pre .1 .0) (c .before .before .before .before .if3 .left))
+run-stmt-sub-run-list-2 t c =
+    let entry = c .before .before .before .before .before .before .before .before .before .before .before in
+    omega (arith, if-deep _ _ _ _ _ (entry .pre .1 .0) (c .before .before .before .before .if3 .left))
 
 run-stmt-run-list-requires-2 : (t : ℕ) → run-stmt-lts.Need-run-list-requires-2 (run-stmt-claims t) (run-stmt-at t) run-stmt.Post
-run-stmt-run-list-requires-2 t c κs = (omega (arith, stmt-live _ _ _ _ _ (c .before .before .before .before .before .before .before .before .before .before .before .before .pre .1 .0), bool-forward _ _ _ _ _ (if-test _ _ _ _ _ (c .before .before .before .before .before .before .before .before .before .before .before .before .pre .1 .0) (c .before .before .before .before .before .if3 .left)) (c .before .before .before .eval-bool .ensures .1), list-forward _ _ _ _ _ _ (if-then _ _ _ _ _ (c .before .before .before .before .before .before .before .before .before .before .before .before .pre .1 .0) (c .before .before .before .before .before .if3 .left) _ (c .before .before .before .eval-bool .ensures .1)) (c .before .skip-list2 .ensures), list-live _ _ _ _ _ (if-else _ _ _ _ _ (c .before .before .before .before .before .before .before .before .before .before .before .before .pre .1 .0) (c .before .before .before .before .before .if3 .left) _ (c .before .before .before .eval-bool .ensures .1) _ (c .before .skip-list2 .ensures))), (if-else _ _ _ _ _ (c .before .before .before .before .before .before .before .before .before .before .before .before .pre .1 .0) (c .before .before .before .before .before .if3 .left) _ (c .before .before .before .eval-bool .ensures .1) _ (c .before .skip-list2 .ensures), omega arith, omega arith, omega arith))
+run-stmt-run-list-requires-2 t c κs =
+    (omega (arith, stmt-live _ _ _ _ _ (c .before .before .before .before .before .before .before .before .before .before .before .before .pre .1 .0),
+        bool-forward _ _ _ _ _ (if-test _ _ _ _ _ (c .before .before .before .before .before .before .before .before .before .before .before .before
+        .pre .1 .0) (c .before .before .before .before .before .if3 .left)) (c .before .before .before .eval-bool .ensures .1), list-forward _ _ _ _ _
+        _ (if-then _ _ _ _ _ (c .before .before .before .before .before .before .before .before .before .before .before .before .pre .1 .0) (c .before
+        .before .before .before .before .if3 .left) _ (c .before .before .before .eval-bool .ensures .1)) (c .before .skip-list2 .ensures), list-live
+        _ _ _ _ _ (if-else _ _ _ _ _ (c .before .before .before .before .before .before .before .before .before .before .before .before .pre .1 .0) (c
+        .before .before .before .before .before .if3 .left) _ (c .before .before .before .eval-bool .ensures .1) _ (c .before .skip-list2 .ensures))),
+        (if-else _ _ _ _ _ (c .before .before .before .before .before .before .before .before .before .before .before .before .pre .1 .0) (c .before
+        .before .before .before .before .if3 .left) _ (c .before .before .before .eval-bool .ensures .1) _ (c .before .skip-list2 .ensures), omega
+        arith, omega arith, omega arith))
 
 run-stmt-same-length-2 : (t : ℕ) → run-stmt-lts.Need-same-length-2 (run-stmt-claims t) (run-stmt-at t) run-stmt.Post
 run-stmt-same-length-2 t c = omega (arith, c .before .before .slots2 .given)
 
 run-stmt-returns-2 : (t : ℕ) → run-stmt-lts.Need-returns-2 (run-stmt-claims t) (run-stmt-at t) run-stmt.Post
-run-stmt-returns-2 t c = runs-then _ _ _ _ _ (c .before .before .before .before .before .before .before .before .before .before .before .before .before .before .before .pre .1 .0) (c .before .before .before .before .before .before .before .before .if3 .left) _ (c .before .before .before .before .before .before .eval-bool .ensures .1) _ _ _ _ _ _ (c .before .before .before .before .before .before .eval-bool .ensures .0) (c .before .before .before .before .before .if4 .taken) (c .before .before .before .run-list .ensures) (c .skip-list .ensures)
+run-stmt-returns-2 t c =
+    let at-eval-bool = c .before .before .before .before .before .before in
+    let at-if3 = at-eval-bool .before .before in
+    let entry = at-if3 .before .before .before .before .before .before .before in
+    runs-then _ _ _ _ _ (entry .pre .1 .0) (at-if3 .if3 .left) _ (at-eval-bool .eval-bool .ensures .1) _ _ _ _ _ _ (at-eval-bool .eval-bool .ensures .0)
+        (c .before .before .before .before .before .if4 .taken) (c .before .before .before .run-list .ensures) (c .skip-list .ensures)
 
 run-stmt-same-length-3 : (t : ℕ) → run-stmt-lts.Need-same-length-3 (run-stmt-claims t) (run-stmt-at t) run-stmt.Post
 run-stmt-same-length-3 t c = omega (arith, c .before .slots3 .given)
 
 run-stmt-returns-3 : (t : ℕ) → run-stmt-lts.Need-returns-3 (run-stmt-claims t) (run-stmt-at t) run-stmt.Post
-run-stmt-returns-3 t c = runs-else _ _ _ _ _ (c .before .before .before .before .before .before .before .before .before .before .before .before .before .before .before .pre .1 .0) (c .before .before .before .before .before .before .before .before .if3 .left) _ (c .before .before .before .before .before .before .eval-bool .ensures .1) _ _ _ _ _ _ (c .before .before .before .before .before .before .eval-bool .ensures .0) (c .before .before .before .before .before .if4 .left) (c .before .before .before .before .skip-list2 .ensures) (c .before .before .run-list2 .ensures)
+run-stmt-returns-3 t c =
+    let at-eval-bool = c .before .before .before .before .before .before in
+    let at-if3 = at-eval-bool .before .before in
+    let entry = at-if3 .before .before .before .before .before .before .before in
+    runs-else _ _ _ _ _ (entry .pre .1 .0) (at-if3 .if3 .left) _ (at-eval-bool .eval-bool .ensures .1) _ _ _ _ _ _ (at-eval-bool .eval-bool .ensures .0)
+        (c .before .before .before .before .before .if4 .left) (c .before .before .before .before .skip-list2 .ensures) (c .before .before .run-list2
+        .ensures)
 
 run-stmt-returns-4 : (t : ℕ) → run-stmt-lts.Need-returns-4 (run-stmt-claims t) (run-stmt-at t) run-stmt.Post
 run-stmt-returns-4 t c = absurd (stmt-unknown _ _ _ _ _ (c .before .before .before .before .before .pre .1 .0) (inl (c .if1 .taken)))

@@ -16,10 +16,16 @@ enum-told : tie.Need-enum-told
 enum-told c = search needs
 
 returns : tie.Need-returns
-returns c = found-past (list (c .before .before .before .before .before .before .args .text .now) (namesOf (c .before .before .before .before .before .before .args .file .now) (c .before .before .before .before .before .before .args .nv) (c .before .before .before .before .before .before .args .nm)) (c .before .before .before .before .before .before .args .end) (c .before .before .before .before .before .before .args .nest) (c .before .before .before .before .before .before .args .at)) _ (sym (c .before .n .given .1) ∙ c .before .before .before .check-list .ensures)
+returns c =
+    let entry = c .before .before .before .before .before .before in
+    found-past (list (entry .args .text .now) (namesOf (entry .args .file .now) (entry .args .nv) (entry .args .nm)) (entry .args .end) (entry .args
+        .nest) (entry .args .at)) _ (sym (c .before .n .given .1) ∙ c .before .before .before .check-list .ensures)
 
 returns-2 : tie.Need-returns-2
-returns-2 c = found-bad (list (c .before .before .before .before .before .args .text .now) (namesOf (c .before .before .before .before .before .args .file .now) (c .before .before .before .before .before .args .nv) (c .before .before .before .before .before .args .nm)) (c .before .before .before .before .before .args .end) (c .before .before .before .before .before .args .nest) (c .before .before .before .before .before .args .at)) (sym (c .enum-told .given .1) ∙ c .before .before .check-list .ensures)
+returns-2 c =
+    let entry = c .before .before .before .before .before in
+    found-bad (list (entry .args .text .now) (namesOf (entry .args .file .now) (entry .args .nv) (entry .args .nm)) (entry .args .end) (entry .args .nest)
+        (entry .args .at)) (sym (c .enum-told .given .1) ∙ c .before .before .check-list .ensures)
 
 pub skip-list-spec : {M : Type 1} → statement M
 skip-list-spec = tie.close (tie.spec check-list-requires enum-known-n enum-told returns returns-2)

@@ -7,7 +7,10 @@ wrong-value-requires : tie.Need-wrong-value-requires
 wrong-value-requires c κs = search needs
 
 returns : tie.Need-returns
-returns c = λ d e. first-entry (d .variables) (d .statuses) (c .before .before .before .args .ps) (c .before .before .before .args .ss) (c .before .before .before .good .1 .1 .1 .0 .1 .0 .1) _ (c .before .wrong-value .ensures d e) (c .if1 .taken)
+returns c =
+    let entry = c .before .before .before in
+    λ d e. first-entry (d .variables) (d .statuses) (entry .args .ps) (entry .args .ss) (entry .good .1 .1 .1 .0 .1 .0 .1) _ (c .before .wrong-value
+        .ensures d e) (c .if1 .taken)
 
 wrong-status-requires : tie.Need-wrong-status-requires
 wrong-status-requires c κs = search needs
@@ -16,10 +19,17 @@ add-result : tie.Need-add-result
 add-result c = search needs
 
 returns-2 : tie.Need-returns-2
-returns-2 c = λ d e. status-entry (d .variables) (d .statuses) (c .before .before .before .before .before .args .ps) (c .before .before .before .before .before .args .ss) (c .before .before .before .before .before .good .1 .1 .1 .0 .1 .0 .1) _ _ (c .before .before .before .wrong-value .ensures d e) (c .before .before .if1 .left) (c .before .wrong-status .ensures d e)
+returns-2 c =
+    let entry = c .before .before .before .before .before in
+    λ d e. status-entry (d .variables) (d .statuses) (entry .args .ps) (entry .args .ss) (entry .good .1 .1 .1 .0 .1 .0 .1) _ _ (c .before .before .before
+        .wrong-value .ensures d e) (c .before .before .if1 .left) (c .before .wrong-status .ensures d e)
 
 returns-3 : tie.Need-returns-3
-returns-3 c = λ d e. no-entry (d .variables) (d .statuses) (c .before .before .before .before .before .args .ps) (c .before .before .before .before .before .args .ss) (c .before .before .before .before .before .good .1 .1 .1 .0 .1 .0 .1) (c .before .before .before .before .before .good .1 .1 .1 .1 .0 .1 .0 .1) _ _ (c .before .before .before .wrong-value .ensures d e) (c .before .before .if1 .left) (c .before .wrong-status .ensures d e) (c .if2 .left)
+returns-3 c =
+    let entry = c .before .before .before .before .before in
+    λ d e. no-entry (d .variables) (d .statuses) (entry .args .ps) (entry .args .ss) (entry .good .1 .1 .1 .0 .1 .0 .1) (entry .good .1 .1 .1 .1 .0 .1 .0
+        .1) _ _ (c .before .before .before .wrong-value .ensures d e) (c .before .before .if1 .left) (c .before .wrong-status .ensures d e) (c .if2
+        .left)
 
 pub wrong-entry-spec : {M : Type 1} → statement M
 wrong-entry-spec =

@@ -25,10 +25,16 @@ array-read-value-right : tie.Need-array-read-value-right Inv-loop μ-loop
 array-read-value-right c = omega arith
 
 value-right-requires : tie.Need-value-right-requires Inv-loop μ-loop
-value-right-requires c κs = (omega (arith, variables-inside _ (c .before .before .before .pre .0), c .before .before .before .pre .1, read _ (c .before .before .before .pre .0) .all .long), omega (arith, c .before .before .before .pre .1, read _ (c .before .before .before .pre .0) .all .variables))
+value-right-requires c κs =
+    let entry = c .before .before .before in
+    (omega (arith, variables-inside _ (entry .pre .0), entry .pre .1, read _ (entry .pre .0) .all .long), omega (arith, entry .pre .1, read _ (entry .pre
+        .0) .all .variables))
 
 returns : tie.Need-returns Inv-loop μ-loop
-returns c = values-wrong _ _ (c .before .before .before .before .before .pre .1) (c .before .before .before .before .before .args .t3) (c .before .before .before .before .before .good .1 .1 .0 .1 .0 .1) _ (c .before .before .before .loop .inv) (c .before .before .loop-test .taken) _ (c .before .value-right .ensures) (not-true _ (c .if1 .taken))
+returns c =
+    let entry = c .before .before .before .before .before in
+    values-wrong _ _ (entry .pre .1) (entry .args .t3) (entry .good .1 .1 .0 .1 .0 .1) _ (c .before .before .before .loop .inv) (c .before .before
+        .loop-test .taken) _ (c .before .value-right .ensures) (not-true _ (c .if1 .taken))
 
 add-i : tie.Need-add-i Inv-loop μ-loop
 add-i c = omega arith
@@ -37,10 +43,15 @@ loop-less : tie.Need-loop-less Inv-loop μ-loop
 loop-less c = omega arith
 
 loop-again : tie.Need-loop-again Inv-loop μ-loop
-loop-again c = values-right _ _ (c .before .before .before .before .before .pre .1) (c .before .before .before .before .before .args .t3) (c .before .before .before .before .before .good .1 .1 .0 .1 .0 .1) _ (c .before .before .before .loop .inv) (c .before .before .loop-test .taken) _ (c .before .value-right .ensures) (not-false _ (c .if1 .left))
+loop-again c =
+    let entry = c .before .before .before .before .before in
+    values-right _ _ (entry .pre .1) (entry .args .t3) (entry .good .1 .1 .0 .1 .0 .1) _ (c .before .before .before .loop .inv) (c .before .before
+        .loop-test .taken) _ (c .before .value-right .ensures) (not-false _ (c .if1 .left))
 
 returns-2 : tie.Need-returns-2 Inv-loop μ-loop
-returns-2 c = values-end _ _ (c .before .before .before .pre .1) (c .before .before .before .args .t3) (c .before .before .before .good .1 .1 .0 .1 .0 .1) _ (c .loop-test .left) (c .before .loop .inv)
+returns-2 c =
+    let entry = c .before .before .before in
+    values-end _ _ (entry .pre .1) (entry .args .t3) (entry .good .1 .1 .0 .1 .0 .1) _ (c .loop-test .left) (c .before .loop .inv)
 
 pub wrong-value-spec : {M : Type 1} → statement M
 wrong-value-spec =

@@ -30,7 +30,10 @@ loop-less : tie.Need-loop-less Inv-loop μ-loop
 loop-less c = omega arith
 
 loop-again : tie.Need-loop-again Inv-loop μ-loop
-loop-again c = ⊎-elim (λ w. counting-yes _ _ _ _ _ (c .before .before .loop-test .taken) (w .0 .taken) (w .1) (c .before .before .before .loop .inv)) (λ w. counting-no _ _ _ _ _ (c .before .before .loop-test .taken) (w .0 .left) (w .1) (c .before .before .before .loop .inv)) (c .if1 .came)
+loop-again c =
+    let at-loop = c .before .before .before in
+    ⊎-elim (λ w. counting-yes _ _ _ _ _ (c .before .before .loop-test .taken) (w .0 .taken) (w .1) (at-loop .loop .inv)) (λ w. counting-no _ _ _ _ _ (c
+        .before .before .loop-test .taken) (w .0 .left) (w .1) (at-loop .loop .inv)) (c .if1 .came)
 
 returns : tie.Need-returns Inv-loop μ-loop
 returns c = counting-end _ _ _ _ (c .loop-test .left) (c .before .loop .inv)

@@ -8,13 +8,17 @@ use Rattle.step.proofs.mover.move_cell.Statement.{statement}
 use Rattle.step.proofs.mover.move_cell.Tie as tie
 
 status-and-event-requires : tie.Need-status-and-event-requires
-status-and-event-requires c κs = (c .before .before .before .pre .0, normal-fields _ _ _ _ _ (c .before .before .before .pre .0) _ (c .before .before .before .pre .1))
+status-and-event-requires c κs =
+    let entry = c .before .before .before in
+    (entry .pre .0, normal-fields _ _ _ _ _ (entry .pre .0) _ (entry .pre .1))
 
 same-length : tie.Need-same-length
 same-length c = search needs
 
 returns : tie.Need-returns
-returns c = λ x. idle-event _ _ _ _ _ (c .before .before .before .before .before .pre .0) _ x _ (c .before .status-and-event .ensures) (not-true _ (c .if1 .taken))
+returns c =
+    λ x. idle-event _ _ _ _ _ (c .before .before .before .before .before .pre .0) _ x _ (c .before .status-and-event .ensures) (not-true _ (c .if1
+        .taken))
 
 guard-true-requires : tie.Need-guard-true-requires
 guard-true-requires c κs = search needs
@@ -23,7 +27,10 @@ same-length-2 : tie.Need-same-length-2
 same-length-2 c = search needs
 
 returns-2 : tie.Need-returns-2
-returns-2 c = λ x. idle-guard _ _ _ _ _ (c .before .before .before .before .before .before .before .before .pre .0) _ x _ _ (c .before .before .before .before .status-and-event .ensures) (not-false _ (c .before .before .before .if1 .left)) (c .before .guard-true .ensures x) (not-true _ (c .if2 .taken))
+returns-2 c =
+    let entry = c .before .before .before .before .before .before .before .before in
+    λ x. idle-guard _ _ _ _ _ (entry .pre .0) _ x _ _ (c .before .before .before .before .status-and-event .ensures) (not-false _ (c .before .before
+        .before .if1 .left)) (c .before .guard-true .ensures x) (not-true _ (c .if2 .taken))
 
 add-middle : tie.Need-add-middle
 add-middle c = search needs
@@ -50,7 +57,12 @@ add-past : tie.Need-add-past
 add-past c = search needs
 
 run-list-requires : tie.Need-run-list-requires
-run-list-requires c κs = (action-reads _ _ _ _ _ (c .before .before .before .before .before .before .before .before .before .before .before .before .pre .0) _ (c .before .before .before .before .before .before .before .before .before .before .before .before .pre .1) _ _ (ap (λ (k : ℕ). c .before .before .before .before .before .before .before .before .before .before .before .before .args .p + 8 + k) (c .before .before .wide .ensures .0)) (ap₂ (λ (k j : ℕ). c .before .before .before .before .before .before .before .before .before .before .before .before .args .p + 8 + k + j) (c .before .before .wide .ensures .0) (c .before .word .ensures .0)), omega (arith, c .before .before .wide .ensures .0, c .before .word .ensures .0, normal-fields _ _ _ _ _ (c .before .before .before .before .before .before .before .before .before .before .before .before .pre .0) _ (c .before .before .before .before .before .before .before .before .before .before .before .before .pre .1) .past, sizes _ _ _ _ _ (c .before .before .before .before .before .before .before .before .before .before .before .before .pre .0)), kinds _ _ _ _ _ (c .before .before .before .before .before .before .before .before .before .before .before .before .pre .0), omega (arith, c .before .before .before .before .before .before .before .before .before .before .before .before .pre .0 .size))
+run-list-requires c κs =
+    let entry = c .before .before .before .before .before .before .before .before .before .before .before .before in
+    (action-reads _ _ _ _ _ (entry .pre .0) _ (entry .pre .1) _ _ (ap (λ (k : ℕ). entry .args .p + 8 + k) (c .before .before .wide .ensures .0)) (ap₂ (λ
+        (k j : ℕ). entry .args .p + 8 + k + j) (c .before .before .wide .ensures .0) (c .before .word .ensures .0)), omega (arith, c .before .before
+        .wide .ensures .0, c .before .word .ensures .0, normal-fields _ _ _ _ _ (entry .pre .0) _ (entry .pre .1) .past, sizes _ _ _ _ _ (entry .pre
+        .0)), kinds _ _ _ _ _ (entry .pre .0), omega (arith, entry .pre .0 .size))
 
 shared-slice-read-wide-2 : tie.Need-shared-slice-read-wide-2
 shared-slice-read-wide-2 c = search needs
@@ -65,22 +77,43 @@ shared-slice-read-slots : tie.Need-shared-slice-read-slots
 shared-slice-read-slots c = search needs
 
 cast-slots : tie.Need-cast-slots
-cast-slots c = omega (arith, c .shared-slice-known4 .given (c .before .before .before .before .before .before .before .before .before .before .before .before .before .before .before .before .before .before .args .p + 4))
+cast-slots c =
+    let entry = c .before .before .before .before .before .before .before .before .before .before .before .before .before .before .before .before .before .before in
+    omega (arith, c .shared-slice-known4 .given (entry .args .p + 4))
 
 add-slots-2 : tie.Need-add-slots-2
-add-slots-2 c = omega (arith, in-range _ _ _ _ _ (c .before .before .before .before .before .before .before .before .before .before .before .before .before .before .before .before .before .before .pre .0) _ _ _ _ (c .before .wide2 .ensures .0) refl refl (normal-fields _ _ _ _ _ (c .before .before .before .before .before .before .before .before .before .before .before .before .before .before .before .before .before .before .pre .0) _ (c .before .before .before .before .before .before .before .before .before .before .before .before .before .before .before .before .before .before .pre .1)) .0, sizes _ _ _ _ _ (c .before .before .before .before .before .before .before .before .before .before .before .before .before .before .before .before .before .before .pre .0), c .before .before .before .before .before .before .before .before .before .before .before .before .before .before .before .before .before .before .pre .0 .size)
+add-slots-2 c =
+    let entry = c .before .before .before .before .before .before .before .before .before .before .before .before .before .before .before .before .before .before in
+    omega (arith, in-range _ _ _ _ _ (entry .pre .0) _ _ _ _ (c .before .wide2 .ensures .0) refl refl (normal-fields _ _ _ _ _ (entry .pre .0) _ (entry
+        .pre .1)) .0, sizes _ _ _ _ _ (entry .pre .0), entry .pre .0 .size)
 
 mul-slots : tie.Need-mul-slots
-mul-slots c = omega (arith, in-range _ _ _ _ _ (c .before .before .before .before .before .before .before .before .before .before .before .before .before .before .before .before .before .before .pre .0) _ _ _ _ (c .before .wide2 .ensures .0) refl refl (normal-fields _ _ _ _ _ (c .before .before .before .before .before .before .before .before .before .before .before .before .before .before .before .before .before .before .pre .0) _ (c .before .before .before .before .before .before .before .before .before .before .before .before .before .before .before .before .before .before .pre .1)) .0, sizes _ _ _ _ _ (c .before .before .before .before .before .before .before .before .before .before .before .before .before .before .before .before .before .before .pre .0), c .before .before .before .before .before .before .before .before .before .before .before .before .before .before .before .before .before .before .pre .0 .size, c .before .before .before .before .slots .given)
+mul-slots c =
+    let entry = c .before .before .before .before .before .before .before .before .before .before .before .before .before .before .before .before .before .before in
+    omega (arith, in-range _ _ _ _ _ (entry .pre .0) _ _ _ _ (c .before .wide2 .ensures .0) refl refl (normal-fields _ _ _ _ _ (entry .pre .0) _ (entry
+        .pre .1)) .0, sizes _ _ _ _ _ (entry .pre .0), entry .pre .0 .size, c .before .before .before .before .slots .given)
 
 slice-write-slots : tie.Need-slice-write-slots
-slice-write-slots c = omega (arith, in-range _ _ _ _ _ (c .before .before .before .before .before .before .before .before .before .before .before .before .before .before .before .before .before .before .pre .0) _ _ _ _ (c .before .wide2 .ensures .0) refl refl (normal-fields _ _ _ _ _ (c .before .before .before .before .before .before .before .before .before .before .before .before .before .before .before .before .before .before .pre .0) _ (c .before .before .before .before .before .before .before .before .before .before .before .before .before .before .before .before .before .before .pre .1)) .0, sizes _ _ _ _ _ (c .before .before .before .before .before .before .before .before .before .before .before .before .before .before .before .before .before .before .pre .0), c .before .before .before .before .before .before .before .before .before .before .before .before .before .before .before .before .before .before .pre .0 .size, c .before .before .before .before .slots .given)
+slice-write-slots c =
+    let entry = c .before .before .before .before .before .before .before .before .before .before .before .before .before .before .before .before .before .before in
+    omega (arith, in-range _ _ _ _ _ (entry .pre .0) _ _ _ _ (c .before .wide2 .ensures .0) refl refl (normal-fields _ _ _ _ _ (entry .pre .0) _ (entry
+        .pre .1)) .0, sizes _ _ _ _ _ (entry .pre .0), entry .pre .0 .size, c .before .before .before .before .slots .given)
 
 same-length-3 : tie.Need-same-length-3
 same-length-3 c = search needs
 
 returns-3 : tie.Need-returns-3
-returns-3 c = λ x. moved-cell _ _ _ _ _ (c .before .before .before .before .before .before .before .before .before .before .before .before .before .before .before .before .before .before .pre .0) _ x _ _ (c .before .before .before .before .before .before .before .before .before .before .before .before .before .before .status-and-event .ensures) (not-false _ (c .before .before .before .before .before .before .before .before .before .before .before .before .before .if1 .left)) (c .before .before .before .before .before .before .before .before .before .before .before .guard-true .ensures x) (not-false _ (c .before .before .before .before .before .before .before .before .before .before .if2 .left)) _ _ (ap (λ (k : ℕ). c .before .before .before .before .before .before .before .before .before .before .before .before .before .before .before .before .before .before .args .p + 8 + k) (c .before .before .before .before .before .before .before .before .wide .ensures .0)) (ap₂ (λ (k j : ℕ). c .before .before .before .before .before .before .before .before .before .before .before .before .before .before .before .before .before .before .args .p + 8 + k + j) (c .before .before .before .before .before .before .before .before .wide .ensures .0) (c .before .before .before .before .before .before .before .word .ensures .0)) _ (c .before .before .before .before .before .run-list .ensures .0) _ _ (c .before .wide2 .ensures .0) refl
+returns-3 c =
+    let at-wide = c .before .before .before .before .before .before .before .before in
+    let at-if2 = at-wide .before .before in
+    let at-guard-true = at-if2 .before in
+    let at-if1 = at-guard-true .before .before in
+    let at-status-and-event = at-if1 .before in
+    let entry = at-status-and-event .before .before .before .before in
+    λ x. moved-cell _ _ _ _ _ (entry .pre .0) _ x _ _ (at-status-and-event .status-and-event .ensures) (not-false _ (at-if1 .if1 .left)) (at-guard-true
+        .guard-true .ensures x) (not-false _ (at-if2 .if2 .left)) _ _ (ap (λ (k : ℕ). entry .args .p + 8 + k) (at-wide .wide .ensures .0)) (ap₂ (λ (k
+        j : ℕ). entry .args .p + 8 + k + j) (at-wide .wide .ensures .0) (c .before .before .before .before .before .before .before .word .ensures .0))
+        _ (c .before .before .before .before .before .run-list .ensures .0) _ _ (c .before .wide2 .ensures .0) refl
 
 pub move-cell-spec : {M : Type 1} → statement M
 move-cell-spec =

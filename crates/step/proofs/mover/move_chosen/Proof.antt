@@ -6,22 +6,33 @@ use Rattle.step.proofs.mover.move_chosen.Statement.{statement}
 use Rattle.step.proofs.mover.move_chosen.Tie as tie
 
 mul-p : tie.Need-mul-p
-mul-p c = omega (arith, slot _ _ _ (c .before .before .before .pre .1) _ (c .if1 .taken) (c .before .before .before .pre .0 .accepted))
+mul-p c =
+    let entry = c .before .before .before in
+    omega (arith, slot _ _ _ (entry .pre .1) _ (c .if1 .taken) (entry .pre .0 .accepted))
 
 element-copy-out-p : tie.Need-element-copy-out-p
-element-copy-out-p c = omega (arith, slot _ _ _ (c .before .before .before .pre .1) _ (c .if1 .taken) (c .before .before .before .pre .0 .accepted))
+element-copy-out-p c =
+    let entry = c .before .before .before in
+    omega (arith, slot _ _ _ (entry .pre .1) _ (c .if1 .taken) (entry .pre .0 .accepted))
 
 cast-p : tie.Need-cast-p
-cast-p c = omega (arith, place-small _ _ _ (c .before .before .before .before .pre .1) _ (c .before .if1 .taken) (c .before .before .before .before .pre .0 .accepted))
+cast-p c =
+    let entry = c .before .before .before .before in
+    omega (arith, place-small _ _ _ (entry .pre .1) _ (c .before .if1 .taken) (entry .pre .0 .accepted))
 
 move-cell-requires : tie.Need-move-cell-requires
-move-cell-requires c κs = (c .before .before .before .before .before .pre .0, chosen _ _ _ (c .before .before .before .before .before .pre .1) _ (c .before .before .if1 .taken) (c .before .before .before .before .before .pre .0 .accepted))
+move-cell-requires c κs =
+    let entry = c .before .before .before .before .before in
+    (entry .pre .0, chosen _ _ _ (entry .pre .1) _ (c .before .before .if1 .taken) (entry .pre .0 .accepted))
 
 same-length : tie.Need-same-length
 same-length c = search needs
 
 returns : tie.Need-returns
-returns c = λ d e. step-cell _ _ (c .before .before .before .before .before .before .before .before .pre .0 .variables) _ _ _ d e _ _ (c .before .before .before .before .before .before .before .before .pre .1) _ (c .before .before .before .before .before .if1 .taken) (c .before .before .move-cell .ensures)
+returns c =
+    let entry = c .before .before .before .before .before .before .before .before in
+    λ d e. step-cell _ _ (entry .pre .0 .variables) _ _ _ d e _ _ (entry .pre .1) _ (c .before .before .before .before .before .if1 .taken) (c .before
+        .before .move-cell .ensures)
 
 external-requires : tie.Need-external-requires
 external-requires c κs = (kinds _ _ _ _ _ (c .before .before .before .pre .0), omega arith)
@@ -33,7 +44,10 @@ same-length-2 : tie.Need-same-length-2
 same-length-2 c = search needs
 
 returns-2 : tie.Need-returns-2
-returns-2 c = λ d e. step-external _ _ (c .before .before .before .before .before .before .before .before .pre .0 .variables) _ _ _ d e _ _ (c .before .before .before .before .before .before .before .before .pre .1) _ _ (c .before .before .before .before .before .if1 .left) (omega arith) (c .before .before .before .before .external .ensures .0) (c .before .before .move-external .ensures)
+returns-2 c =
+    λ d e. step-external _ _ (c .before .before .before .before .before .before .before .before .pre .0 .variables) _ _ _ d e _ _ (c .before .before
+        .before .before .before .before .before .before .pre .1) _ _ (c .before .before .before .before .before .if1 .left) (omega arith) (c .before
+        .before .before .before .external .ensures .0) (c .before .before .move-external .ensures)
 
 pub move-chosen-spec : {M : Type 1} → statement M
 move-chosen-spec =

@@ -27,7 +27,9 @@ same-length : tie.Need-same-length Inv-loop μ-loop
 same-length c = c .before .before .before .before .before .loop .inv .size
 
 returns : tie.Need-returns Inv-loop μ-loop
-returns c = λ d e. c .broken-at .ensures ∙ ap breaksAnswer (replaying-broken _ _ _ _ _ _ (c .before .before .before .before .before .loop .inv) _ (c .before .before .property-true .ensures) (not-true _ (c .before .if1 .taken)) d e)
+returns c =
+    λ d e. c .broken-at .ensures ∙ ap breaksAnswer (replaying-broken _ _ _ _ _ _ (c .before .before .before .before .before .loop .inv) _ (c .before
+        .before .property-true .ensures) (not-true _ (c .before .if1 .taken)) d e)
 
 shared-slice-read-wide : tie.Need-shared-slice-read-wide Inv-loop μ-loop
 shared-slice-read-wide c = omega arith
@@ -36,7 +38,11 @@ wide-requires : tie.Need-wide-requires Inv-loop μ-loop
 wide-requires c κs = tt
 
 move-chosen-requires : tie.Need-move-chosen-requires Inv-loop μ-loop
-move-chosen-requires c κs = (ready-same _ _ _ _ _ _ (c .before .before .before .before .before .before .before .loop .inv .size) (c .before .before .before .before .before .before .before .before .before .before .before .pre .0), c .before .before .before .before .before .before .before .before .before .before .before .pre .1, omega (arith, c .before .wide .ensures .0, c .before .before .before .before .before .before .before .before .before .before .before .pre .3 (c .before .before .before .before .before .before .before .loop .i) (c .before .before .before .before .before .before .loop-test .taken)))
+move-chosen-requires c κs =
+    let at-loop = c .before .before .before .before .before .before .before in
+    let entry = at-loop .before .before .before .before in
+    (ready-same _ _ _ _ _ _ (at-loop .loop .inv .size) (entry .pre .0), entry .pre .1, omega (arith, c .before .wide .ensures .0, entry .pre .3 (at-loop
+        .loop .i) (c .before .before .before .before .before .before .loop-test .taken)))
 
 add-i : tie.Need-add-i Inv-loop μ-loop
 add-i c = omega arith
@@ -45,10 +51,16 @@ loop-less : tie.Need-loop-less Inv-loop μ-loop
 loop-less c = omega arith
 
 loop-again : tie.Need-loop-again Inv-loop μ-loop
-loop-again c = replaying-on _ _ _ _ _ _ (c .before .before .before .before .before .before .before .before .before .before .loop .inv) _ (c .before .before .before .before .before .before .before .property-true .ensures) (not-false _ (c .before .before .before .before .before .before .if1 .left)) (c .before .before .before .before .before .before .before .before .before .loop-test .taken) _ (c .before .before .before .before .wide .ensures .0) _ _ _ (omega (arith, c .before .slots .given)) (c .before .before .move-chosen .ensures)
+loop-again c =
+    let at-loop-test = c .before .before .before .before .before .before .before .before .before in
+    let at-loop = at-loop-test .before in
+    replaying-on _ _ _ _ _ _ (at-loop .loop .inv) _ (c .before .before .before .before .before .before .before .property-true .ensures) (not-false _ (c
+        .before .before .before .before .before .before .if1 .left)) (at-loop-test .loop-test .taken) _ (c .before .before .before .before .wide
+        .ensures .0) _ _ _ (omega (arith, c .before .slots .given)) (c .before .before .move-chosen .ensures)
 
 property-true-requires-2 : tie.Need-property-true-requires-2 Inv-loop μ-loop
-property-true-requires-2 c κs = ready-same _ _ _ _ _ _ (c .before .before .loop .inv .size) (c .before .before .before .before .before .before .pre .0)
+property-true-requires-2 c κs =
+    ready-same _ _ _ _ _ _ (c .before .before .loop .inv .size) (c .before .before .before .before .before .before .pre .0)
 
 never-requires : tie.Need-never-requires Inv-loop μ-loop
 never-requires c κs = tt
@@ -57,7 +69,9 @@ same-length-2 : tie.Need-same-length-2 Inv-loop μ-loop
 same-length-2 c = c .before .before .before .before .before .loop .inv .size
 
 returns-2 : tie.Need-returns-2 Inv-loop μ-loop
-returns-2 c = λ d e. c .never .ensures ∙ ap breaksAnswer (replaying-never _ _ _ _ _ _ (c .before .before .before .before .before .loop .inv) _ (c .before .before .property-true2 .ensures) (c .before .if2 .taken) (c .before .before .before .before .loop-test .left) d e)
+returns-2 c =
+    λ d e. c .never .ensures ∙ ap breaksAnswer (replaying-never _ _ _ _ _ _ (c .before .before .before .before .before .loop .inv) _ (c .before .before
+        .property-true2 .ensures) (c .before .if2 .taken) (c .before .before .before .before .loop-test .left) d e)
 
 broken-at-requires-2 : tie.Need-broken-at-requires-2 Inv-loop μ-loop
 broken-at-requires-2 c κs = tt
@@ -66,7 +80,9 @@ same-length-3 : tie.Need-same-length-3 Inv-loop μ-loop
 same-length-3 c = c .before .before .before .before .before .loop .inv .size
 
 returns-3 : tie.Need-returns-3 Inv-loop μ-loop
-returns-3 c = λ d e. c .broken-at2 .ensures ∙ ap breaksAnswer (replaying-broken _ _ _ _ _ _ (c .before .before .before .before .before .loop .inv) _ (c .before .before .property-true2 .ensures) (c .before .if2 .left) d e)
+returns-3 c =
+    λ d e. c .broken-at2 .ensures ∙ ap breaksAnswer (replaying-broken _ _ _ _ _ _ (c .before .before .before .before .before .loop .inv) _ (c .before
+        .before .property-true2 .ensures) (c .before .if2 .left) d e)
 
 pub first-break-spec : {M : Type 1} → statement M
 first-break-spec =

@@ -21,7 +21,10 @@ wide-requires : tie.Need-wide-requires Inv-loop μ-loop
 wide-requires c κs = tt
 
 returns : tie.Need-returns Inv-loop μ-loop
-returns c = choice-over (c .before .before .before .before .before .before .args .choices .now) (c .before .before .before .before .before .before .args .w) _ _ (c .before .before .before .before .loop .inv) (c .before .before .before .loop-test .taken) (c .before .wide .ensures .0) (c .if1 .taken)
+returns c =
+    let entry = c .before .before .before .before .before .before in
+    choice-over (entry .args .choices .now) (entry .args .w) _ _ (c .before .before .before .before .loop .inv) (c .before .before .before .loop-test
+        .taken) (c .before .wide .ensures .0) (c .if1 .taken)
 
 add-i : tie.Need-add-i Inv-loop μ-loop
 add-i c = omega arith
@@ -30,10 +33,15 @@ loop-less : tie.Need-loop-less Inv-loop μ-loop
 loop-less c = omega arith
 
 loop-again : tie.Need-loop-again Inv-loop μ-loop
-loop-again c = choice-below (c .before .before .before .before .before .before .args .choices .now) (c .before .before .before .before .before .before .args .w) _ _ (c .before .before .before .before .loop .inv) (c .before .before .before .loop-test .taken) (c .before .wide .ensures .0) (c .if1 .left)
+loop-again c =
+    let entry = c .before .before .before .before .before .before in
+    choice-below (entry .args .choices .now) (entry .args .w) _ _ (c .before .before .before .before .loop .inv) (c .before .before .before .loop-test
+        .taken) (c .before .wide .ensures .0) (c .if1 .left)
 
 returns-2 : tie.Need-returns-2 Inv-loop μ-loop
-returns-2 c = choices-end (c .before .before .before .args .choices .now) (c .before .before .before .args .w) _ (c .loop-test .left) (c .before .loop .inv)
+returns-2 c =
+    let entry = c .before .before .before in
+    choices-end (entry .args .choices .now) (entry .args .w) _ (c .loop-test .left) (c .before .loop .inv)
 
 pub first-over-spec : {M : Type 1} → statement M
 first-over-spec =

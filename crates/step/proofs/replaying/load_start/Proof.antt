@@ -16,37 +16,52 @@ loop-holds : tie.Need-loop-holds Inv-loop μ-loop
 loop-holds c = loading-start _ (c .before .before .pre .0) _ _ (c .before .before .pre .1) (c .before .before .pre .2) _ (c .before .before .pre .3)
 
 mul-word : tie.Need-mul-word Inv-loop μ-loop
-mul-word c = omega (arith, loading-inside _ (c .before .before .before .before .pre .0) _ _ (c .before .before .before .before .pre .1) (c .before .before .before .before .pre .2) (c .before .loop .v) (c .loop-test .taken))
+mul-word c =
+    let entry = c .before .before .before .before in
+    omega (arith, loading-inside _ (entry .pre .0) _ _ (entry .pre .1) (entry .pre .2) (c .before .loop .v) (c .loop-test .taken))
 
 add-word : tie.Need-add-word Inv-loop μ-loop
-add-word c = omega (arith, loading-inside _ (c .before .before .before .before .pre .0) _ _ (c .before .before .before .before .pre .1) (c .before .before .before .before .pre .2) (c .before .loop .v) (c .loop-test .taken))
+add-word c =
+    let entry = c .before .before .before .before in
+    omega (arith, loading-inside _ (entry .pre .0) _ _ (entry .pre .1) (entry .pre .2) (c .before .loop .v) (c .loop-test .taken))
 
 word-requires : tie.Need-word-requires Inv-loop μ-loop
-word-requires c κs = loading-inside _ (c .before .before .before .before .pre .0) _ _ (c .before .before .before .before .pre .1) (c .before .before .before .before .pre .2) (c .before .loop .v) (c .loop-test .taken) .0
+word-requires c κs =
+    let entry = c .before .before .before .before in
+    loading-inside _ (entry .pre .0) _ _ (entry .pre .1) (entry .pre .2) (c .before .loop .v) (c .loop-test .taken) .0
 
 cast-slots : tie.Need-cast-slots Inv-loop μ-loop
 cast-slots c = omega (arith, c .word .ensures .1)
 
 mul-slots : tie.Need-mul-slots Inv-loop μ-loop
-mul-slots c = omega (arith, loading-inside _ (c .before .before .before .before .before .pre .0) _ _ (c .before .before .before .before .before .pre .1) (c .before .before .before .before .before .pre .2) (c .before .before .loop .v) (c .before .loop-test .taken))
+mul-slots c =
+    let entry = c .before .before .before .before .before in
+    omega (arith, loading-inside _ (entry .pre .0) _ _ (entry .pre .1) (entry .pre .2) (c .before .before .loop .v) (c .before .loop-test .taken))
 
 slice-write-slots : tie.Need-slice-write-slots Inv-loop μ-loop
 slice-write-slots c = omega (arith, c .before .before .loop .inv .size)
 
 add-v : tie.Need-add-v Inv-loop μ-loop
-add-v c = omega (arith, loading-inside _ (c .before .before .before .before .before .pre .0) _ _ (c .before .before .before .before .before .pre .1) (c .before .before .before .before .before .pre .2) (c .before .before .loop .v) (c .before .loop-test .taken))
+add-v c =
+    let entry = c .before .before .before .before .before in
+    omega (arith, loading-inside _ (entry .pre .0) _ _ (entry .pre .1) (entry .pre .2) (c .before .before .loop .v) (c .before .loop-test .taken))
 
 loop-less : tie.Need-loop-less Inv-loop μ-loop
 loop-less c = omega arith
 
 loop-again : tie.Need-loop-again Inv-loop μ-loop
-loop-again c = loading-on _ (c .before .before .before .before .before .pre .0) _ _ (c .before .before .before .before .before .pre .1) (c .before .before .before .before .before .pre .2) _ _ _ (c .before .loop-test .taken) (c .word .ensures .0) (c .before .before .loop .inv)
+loop-again c =
+    let entry = c .before .before .before .before .before in
+    loading-on _ (entry .pre .0) _ _ (entry .pre .1) (entry .pre .2) _ _ _ (c .before .loop-test .taken) (c .word .ensures .0) (c .before .before .loop
+        .inv)
 
 same-length : tie.Need-same-length Inv-loop μ-loop
 same-length c = c .before .loop .inv .size ∙ sym (ap length (c .before .before .before .before .pre .3) ∙ length-replicate _ _)
 
 returns : tie.Need-returns Inv-loop μ-loop
-returns c = loading-end _ (c .before .before .before .before .pre .0) _ _ (c .before .before .before .before .pre .1) (c .before .before .before .before .pre .2) _ _ (c .loop-test .left) (c .before .loop .inv)
+returns c =
+    let entry = c .before .before .before .before in
+    loading-end _ (entry .pre .0) _ _ (entry .pre .1) (entry .pre .2) _ _ (c .loop-test .left) (c .before .loop .inv)
 
 pub load-start-spec : {M : Type 1} → statement M
 load-start-spec =

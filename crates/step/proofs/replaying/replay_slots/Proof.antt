@@ -11,13 +11,18 @@ load-start-requires : tie.Need-load-start-requires
 load-start-requires c κs = search needs
 
 first-break-requires : tie.Need-first-break-requires
-first-break-requires c κs = (ready-same _ _ _ _ _ _ (omega (arith, c .before .before .slots .given)) (c .before .before .before .before .before .before .before .before .pre .0), c .before .before .before .before .before .before .before .before .pre .1, c .before .before .before .before .before .before .before .before .pre .2, c .before .before .before .before .before .before .before .before .pre .3)
+first-break-requires c κs =
+    let entry = c .before .before .before .before .before .before .before .before in
+    (ready-same _ _ _ _ _ _ (omega (arith, c .before .before .slots .given)) (entry .pre .0), entry .pre .1, entry .pre .2, entry .pre .3)
 
 same-length : tie.Need-same-length
 same-length c = search needs
 
 returns : tie.Need-returns
-returns c = λ d e. c .before .before .first-break .ensures d e ∙ ap (λ (s : State). breaksAnswer (firstBreak d (c .before .before .before .before .before .before .before .before .before .before .before .args .property) s (c .before .before .before .before .before .before .before .before .before .before .before .args .choices .now) 0)) (c .before .before .before .before .before .before .load-start .ensures d e)
+returns c =
+    let entry = c .before .before .before .before .before .before .before .before .before .before .before in
+    λ d e. c .before .before .first-break .ensures d e ∙ ap (λ (s : State). breaksAnswer (firstBreak d (entry .args .property) s (entry .args .choices
+        .now) 0)) (c .before .before .before .before .before .before .load-start .ensures d e)
 
 pub replay-slots-spec : {M : Type 1} → statement M
 replay-slots-spec =

@@ -26,7 +26,15 @@ same-length c = search needs
 
 returns : tie.Need-returns
 unfolding head
-returns c = (written-then (c .before .before .before .before .before .before .before .before .before .before .before .before .before .before .before .before .before .before .put-decimal .ensures .0) (written-then (c .before .before .before .before .before .before .before .before .before .before .before .before .before .before .put-byte .ensures) (written-then (c .before .before .before .before .before .before .before .before .before .before .put-mover .ensures .0) (written-then (c .before .before .before .before .before .before .put-flag .ensures .0) (c .before .before .put-flag2 .ensures .0)))), omega (arith, c .before .before .before .before .before .before .before .before .before .before .before .before .before .before .before .before .before .before .put-decimal .ensures .1, c .before .before .before .before .before .before .before .before .before .before .before .before .before .before .put-byte .ensures .past, c .before .before .before .before .before .before .before .before .before .before .put-mover .ensures .1, c .before .before .before .before .before .before .put-flag .ensures .1, c .before .before .put-flag2 .ensures .1))
+returns c =
+    let at-put-flag = c .before .before .before .before .before .before in
+    let at-put-mover = at-put-flag .before .before .before .before in
+    let at-put-byte = at-put-mover .before .before .before .before in
+    let at-put-decimal = at-put-byte .before .before .before .before in
+    (written-then (at-put-decimal .put-decimal .ensures .0) (written-then (at-put-byte .put-byte .ensures) (written-then (at-put-mover .put-mover .ensures
+        .0) (written-then (at-put-flag .put-flag .ensures .0) (c .before .before .put-flag2 .ensures .0)))), omega (arith, at-put-decimal .put-decimal
+        .ensures .1, at-put-byte .put-byte .ensures .past, at-put-mover .put-mover .ensures .1, at-put-flag .put-flag .ensures .1, c .before .before
+        .put-flag2 .ensures .1))
 
 pub put-head-spec : {M : Type 1} → statement M
 put-head-spec =

@@ -29,7 +29,16 @@ same-length c = search needs
 
 returns : tie.Need-returns
 unfolding line
-returns c = (written-then (c .before .before .before .before .before .before .before .before .before .before .before .before .before .before .before .before .before .before .before .before .before .before .put-head .ensures .0) (written-then (c .before .before .before .before .before .before .before .before .before .before .before .before .before .before .before .before .before .before .put-values .ensures .0) (written-then (c .before .before .before .before .before .before .before .before .before .before .before .before .before .before .put-byte .ensures) (written-then (c .before .before .before .before .before .before .before .before .before .before .put-byte2 .ensures) (written-then (c .before .before .before .before .before .before .put-statuses .ensures .0) (c .before .before .put-byte3 .ensures))))), omega (arith, c .before .before .before .before .before .before .before .before .before .before .before .before .before .before .before .before .before .before .before .before .before .before .put-head .ensures .1, c .before .before .before .before .before .before .before .before .before .before .before .before .before .before .before .before .before .before .put-values .ensures .1, c .before .before .before .before .before .before .before .before .before .before .before .before .before .before .put-byte .ensures .past, c .before .before .before .before .before .before .before .before .before .before .put-byte2 .ensures .past, c .before .before .before .before .before .before .put-statuses .ensures .1, c .before .before .put-byte3 .ensures .past))
+returns c =
+    let at-put-statuses = c .before .before .before .before .before .before in
+    let at-put-byte2 = at-put-statuses .before .before .before .before in
+    let at-put-byte = at-put-byte2 .before .before .before .before in
+    let at-put-values = at-put-byte .before .before .before .before in
+    let at-put-head = at-put-values .before .before .before .before in
+    (written-then (at-put-head .put-head .ensures .0) (written-then (at-put-values .put-values .ensures .0) (written-then (at-put-byte .put-byte .ensures)
+        (written-then (at-put-byte2 .put-byte2 .ensures) (written-then (at-put-statuses .put-statuses .ensures .0) (c .before .before .put-byte3
+        .ensures))))), omega (arith, at-put-head .put-head .ensures .1, at-put-values .put-values .ensures .1, at-put-byte .put-byte .ensures .past,
+        at-put-byte2 .put-byte2 .ensures .past, at-put-statuses .put-statuses .ensures .1, c .before .before .put-byte3 .ensures .past))
 
 pub put-line-spec : {M : Type 1} → statement M
 put-line-spec =

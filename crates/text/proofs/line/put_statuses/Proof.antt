@@ -33,10 +33,17 @@ shared-slice-read-put-decimal : tie.Need-shared-slice-read-put-decimal Inv-loop 
 shared-slice-read-put-decimal c = omega arith
 
 cast-put-decimal : tie.Need-cast-put-decimal Inv-loop μ-loop
-cast-put-decimal c = omega (arith, c .before .before .before .before .before .before .before .before .shared-slice-known .given (c .before .before .before .before .before .before .before .before .before .before .args .n + c .before .before .before .before .before .before .before .loop .i))
+cast-put-decimal c =
+    let at-shared-slice-known = c .before .before .before .before .before .before .before .before in
+    let entry = at-shared-slice-known .before .before in
+    omega (arith, at-shared-slice-known .shared-slice-known .given (entry .args .n + c .before .before .before .before .before .before .before .loop .i))
 
 put-decimal-requires : tie.Need-put-decimal-requires Inv-loop μ-loop
-put-decimal-requires c κs = omega (arith, c .before .before .before .before .before .before .before .loop .inv .0 .near, c .before .before .before .before .before .before .before .loop .inv .0 .rest .size, c .before .before .before .before .put-byte .ensures .past, written-length (c .before .before .before .before .put-byte .ensures))
+put-decimal-requires c κs =
+    let at-put-byte = c .before .before .before .before in
+    let at-loop = at-put-byte .before .before .before in
+    omega (arith, at-loop .loop .inv .0 .near, at-loop .loop .inv .0 .rest .size, at-put-byte .put-byte .ensures .past, written-length (at-put-byte
+        .put-byte .ensures))
 
 add-i : tie.Need-add-i Inv-loop μ-loop
 add-i c = omega arith
@@ -45,13 +52,20 @@ loop-less : tie.Need-loop-less Inv-loop μ-loop
 loop-less c = omega arith
 
 loop-again : tie.Need-loop-again Inv-loop μ-loop
-loop-again c = (statuses-next (c .before .before .before .before .before .before .before .before .before .before .before .before .before .args .n) (c .before .before .before .before .before .before .before .before .before .before .before .before .before .args .slots .now) (c .before .before .before .before .before .before .before .before .before .before .before .before .before .pre .0) _ (c .before .before .before .before .before .before .before .before .before .loop-test .taken) (c .before .before .before .before .before .before .before .before .before .before .loop .inv .0) (c .before .before .before .before .before .before .before .put-byte .ensures) (c .before .before .put-decimal .ensures .0), omega arith)
+loop-again c =
+    (statuses-next (c .before .before .before .before .before .before .before .before .before .before .before .before .before .args .n) (c .before .before
+        .before .before .before .before .before .before .before .before .before .before .before .args .slots .now) (c .before .before .before .before
+        .before .before .before .before .before .before .before .before .before .pre .0) _ (c .before .before .before .before .before .before .before
+        .before .before .loop-test .taken) (c .before .before .before .before .before .before .before .before .before .before .loop .inv .0) (c
+        .before .before .before .before .before .before .before .put-byte .ensures) (c .before .before .put-decimal .ensures .0), omega arith)
 
 same-length : tie.Need-same-length Inv-loop μ-loop
 same-length c = c .before .loop .inv .0 .rest .size
 
 returns : tie.Need-returns Inv-loop μ-loop
-returns c = (statuses-end (c .before .before .before .before .args .n) (c .before .before .before .before .args .slots .now) (c .before .before .before .before .pre .0) (c .before .loop .i) (omega arith) (c .before .loop .inv .0), omega (arith, c .before .loop .inv .0 .near))
+returns c =
+    (statuses-end (c .before .before .before .before .args .n) (c .before .before .before .before .args .slots .now) (c .before .before .before .before
+        .pre .0) (c .before .loop .i) (omega arith) (c .before .loop .inv .0), omega (arith, c .before .loop .inv .0 .near))
 
 pub put-statuses-spec : {M : Type 1} → statement M
 put-statuses-spec =

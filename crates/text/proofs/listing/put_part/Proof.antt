@@ -22,10 +22,13 @@ slice-reshare-prefix-put-words : tie.Need-slice-reshare-prefix-put-words
 slice-reshare-prefix-put-words c = is-encoded _ _ _ _ _ _ _ (c .before .before .before .before .encode .ensures) _ (c .before .count .given .1) .room
 
 slice-aggregate-put-words : tie.Need-slice-aggregate-put-words
-slice-aggregate-put-words c = sym (is-encoded _ _ _ _ _ _ _ (c .before .before .before .before .before .encode .ensures) _ (c .before .before .count .given .1) .size)
+slice-aggregate-put-words c =
+    sym (is-encoded _ _ _ _ _ _ _ (c .before .before .before .before .before .encode .ensures) _ (c .before .before .count .given .1) .size)
 
 put-words-requires : tie.Need-put-words-requires
-put-words-requires c κs = let t = is-encoded _ _ _ _ _ _ _ (c .before .before .before .before .before .before .encode .ensures) _ (c .before .before .before .count .given .1) in omega (arith, t .room, t .size)
+put-words-requires c κs =
+    let t = is-encoded _ _ _ _ _ _ _ (c .before .before .before .before .before .before .encode .ensures) _ (c .before .before .before .count .given .1)
+        in omega (arith, t .room, t .size)
 
 same-length : tie.Need-same-length
 same-length c = search needs
@@ -34,7 +37,11 @@ same-length-2 : tie.Need-same-length-2
 same-length-2 c = search needs
 
 returns : tie.Need-returns
-returns c = (part-refused _ _ _ _ _ _ _ (c .before .before .before .before .before .before .before .before .encode .ensures) (c .before .before .before .before .before .before .before .before .before .before .before .before .pre .0) _ _ (c .before .before .before .before .before .number .given .1) (c .before .before .put-refusal .ensures .0), omega (arith, c .before .before .put-refusal .ensures .1))
+returns c =
+    let at-encode = c .before .before .before .before .before .before .before .before in
+    let entry = at-encode .before .before .before .before in
+    (part-refused _ _ _ _ _ _ _ (at-encode .encode .ensures) (entry .pre .0) _ _ (c .before .before .before .before .before .number .given .1) (c .before
+        .before .put-refusal .ensures .0), omega (arith, c .before .before .put-refusal .ensures .1))
 
 same-length-3 : tie.Need-same-length-3
 same-length-3 c = search needs
@@ -43,7 +50,13 @@ same-length-4 : tie.Need-same-length-4
 same-length-4 c = search needs
 
 returns-2 : tie.Need-returns-2
-returns-2 c = let t = is-encoded _ _ _ _ _ _ _ (c .before .before .before .before .before .before .before .before .before .encode .ensures) _ (c .before .before .before .before .before .before .count .given .1) in (part-written _ _ _ _ _ _ _ (c .before .before .before .before .before .before .before .before .before .encode .ensures) (c .before .before .before .before .before .before .before .before .before .before .before .before .before .pre .0) _ (c .before .before .before .before .before .before .count .given .1) (c .before .before .put-words .ensures .0), omega (arith, c .before .before .put-words .ensures .1, t .room, t .size))
+returns-2 c =
+    let at-count = c .before .before .before .before .before .before in
+    let at-encode = at-count .before .before .before in
+    let entry = at-encode .before .before .before .before in
+    let t = is-encoded _ _ _ _ _ _ _ (at-encode .encode .ensures) _ (at-count .count .given .1) in (part-written _ _ _ _ _ _ _ (at-encode .encode
+        .ensures) (entry .pre .0) _ (at-count .count .given .1) (c .before .before .put-words .ensures .0), omega (arith, c .before .before .put-words
+        .ensures .1, t .room, t .size))
 
 pub put-part-spec : {M : Type 1} → statement M
 put-part-spec =

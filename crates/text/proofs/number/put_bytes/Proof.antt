@@ -19,7 +19,10 @@ shared-slice-read-put-byte : tie.Need-shared-slice-read-put-byte Inv-loop μ-loo
 shared-slice-read-put-byte c = omega arith
 
 put-byte-requires : tie.Need-put-byte-requires Inv-loop μ-loop
-put-byte-requires c κs = omega (arith, c .before .before .before .loop .inv .0 .past, c .before .before .before .loop .inv .0 .size, length-drop (c .before .before .before .loop .i) (c .before .before .before .before .before .before .args .bytes .now))
+put-byte-requires c κs =
+    let at-loop = c .before .before .before in
+    omega (arith, at-loop .loop .inv .0 .past, at-loop .loop .inv .0 .size, length-drop (at-loop .loop .i) (c .before .before .before .before .before
+        .before .args .bytes .now))
 
 add-i : tie.Need-add-i Inv-loop μ-loop
 add-i c = omega arith
@@ -28,7 +31,10 @@ loop-less : tie.Need-loop-less Inv-loop μ-loop
 loop-less c = omega arith
 
 loop-again : tie.Need-loop-again Inv-loop μ-loop
-loop-again c = (bytes-next (c .before .before .before .before .before .before .before .before .before .args .bytes .now) (c .before .before .before .before .before .before .loop .i) (c .before .before .before .before .before .loop-test .taken) (c .before .before .before .before .before .before .loop .inv .0) (c .before .before .put-byte .ensures), omega arith)
+loop-again c =
+    (bytes-next (c .before .before .before .before .before .before .before .before .before .args .bytes .now) (c .before .before .before .before .before
+        .before .loop .i) (c .before .before .before .before .before .loop-test .taken) (c .before .before .before .before .before .before .loop .inv
+        .0) (c .before .before .put-byte .ensures), omega arith)
 
 same-length : tie.Need-same-length Inv-loop μ-loop
 same-length c = c .before .loop .inv .0 .size

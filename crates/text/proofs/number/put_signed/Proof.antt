@@ -21,19 +21,34 @@ same-length : tie.Need-same-length
 same-length c = written-length (c .before .before .put-decimal .ensures .0)
 
 returns : tie.Need-returns
-returns c = let z = getD (c .before .before .before .before .before .before .before .before .args .words .now) (c .before .before .before .before .before .before .before .before .args .i) (pos 0) in let h = signed-plain z (c .before .before .before .before .before .before .variable .result) (c .before .before .before .before .before .before .variable .ensures) (sym (c .before .before .before .before .before .sign .ensures) ∙ c .before .before .before .before .if1 .taken) (c .before .before .put-decimal .ensures .0) in (h, signed-past z h)
+returns c =
+    let at-variable = c .before .before .before .before .before .before in
+    let entry = at-variable .before .before in
+    let z = getD (entry .args .words .now) (entry .args .i) (pos 0) in let h = signed-plain z (at-variable .variable .result) (at-variable .variable
+        .ensures) (sym (c .before .before .before .before .before .sign .ensures) ∙ c .before .before .before .before .if1 .taken) (c .before .before
+        .put-decimal .ensures .0) in (h, signed-past z h)
 
 put-byte-requires : tie.Need-put-byte-requires
 put-byte-requires c κs = search needs
 
 put-decimal-requires-2 : tie.Need-put-decimal-requires-2
-put-decimal-requires-2 c κs = omega (arith, c .before .before .before .put-byte .ensures .past, written-length (c .before .before .before .put-byte .ensures))
+put-decimal-requires-2 c κs =
+    let at-put-byte = c .before .before .before in
+    omega (arith, at-put-byte .put-byte .ensures .past, written-length (at-put-byte .put-byte .ensures))
 
 same-length-2 : tie.Need-same-length-2
-same-length-2 c = written-length (c .before .before .put-decimal2 .ensures .0) ∙ written-length (c .before .before .before .before .before .before .put-byte .ensures)
+same-length-2 c =
+    written-length (c .before .before .put-decimal2 .ensures .0) ∙ written-length (c .before .before .before .before .before .before .put-byte .ensures)
 
 returns-2 : tie.Need-returns-2
-returns-2 c = let z = getD (c .before .before .before .before .before .before .before .before .before .before .before .before .args .words .now) (c .before .before .before .before .before .before .before .before .before .before .before .before .args .i) (pos 0) in let h = signed-minus z (c .before .before .before .before .before .before .before .before .before .before .variable .result) (c .before .before .before .before .before .before .before .before .before .before .variable .ensures) (λ e. c .before .before .before .before .before .before .before .before .if1 .left (c .before .before .before .before .before .before .before .before .before .sign .ensures ∙ e)) (c .before .before .before .before .before .before .put-byte .ensures) (c .before .before .put-decimal2 .ensures .0) in (h, signed-past z h)
+returns-2 c =
+    let at-if1 = c .before .before .before .before .before .before .before .before in
+    let at-sign = at-if1 .before in
+    let at-variable = at-sign .before in
+    let entry = at-variable .before .before in
+    let z = getD (entry .args .words .now) (entry .args .i) (pos 0) in let h = signed-minus z (at-variable .variable .result) (at-variable .variable
+        .ensures) (λ e. at-if1 .if1 .left (at-sign .sign .ensures ∙ e)) (c .before .before .before .before .before .before .put-byte .ensures) (c
+        .before .before .put-decimal2 .ensures .0) in (h, signed-past z h)
 
 pub put-signed-spec : {M : Type 1} → statement M
 put-signed-spec =

@@ -11,10 +11,17 @@ load-start-requires : tie.Need-load-start-requires
 load-start-requires c κs = search needs
 
 put-state-requires : tie.Need-put-state-requires
-put-state-requires c κs = (ready-same _ _ _ _ _ _ (omega (arith, c .before .before .before .slots .given)) (c .before .before .before .before .before .before .before .before .before .before .pre .0), omega (arith, c .before .before .before .before .before .before .before .before .before .before .pre .2))
+put-state-requires c κs =
+    let entry = c .before .before .before .before .before .before .before .before .before .before in
+    (ready-same _ _ _ _ _ _ (omega (arith, c .before .before .before .slots .given)) (entry .pre .0), omega (arith, entry .pre .2))
 
 put-next-requires : tie.Need-put-next-requires
-put-next-requires c κs = (ready-same _ _ _ _ _ _ (omega (arith, c .before .before .before .before .before .before .before .before .slots .given)) (c .before .before .before .before .before .before .before .before .before .before .before .before .before .before .before .pre .0), c .before .before .before .before .before .before .before .before .before .before .before .before .before .before .before .pre .1, omega (arith, c .before .before .before .before .before .before .before .before .before .before .before .before .before .before .before .pre .2, c .before .before .before .before .put-state .ensures .1, c .before .before .before .before .put-state .ensures .2), c .before .before .before .before .before .before .before .before .before .before .before .before .before .before .before .pre .3)
+put-next-requires c κs =
+    let at-put-state = c .before .before .before .before in
+    let at-slots = at-put-state .before .before .before .before in
+    let entry = at-slots .before .before .before .before .before .before .before in
+    (ready-same _ _ _ _ _ _ (omega (arith, at-slots .slots .given)) (entry .pre .0), entry .pre .1, omega (arith, entry .pre .2, at-put-state .put-state
+        .ensures .1, at-put-state .put-state .ensures .2), entry .pre .3)
 
 same-length : tie.Need-same-length
 same-length c = search needs
@@ -23,7 +30,13 @@ same-length-2 : tie.Need-same-length-2
 same-length-2 c = search needs
 
 returns : tie.Need-returns
-returns c = ((λ d e. states-written d _ _ _ (c .before .before .before .before .before .before .before .before .before .before .before .before .before .before .load-start .ensures d e) (c .before .before .before .before .before .before .before .before .before .put-state .ensures .0 d (whole _ d e .parts)) (c .before .before .before .before .put-next .ensures .0 d e)), omega (arith, c .before .before .before .before .before .before .before .before .before .put-state .ensures .1, c .before .before .before .before .put-next .ensures .1), omega (arith, c .before .before .before .before .before .before .before .before .before .put-state .ensures .2, c .before .before .before .before .put-next .ensures .2))
+returns c =
+    let at-put-next = c .before .before .before .before in
+    let at-put-state = at-put-next .before .before .before .before .before in
+    let at-load-start = at-put-state .before .before .before .before .before in
+    ((λ d e. states-written d _ _ _ (at-load-start .load-start .ensures d e) (at-put-state .put-state .ensures .0 d (whole _ d e .parts)) (at-put-next
+        .put-next .ensures .0 d e)), omega (arith, at-put-state .put-state .ensures .1, at-put-next .put-next .ensures .1), omega (arith, at-put-state
+        .put-state .ensures .2, at-put-next .put-next .ensures .2))
 
 pub put-states-spec : {M : Type 1} → statement M
 put-states-spec =
