@@ -121,8 +121,8 @@ module _ (text : List ℕ) (N : Names) (end : ℕ) where
         let both′ : isRead (two then (S k p) (Q k (n - 1))) ≡ true = sym (ap isRead w) ∙ c .live in
         let m : s .next ≡ past (S k p) = gates-past (λ (x : Stmt). statementCost x bits) (S k p) s e in
         let j : both s (listGates bits (Q k (n - 1) (s .next))) 0 0 ≡ listGates bits (Q k n p)
-              = two-gates then (λ (x : Stmt). statementCost x bits) (λ (x : Stmts). statementsCost x bits) (λ (x : Stmts). statementsCost x bits) 0 0 (then-cost bits) (S k p) (Q k (n - 1)) both′ s _ e refl
-                ∙ sym (ap (listGates bits) w) in
+        = two-gates then (λ (x : Stmt). statementCost x bits) (λ (x : Stmts). statementsCost x bits) (λ (x : Stmts). statementsCost x bits) 0 0 (then-cost bits) (S k p) (Q k (n - 1)) both′ s _ e refl
+        ∙ sym (ap (listGates bits) w) in
         let f = stmt-forward text N end k p (s .next) (seq-first text N end k n p (c .live) l) m in
         record {
           live = subst (λ (i : ℕ). isRead (Q k (n - 1) i) ≡ true) (sym m) (two-second then (S k p) (Q k (n - 1)) both′);

@@ -74,11 +74,11 @@ module _ (file table : List ℕ) (nv nm bits : ℕ) (h : Prepared file table nv 
 
       pub event-gates : (r : GatesAt) → r ≡ gatesAt boolCost (boolExpr file N (place + 1 + k) maxDepth (place + 1)) → (r .ands ≤ 8912896) × (r .wides ≤ 8912896) × ((d : Design) (w : Parts file d) → HasGates r (boolCost (eventIn (w .rows) m e)))
       event-gates r z =
-        let f = bool-few file N (place + 1 + k) (omega (arith, past-is, event-inside, sizes .1)) maxDepth (place + 1) r z in (
-        f .ands,
-        f .wides,
-        λ d w. known-gates boolCost _ _ _ r (cells.event-got file table nv nm slots ready m e a b d w (place + 1 + k) (place + 1) past-is refl) z,
-      )
+          let f = bool-few file N (place + 1 + k) (omega (arith, past-is, event-inside, sizes .1)) maxDepth (place + 1) r z in (
+            f .ands,
+            f .wides,
+            λ d w. known-gates boolCost _ _ _ r (cells.event-got file table nv nm slots ready m e a b d w (place + 1 + k) (place + 1) past-is refl) z,
+          )
 
   -- status and event of the cell at p
   module _ (p m e : ℕ) (a : m ≡ c-matrix file p) (b : e ≡ c-event file p) where

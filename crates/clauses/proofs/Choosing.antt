@@ -44,8 +44,8 @@ module _ (xs : List ℕ) where
     pub passing-on : Passing xs i → getD xs i 0 ≡ 0 → Passing xs (i + 1)
     passing-on g e =
         let f : firstNonzero (drop i xs) ≡ suc (firstNonzero (drop (i + 1) xs)) =
-            ap firstNonzero here
-            ∙ ap (λ (t : Bool). cond t (suc (firstNonzero (drop (i + 1) xs))) 0) (eq-eqb _ _ e) in
+        ap firstNonzero here
+        ∙ ap (λ (t : Bool). cond t (suc (firstNonzero (drop (i + 1) xs))) 0) (eq-eqb _ _ e) in
         record { inside = omega arith; same = omega (arith, g .same) }
 
     pub passing-found : Passing xs i → (getD xs i 0 ≡ 0 → ⊥) → i ≡ firstNonzero xs
@@ -300,8 +300,8 @@ module _ (values : List ℕ) (size w k base : ℕ) where
         let z : j ≡ k = omega (arith, g .next .inside) in
         let none : k - j ≡ 0 = omega arith in
         let front : take k choices ≡ chosenList values size w k base =
-            ap (λ (i : ℕ). take i choices) (sym z) ∙ nil (take j choices)
-            ∙ sym (ap (λ (i : ℕ). take j choices ++ chosenList values size w i at) none) ∙ g .same in
+        ap (λ (i : ℕ). take i choices) (sym z) ∙ nil (take j choices)
+        ∙ sym (ap (λ (i : ℕ). take j choices ++ chosenList values size w i at) none) ∙ g .same in
         halves k choices ∙ ap₂ _++_ front (g .kept)
       where
         nil : (xs : List ℕ) → xs ≡ xs ++ []

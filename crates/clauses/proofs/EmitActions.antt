@@ -76,8 +76,7 @@ module _ (text : List ℕ) (names : Names) (end : ℕ) where
 
     value-in : (getD text at 0 < names .variables) × (value text names end (getD text at 0) (eqb (names .kindOf (getD text at 0)) 1) (at + 1) ≡ got t n)
     value-in =
-        let x = provided-got (ltb (found-in .tree) (names .variables)) _ _ _ (found-in .rest) in
-        (
+        let x = provided-got (ltb (found-in .tree) (names .variables)) _ _ _ (found-in .rest) in (
           subst (λ (v : ℕ). v < names .variables) (byte-in .1) (ltb-true _ _ (x .0)),
           sym (ap₂ (λ (v m : ℕ). value text names end v (eqb (names .kindOf v) 1) m) (byte-in .1) (byte-in .2)) ∙ x .1,
         )
@@ -188,10 +187,9 @@ module _ (l : Layout) (s : Slots) where
   if-emits {lists = lists} {k = k} p {n = n} {x = x} {y = y} w1 w2 w3 u =
       let h1 = w1 (p .test) (p .first) (p .reads) in
       let h2 = w2 (p .yes) (p .second) (ap lists (h1 .1) ∙ p .then) in
-      let h3 = w3 (p .no) k (ap lists (h2 .1) ∙ p .else) in
-      (
+      let h3 = w3 (p .no) k (ap lists (h2 .1) ∙ p .else) in (
         emits-same _ _ (ap (λ (b : Build Slots). b n) (sym (ap (λ (t : Stmt). statement! t l s) (p .tree) ∙ if-tree (p .test) (p .yes) (p .no))))
-        (emits-bind (bool! l s (p .test)) _ (h1 .0) (emits-bind (statements! (p .yes) l s) _ (h2 .0) (emits-bind (statements! (p .no) l s) (muxes! x y) (h3 .0) u))),
+            (emits-bind (bool! l s (p .test)) _ (h1 .0) (emits-bind (statements! (p .yes) l s) _ (h2 .0) (emits-bind (statements! (p .no) l s) (muxes! x y) (h3 .0) u))),
         h3 .1,
       )
 

@@ -24,21 +24,23 @@ emits-give n a xs cur = record { emits = λ h. record { written = refl; cursor =
 module _ {A B : Type 0} {n : ℕ} {xs ys : List ℤ} {cur : ℕ} {a : A} {c v : ℕ} where
   pub emits-bind : (m : Build A) (f : A → Build B) {zs : List ℤ} {b : B} {c′ v′ : ℕ} → Emits n (m n) xs ys cur a c v → Emits v (f a v) ys zs c b c′ v′ → Emits n ((m >>= f) n) xs zs cur b c′ v′
   unfolding _>>=_
-  emits-bind m f {zs} {b} {c′} {v′} p q = record { emits = λ h.
-      let r = m n in
-      let s = f (r .out) (r .next) in
-      let ln = length-append (r .gates) (s .gates) in
-      let lw = gates-length (r .gates) (s .gates) in
-      let one = p .emits (record { numbers = omega (arith, h .numbers); words = omega (arith, h .words) }) in
-      let e : f a v ≡ s = ap₂ (λ (x : A) (k : ℕ). f x k) (one .result) (one .next) in
-      let two = subst (λ (t : Built B). Emits v t ys zs c b c′ v′) e q .emits (record { numbers = omega (arith, h .numbers, one .counted); words = omega (arith, h .words, one .cursor) }) in
-      record {
-        written = two .written ∙ ap₂ (λ (k : ℕ) (t : List ℤ). put k (gateWords (s .gates)) t) (one .cursor) (one .written) ∙ sym (put-append cur (gateWords (r .gates)) (gateWords (s .gates)) xs) ∙ ap (λ (l : List ℤ). put cur l xs) (sym (gates-append (r .gates) (s .gates)));
-        cursor = omega (arith, two .cursor, one .cursor);
-        result = two .result;
-        next = two .next;
-        counted = omega (arith, two .counted, one .counted);
-      } }
+  emits-bind m f {zs} {b} {c′} {v′} p q = record {
+    emits = λ h.
+        let r = m n in
+        let s = f (r .out) (r .next) in
+        let ln = length-append (r .gates) (s .gates) in
+        let lw = gates-length (r .gates) (s .gates) in
+        let one = p .emits (record { numbers = omega (arith, h .numbers); words = omega (arith, h .words) }) in
+        let e : f a v ≡ s = ap₂ (λ (x : A) (k : ℕ). f x k) (one .result) (one .next) in
+        let two = subst (λ (t : Built B). Emits v t ys zs c b c′ v′) e q .emits (record { numbers = omega (arith, h .numbers, one .counted); words = omega (arith, h .words, one .cursor) }) in
+        record {
+          written = two .written ∙ ap₂ (λ (k : ℕ) (t : List ℤ). put k (gateWords (s .gates)) t) (one .cursor) (one .written) ∙ sym (put-append cur (gateWords (r .gates)) (gateWords (s .gates)) xs) ∙ ap (λ (l : List ℤ). put cur l xs) (sym (gates-append (r .gates) (s .gates)));
+          cursor = omega (arith, two .cursor, one .cursor);
+          result = two .result;
+          next = two .next;
+          counted = omega (arith, two .counted, one .counted);
+        };
+  }
 
   -- then a value made of the result
   pub emits-map : (m : Build A) (f : A → B) → Emits n (m n) xs ys cur a c v → Emits n ((m >>= (λ x. give (f x))) n) xs ys cur (f a) c v
@@ -50,10 +52,12 @@ clause ls xs ys c c′ = Puts (clauseWords ls) xs ys c c′
 
 gate : (n : ℕ) (b : Built Literal) (ws : List ℤ) (x : Literal) {xs ys : List ℤ} {c c′ : ℕ} {g : Literal} {v : ℕ} → length (b .gates) ≡ 1 → b .out ≡ positive n → b .next ≡ suc n
     → (n < variableLimit → g ≡ positive n) → (n < variableLimit → v ≡ n + 1) → (g ≡ positive n → ws ≡ gateWords (b .gates)) → Puts ws xs ys c c′ → Emits n b xs ys c g c′ v
-gate n b ws x l o s eg ev ew p = record { emits = λ h.
-    let k : n < variableLimit = omega (arith, h .numbers) in
-    let q = puts-same (ew (eg k)) p .puts (h .words) in
-    record { written = q .written; cursor = q .cursor; result = eg k ∙ sym o; next = ev k ∙ sym (s ∙ (let z : suc n ≡ n + 1 = omega arith in z)); counted = omega (arith, ev k) } }
+gate n b ws x l o s eg ev ew p = record {
+  emits = λ h.
+      let k : n < variableLimit = omega (arith, h .numbers) in
+      let q = puts-same (ew (eg k)) p .puts (h .words) in
+      record { written = q .written; cursor = q .cursor; result = eg k ∙ sym o; next = ev k ∙ sym (s ∙ (let z : suc n ≡ n + 1 = omega arith in z)); counted = omega (arith, ev k) };
+}
 
 pub and-emits : (n : ℕ) (a na b nb g ng : Literal) {xs x1 x2 x3 : List ℤ} {c0 c1 c2 c3 v : ℕ} → (n < variableLimit → g ≡ positive n) → (n < variableLimit → v ≡ n + 1) → ng ≡ negate g → na ≡ negate a → nb ≡ negate b
     → clause (ng ∷ a ∷ []) xs x1 c0 c1 → clause (ng ∷ b ∷ []) x1 x2 c1 c2 → clause (g ∷ na ∷ nb ∷ []) x2 x3 c2 c3 → Emits n (and! a b n) xs x3 c0 g c3 v

@@ -170,9 +170,11 @@ module _ (file : List ℕ) (nv nm : ℕ) where
   -- so the result may be named by the first of them
   pub muxes-first : (c : Literal) (a b : List ℕ) {n : ℕ} {xs ys : List ℤ} {cur : ℕ} {out : Slots} {c′ v′ : ℕ} → total (widthsOf file nv nm) ≤ 544 → length a ≡ 544 → length b ≡ 544
       → Emits n (muxes! c (slotsOf file nv nm a) (slotsOf file nv nm b) n) xs ys cur out c′ v′ → Emits n (muxes! c (slotsOf file nv nm a) (slotsOf file nv nm b) n) xs ys cur (resultFrom file nv nm n) c′ v′
-  muxes-first c a b {n = n} t p q w = record { emits = λ r.
-      let k = w .emits r in
-      record { written = k .written; cursor = k .cursor; result = sym (muxes-result c a b n (omega arith) (omega arith)); next = k .next; counted = k .counted } }
+  muxes-first c a b {n = n} t p q w = record {
+    emits = λ r.
+        let k = w .emits r in
+        record { written = k .written; cursor = k .cursor; result = sym (muxes-result c a b n (omega arith) (omega arith)); next = k .next; counted = k .counted };
+  }
 
 take-bits : (w k n : ℕ) → take w (constantBits (w + k) n) ≡ constantBits w n
 take-bits zero k n = none (constantBits (0 + k) n)

@@ -85,8 +85,8 @@ module _ (G : Literal → Literal → Build Literal) (R : Bits → Bits → Buil
       → {ys : List ℤ} (x y : Literal) (s : ℕ) {cur′ n′ : ℕ} → x ≡ fromCode (getD a i 0) → y ≡ fromCode (getD b i 0) → Emits n (G x y n) xs ys cur (fromCode s) cur′ n′ → Rowing R k a b n₀ xs₀ cur₀ ys (set out i s) cur′ n′ (i + 1)
   rowing-on out {n = n} {i = i} h o l x y s ex ey w =
       let e : R (fromCodes (drop i a)) (fromCodes (drop i b)) n ≡ (G x y >>= (λ (x : Literal). R (fromCodes (drop (i + 1) a)) (fromCodes (drop (i + 1) b)) >>= (λ (rs : Bits). give (x ∷ rs)))) n =
-          ap₂ (λ (p q : List ℕ). R (fromCodes p) (fromCodes q) n) (drop-one a i (omega arith)) (drop-one b i (omega arith)) ∙ law .step _ _ _ _ n
-          ∙ ap₂ (λ (p q : Literal). (G p q >>= (λ (x : Literal). R (fromCodes (drop (i + 1) a)) (fromCodes (drop (i + 1) b)) >>= (λ (rs : Bits). give (x ∷ rs)))) n) (sym ex) (sym ey) in
+      ap₂ (λ (p q : List ℕ). R (fromCodes p) (fromCodes q) n) (drop-one a i (omega arith)) (drop-one b i (omega arith)) ∙ law .step _ _ _ _ n
+      ∙ ap₂ (λ (p q : Literal). (G p q >>= (λ (x : Literal). R (fromCodes (drop (i + 1) a)) (fromCodes (drop (i + 1) b)) >>= (λ (rs : Bits). give (x ∷ rs)))) n) (sym ex) (sym ey) in
       let two = left-on (G x y) _ (left-same _ _ e (l .left)) w in
       let three = left-map (R (fromCodes (drop (i + 1) a)) (fromCodes (drop (i + 1) b))) (λ (rs : Bits). fromCode s ∷ rs) two in
       record { within = omega arith; left = left-result _ _ (λ (r : Bits). codes-more out i s (fromCode s) r o refl) three }
@@ -173,4 +173,4 @@ pub equal-emits : (n : ℕ) (a b x : Bits) (c l : Literal) {xs ys zs : List ℤ}
 unfolding equal!
 equal-emits n a b x c l {v =
     v} e w u = emits-bind (xors! a b) (λ (x : Bits). chain! trueLiteral (map negate x)) w (emits-same _ _ (ap (λ (y : Literal). chain! y (map negate x) v)
-        e) u)
+    e) u)

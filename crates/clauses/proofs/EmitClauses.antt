@@ -204,7 +204,7 @@ module _ (v n : ℕ) (xs₀ : List ℤ) (cur₀ : ℕ) where
         let q = k .here h in
         let r = ey (omega arith) in
         let e : words (pairs (variablesFrom x left)) ≡ words (against (positive x) (variablesFrom y (left - 1))) ++ words (pairs (variablesFrom y (left - 1))) =
-            ap (λ (s : Bits). words (pairs s)) (one-more x left l ∙ ap (λ (j : ℕ). positive x ∷ variablesFrom j (left - 1)) (sym r)) ∙ words-append (against (positive x) (variablesFrom y (left - 1))) (pairs (variablesFrom y (left - 1))) in
+        ap (λ (s : Bits). words (pairs s)) (one-more x left l ∙ ap (λ (j : ℕ). positive x ∷ variablesFrom j (left - 1)) (sym r)) ∙ words-append (against (positive x) (variablesFrom y (left - 1))) (pairs (variablesFrom y (left - 1))) in
         puts-on (words (against (positive x) (variablesFrom y (left - 1)))) (words (pairs (variablesFrom y (left - 1)))) e (k .rest h) (p (omega arith) (omega arith));
   }
 

@@ -125,8 +125,7 @@ module _ (text : List ℕ) (names : Names) (end : ℕ) where
         let s = got-same _ _ _ _ (w .1) in
         let x = provided-got (ltb (p .tree) (names .variables)) _ _ _ (p .rest) in
         let y = provided-got (eqb (names .kindOf (p .tree)) 1) _ _ _ (x .1) in
-        let z = got-same _ _ _ _ (y .1) in
-        (
+        let z = got-same _ _ _ _ (y .1) in (
           omega (arith, ltb-true (at + 1) end (w .0)),
           subst (λ (v : ℕ). v < names .variables) (s .0) (ltb-true _ _ (x .0)),
           subst (λ (v : ℕ). names .kindOf v ≡ 1) (s .0) (eqb-true _ _ (y .0)),
@@ -177,8 +176,7 @@ module _ (text : List ℕ) (names : Names) (end : ℕ) where
         let s = got-same _ _ _ _ (w .1) in
         let x = provided-got (ltb (p .tree) (names .variables)) _ _ _ (p .rest) in
         let y = provided-got (not (eqb (names .kindOf (p .tree)) 1)) _ _ _ (x .1) in
-        let z = got-same _ _ _ _ (y .1) in
-        (
+        let z = got-same _ _ _ _ (y .1) in (
           omega (arith, ltb-true (at + 1) end (w .0)),
           subst (λ (v : ℕ). v < names .variables) (s .0) (ltb-true _ _ (x .0)),
           subst (λ (v : ℕ). names .kindOf v ≡ 1 → ⊥) (s .0) (eqb-false _ _ (not-true _ (y .0))),

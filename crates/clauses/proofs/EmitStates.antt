@@ -63,7 +63,7 @@ cut-take (w ∷ ws) xs h =
 pub built-same : {A : Type 0} (b c : Built A) → b .out ≡ c .out → b .next ≡ c .next → b .gates ≡ c .gates → b ≡ c
 built-same {A} b c p q r =
     ap (λ (x : A). record { out = x; next = b .next; gates = b .gates }) p ∙ ap (λ (k : ℕ). record { out = c .out; next = k; gates = b .gates }) q ∙ ap (λ
-        (g : List Gate). record { out = c .out; next = c .next; gates = g }) r
+    (g : List Gate). record { out = c .out; next = c .next; gates = g }) r
 
 module _ (c : Literal) where
   pub row-append : (a b x y : List Literal) (n : ℕ) → length a ≡ length b

@@ -162,7 +162,7 @@ module _ (file : List ℕ) (nv nm all : ℕ) (codes : List ℕ) where
     size = length-set firsts i first ∙ k .size;
     left = λ d w.
         let b = len d w in
-        let c : drop i (movers d) ≡ getD (movers d) i (raise 0) ∷ drop (i + 1) (movers d) = rw (add-one, drop-cons (movers d) i (raise 0)  (omega arith)) in
+        let c : drop i (movers d) ≡ getD (movers d) i (raise 0) ∷ drop (i + 1) (movers d) = rw (add-one, drop-cons (movers d) i (raise 0) (omega arith)) in
         let m = getD (movers d) i (raise 0) in
         let one = left-same _ _ (ap (λ (ms : List Mover). movers! (layoutOf nv) S ms n) c ∙ movers-step (layoutOf nv) S m (drop (i + 1) (movers d)) n) (k .left d w) in
         let two = left-on (mover! (layoutOf nv) S m) _ one (e d w m (found (movers d) i (omega arith))) in
@@ -196,7 +196,7 @@ pub link-pass : (l : Layout) (s : Slots) (c : Literal) (k m st : ℕ) (e : BoolE
 unfolding link!
 link-pass l s c k m st e n xs cur z =
     emits-same _ _ (ap (λ (t : Bool). cond t (give c) (statusAndEvent! l s m st e >>= (λ (x : Literal). and! c (negate x))) n) (sym (eq-eqb k 0 z)))
-        (emits-give n c xs cur)
+    (emits-give n c xs cur)
 
 pub link-emits : (l : Layout) (s : Slots) (c : Literal) (k m st : ℕ) (e : BoolExpr) (a b : Literal) {y : Literal} {n : ℕ} {x0 x1 x2 : List ℤ} {c0 c1 c2 v1 v2 : ℕ} → (k ≡ 0 → ⊥) → b ≡ negate a
     → Emits n (statusAndEvent! l s m st e n) x0 x1 c0 a c1 v1 → Emits v1 (and! c b v1) x1 x2 c1 y c2 v2 → Emits n (link! l s c k m st e n) x0 x2 c0 y c2 v2
@@ -248,7 +248,7 @@ module _ (file : List ℕ) (nv nm : ℕ) (codes : List ℕ) where
   link-is l s c f p (normal q) xs r n = ap (λ (t : Bool). (cond t (give c) (statusAndEvent! l s (c-matrix file p) (c-status file p) (f (c-matrix file p) (c-event file p)) >>= (λ (x : Literal). and! c (negate x))) >>= (λ (y : Literal). noInvalid! l s y (invalids xs))) n) (sym (eq-eqb _ _ (r .0)))
   link-is l s c f p (invalid q) xs r n =
       let same : statusAndEvent! l s (q .matrix) (q .status) (q .event) ≡ statusAndEvent! l s (c-matrix file p) (c-status file p) (f (c-matrix file p) (c-event file p)) =
-          ap₂ (λ (a b : ℕ). statusAndEvent! l s a b (q .event)) (r .1 .matrix) (r .1 .status) ∙ ap (statusAndEvent! l s (c-matrix file p) (c-status file p)) (r .1 .event) in
+      ap₂ (λ (a b : ℕ). statusAndEvent! l s a b (q .event)) (r .1 .matrix) (r .1 .status) ∙ ap (statusAndEvent! l s (c-matrix file p) (c-status file p)) (r .1 .event) in
       ap (λ (m : Build Literal). (m >>= (λ (x : Literal). and! c (negate x) >>= (λ (y : Literal). noInvalid! l s y (invalids xs)))) n) same
       ∙ sym (bind-assoc (statusAndEvent! l s (c-matrix file p) (c-status file p) (f (c-matrix file p) (c-event file p))) (λ (x : Literal). and! c (negate x)) (λ (y : Literal). noInvalid! l s y (invalids xs)) n)
       ∙ ap (λ (t : Bool). (cond t (give c) (statusAndEvent! l s (c-matrix file p) (c-status file p) (f (c-matrix file p) (c-event file p)) >>= (λ (x : Literal). and! c (negate x))) >>= (λ (y : Literal). noInvalid! l s y (invalids xs))) n) (sym (ne-eqb _ _ (r .0)))
@@ -268,8 +268,8 @@ module _ (file : List ℕ) (nv nm : ℕ) (codes : List ℕ) where
           let rest = drop (i + 1) (w .entries) in
           let P = pastCells file i (cellsOffset file) in
           let built = ap (λ (ps : List InvalidCell). noInvalid! (layoutOf nv) SL part ps n) (ap invalids (cons d w i h))
-              ∙ link-is (layoutOf nv) SL part f P (getD (w .entries) i none) rest (here d w i h .1 .entry) n
-              ∙ ap (λ (j : ℕ). (link! (layoutOf nv) SL part (c-kind file j) (c-matrix file j) (c-status file j) (f (c-matrix file j) (c-event file j)) >>= (λ (y : Literal). noInvalid! (layoutOf nv) SL y (invalids rest))) n) (sym (k .place)) in
+          ∙ link-is (layoutOf nv) SL part f P (getD (w .entries) i none) rest (here d w i h .1 .entry) n
+          ∙ ap (λ (j : ℕ). (link! (layoutOf nv) SL part (c-kind file j) (c-matrix file j) (c-status file j) (f (c-matrix file j) (c-event file j)) >>= (λ (y : Literal). noInvalid! (layoutOf nv) SL y (invalids rest))) n) (sym (k .place)) in
           left-on (link! (layoutOf nv) SL part (c-kind file p) (c-matrix file p) (c-status file p) (f (c-matrix file p) (c-event file p))) (λ (y : Literal). noInvalid! (layoutOf nv) SL y (invalids rest)) (left-same _ _ built (k .left d w)) (e1 d w);
     }
 

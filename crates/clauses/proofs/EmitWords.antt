@@ -5,7 +5,6 @@ use mathlib.Core.Bool.{Bool, true, false, cond}
 use mathlib.Core.List.{List, [], _∷_, _++_, append-assoc}
 use native.Mathlib.Omega.{arith}
 use lib.ListN.{length, drop, set, length-append, length-set}
-
 use lib.Dec.{eqb}
 use borrow.Author.Tests.{eq-eqb, ne-eqb}
 use lib.IntN.{ℤ, pos, negsuc, negℤ, natAbs, _-ℤ_, +ℤ-idl}
@@ -120,14 +119,16 @@ put-all ws xs h = put-at [] ws xs h
 module _ {ws xs ys : List ℤ} {cur c : ℕ} where
   -- one after the other
   pub puts-then : {vs zs : List ℤ} {c′ : ℕ} → Puts ws xs ys cur c → Puts vs ys zs c c′ → Puts (ws ++ vs) xs zs cur c′
-  puts-then {vs} {zs} {c′} p q = record { puts = λ h.
-      let l = length-append ws vs in
-      let a = p .puts (omega arith) in
-      let b = q .puts (omega (arith, a .cursor)) in
-      record {
-        written = b .written ∙ ap₂ (λ (k : ℕ) (t : List ℤ). put k vs t) (a .cursor) (a .written) ∙ sym (put-append cur ws vs xs);
-        cursor = omega (arith, a .cursor, b .cursor);
-      } }
+  puts-then {vs} {zs} {c′} p q = record {
+    puts = λ h.
+        let l = length-append ws vs in
+        let a = p .puts (omega arith) in
+        let b = q .puts (omega (arith, a .cursor)) in
+        record {
+          written = b .written ∙ ap₂ (λ (k : ℕ) (t : List ℤ). put k vs t) (a .cursor) (a .written) ∙ sym (put-append cur ws vs xs);
+          cursor = omega (arith, a .cursor, b .cursor);
+        };
+  }
 
   pub puts-same : {vs : List ℤ} → ws ≡ vs → Puts ws xs ys cur c → Puts vs xs ys cur c
   puts-same e p = subst (λ (l : List ℤ). Puts l xs ys cur c) e p

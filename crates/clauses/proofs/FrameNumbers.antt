@@ -62,14 +62,14 @@ module _ (s : FrameSizes) (k : ℕ) where
 
 pub formula-same : (s : FrameSizes) (k v c m : ℕ) → v ≡ formulaSizes s k .variables → c ≡ formulaSizes s k .clauses → m ≡ formulaSizes s k .words
     → record {
-  bits = s .bits;
-  property = gatesIn (costIn (s .property));
-  movers = s .movers;
-  step = gatesIn (costIn (s .step));
-  variables = v;
-  clauses = c;
-  words = m;
-} ≡ formulaSizes s k
+      bits = s .bits;
+      property = gatesIn (costIn (s .property));
+      movers = s .movers;
+      step = gatesIn (costIn (s .step));
+      variables = v;
+      clauses = c;
+      words = m;
+    } ≡ formulaSizes s k
 formula-same s k v c m p q r =
     ap₂ (λ (x y : ℕ). with-three x y m) p q ∙ ap (with-three (formulaSizes s k .variables) (formulaSizes s k .clauses)) r
   where

@@ -66,5 +66,12 @@ pub decode-writes : (file : List ℕ) (d : Design) → WellFormed d → check fi
     → decode file p k values buffer ≡ record { answer = answer tt; choices = choices d p ρ k ++ drop k buffer }
 unfolding decode choicesToWrite onDesign
 decode-writes file d wf e p k hp hk ρ values buffer s h l =
-    rw (e, le-leb p maxProperty hp, le-leb k maxBound hk, le-leb (n d p k) (length values) (h .long), le-leb k (length buffer) l,
-    decode-chooses d wf p ρ values k s (h .long) (h .value), decodes-long d wf p k ρ)
+    rw (
+      e,
+      le-leb p maxProperty hp,
+      le-leb k maxBound hk,
+      le-leb (n d p k) (length values) (h .long),
+      le-leb k (length buffer) l,
+      decode-chooses d wf p ρ values k s (h .long) (h .value),
+      decodes-long d wf p k ρ,
+    )

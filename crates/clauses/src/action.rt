@@ -11,12 +11,12 @@ ghost use Rattle.clauses.specs.Action.{muxes!, statement!, statements! }
 ghost use Rattle.clauses.specs.Formula.{total};
 ghost use Rattle.clauses.specs.Writing.{fromCode, Emits};
 ghost use Rattle.clauses.specs.FlatState.{widthsOf, slotsOf, layoutOf, over, Slotted, Reads};
-use design::bytes::wide;
-use design::limits::MAX_DEPTH;
 use super::expression::encode_bool;
 use super::expression::encode_int;
 use super::expression::offset;
 use super::gate::emit_mux;
+use design::bytes::wide;
+use design::limits::MAX_DEPTH;
 
 // The cursor, the next variable, and the position past what was read.
 pub struct Done {
@@ -178,7 +178,18 @@ pub fn encode_stmt(
                 var,
             );
             let mut other = *state;
-            let a = encode_list(file, c.next, end, nv, nm, nest - 1, state, buf, c.cur, c.var);
+            let a = encode_list(
+                file,
+                c.next,
+                end,
+                nv,
+                nm,
+                nest - 1,
+                state,
+                buf,
+                c.cur,
+                c.var,
+            );
             let b = encode_list(
                 file,
                 a.next,

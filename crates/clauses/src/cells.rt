@@ -9,6 +9,10 @@ ghost use Rattle.design.specs.Sections.{Parts, CellFields, Standing};
 ghost use Rattle.step.specs.Ready.{NormalCell};
 ghost use Rattle.clauses.specs.Cost.{boolCost, statusAndEventCost, moverCost};
 ghost use Rattle.clauses.specs.FrameSizes.{HasGates, FewGates, Prepared, CellHere, entryCost, entriesCost};
+use super::cost::GatesAt;
+use super::cost::join;
+use super::cost::size_bool;
+use super::cost::size_list;
 use design::bytes::wide;
 use design::bytes::word;
 use design::index::CELLS;
@@ -16,10 +20,6 @@ use design::index::CELLS_AT;
 use design::index::trailer_word;
 use design::limits::MAX_DEPTH;
 use design::limits::MAX_NEST;
-use super::cost::GatesAt;
-use super::cost::join;
-use super::cost::size_bool;
-use super::cost::size_list;
 
 // Event e of matrix m.
 pub fn size_event(

@@ -116,14 +116,7 @@ pub fn size_bool(
 }
 
 // What follows the operator byte of an assignment.
-pub fn size_assign(
-    text: &[u8],
-    file: &[u8],
-    at: usize,
-    end: usize,
-    nv: usize,
-    nm: usize,
-) -> GatesAt
+pub fn size_assign(text: &[u8], file: &[u8], at: usize, end: usize, nv: usize, nm: usize) -> GatesAt
     requires { ⌜ (isRead (assignment (now text) (namesOf (now file) nv nm) end at) ≡ true) × (end ≤ length (now text)) × (end ≤ maxBytes) × (3 * nv ≤ length (now file)) ⌝ }
     ensures { λ r. ⌜ ((bits : ℕ) → r ≡ stmtGates bits (assignment (now (text .entry)) (namesOf (now (file .entry)) nv nm) end at)) ⌝ }
 {

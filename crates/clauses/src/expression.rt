@@ -15,8 +15,6 @@ ghost use Rattle.clauses.specs.Formula.{total};
 ghost use Rattle.clauses.specs.Writing.{fromCode, fromCodes, Emits};
 ghost use Rattle.clauses.specs.Piece.{arithmetic!, logic!, compare! };
 ghost use Rattle.clauses.specs.FlatState.{widthsFrom, slotsOf, layoutOf, Slotted, Reads};
-use design::bytes::wide;
-use design::bytes::word;
 use super::circuit::Word;
 use super::circuit::difference;
 use super::circuit::equal;
@@ -28,6 +26,8 @@ use super::gate::emit_or;
 use super::literal::FALSE;
 use super::literal::TRUE;
 use super::literal::negate;
+use design::bytes::wide;
+use design::bytes::word;
 
 // The result of an expression, the cursor, the next variable, and the position past it.
 pub struct IntOut {
@@ -204,7 +204,19 @@ pub fn encode_int(
             }
         }
         0x04..=0x05 => {
-            let a = encode_int(text, file, at + 1, end, nv, nm, depth - 1, bits, buf, cur, var);
+            let a = encode_int(
+                text,
+                file,
+                at + 1,
+                end,
+                nv,
+                nm,
+                depth - 1,
+                bits,
+                buf,
+                cur,
+                var,
+            );
             let b = encode_int(
                 text,
                 file,
@@ -278,7 +290,19 @@ pub fn encode_bool(
             }
         }
         0x12 => {
-            let a = encode_bool(text, file, at + 1, end, nv, nm, depth - 1, bits, buf, cur, var);
+            let a = encode_bool(
+                text,
+                file,
+                at + 1,
+                end,
+                nv,
+                nm,
+                depth - 1,
+                bits,
+                buf,
+                cur,
+                var,
+            );
             let l = negate(a.lit);
             BoolOut {
                 lit: l,
@@ -288,7 +312,19 @@ pub fn encode_bool(
             }
         }
         0x13..=0x14 => {
-            let a = encode_bool(text, file, at + 1, end, nv, nm, depth - 1, bits, buf, cur, var);
+            let a = encode_bool(
+                text,
+                file,
+                at + 1,
+                end,
+                nv,
+                nm,
+                depth - 1,
+                bits,
+                buf,
+                cur,
+                var,
+            );
             let b = encode_bool(
                 text,
                 file,
@@ -311,7 +347,19 @@ pub fn encode_bool(
             }
         }
         0x15..=0x16 => {
-            let a = encode_int(text, file, at + 1, end, nv, nm, depth - 1, bits, buf, cur, var);
+            let a = encode_int(
+                text,
+                file,
+                at + 1,
+                end,
+                nv,
+                nm,
+                depth - 1,
+                bits,
+                buf,
+                cur,
+                var,
+            );
             let b = encode_int(
                 text,
                 file,

@@ -13,10 +13,6 @@ ghost use Rattle.clauses.specs.Action.{statusAndEvent!, enable!, mover! 
 ghost use Rattle.clauses.specs.Writing.{fromCode, Emits};
 ghost use Rattle.clauses.specs.FlatState.{slotsOf, layoutOf};
 ghost use Rattle.clauses.specs.Ready.{Ready, resultFrom};
-use design::bytes::wide;
-use design::bytes::word;
-use design::limits::MAX_DEPTH;
-use design::limits::MAX_NEST;
 use super::action::encode_list;
 use super::action::muxes;
 use super::action::store_word;
@@ -30,6 +26,10 @@ use super::gate::Out;
 use super::gate::emit_and;
 use super::literal::TRUE;
 use super::literal::negate;
+use design::bytes::wide;
+use design::bytes::word;
+use design::limits::MAX_DEPTH;
+use design::limits::MAX_NEST;
 
 // The first variable of a mover's result, the cursor, and the next variable.
 pub struct Moved {

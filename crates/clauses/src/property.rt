@@ -12,6 +12,12 @@ ghost use Rattle.clauses.specs.Writing.{fromCode, Emits};
 ghost use Rattle.clauses.specs.Piece.{link! };
 ghost use Rattle.clauses.specs.FlatState.{slotsOf, layoutOf};
 ghost use Rattle.clauses.specs.Ready.{Ready};
+use super::expression::encode_bool;
+use super::gate::Out;
+use super::gate::emit_and;
+use super::literal::TRUE;
+use super::literal::negate;
+use super::mover::status_and_event;
 use design::bytes::wide;
 use design::bytes::word;
 use design::index::CELLS;
@@ -20,12 +26,6 @@ use design::index::INVARIANT_AT;
 use design::index::trailer_word;
 use design::limits::MAX_DEPTH;
 use design::limits::TRAILER;
-use super::expression::encode_bool;
-use super::gate::Out;
-use super::gate::emit_and;
-use super::literal::TRUE;
-use super::literal::negate;
-use super::mover::status_and_event;
 
 // The cell at p and the chain's gate; a normal cell adds nothing.
 pub fn encode_link(

@@ -102,8 +102,8 @@ module _ (file : List ℕ) (h : Accepted file) where
   events-on p q m c table₀ table g l e r = record {
     here = r .0 ∙ ap (λ (n : ℕ). pastEvents file n p) e ∙ ap (pastEvents file (events file (matricesOffset file) m)) (g .here) ∙ sym (ap (eventsStart file) (add-one m));
     filled = λ k i t u. less-or-same k m t (λ (n : ℕ). i < events file (matricesOffset file) n → getD table (16 * n + i) 0 ≡ eventPlace file n i)
-      (λ t′ u′. r .2 (16 * k + i) (omega (arith, few-events file h k (omega arith))) ∙ g .filled k i t′ u′)
-      (λ u′. r .1 i (omega arith) ∙ ap (pastEvents file i) (g .here)) u;
+        (λ t′ u′. r .2 (16 * k + i) (omega (arith, few-events file h k (omega arith))) ∙ g .filled k i t′ u′)
+        (λ u′. r .1 i (omega arith) ∙ ap (pastEvents file i) (g .here)) u;
     inside = omega arith;
   }
 

@@ -189,7 +189,18 @@ pub fn check_from_events(
             if cells != p {
                 return Counted::Stopped(4, p);
             }
-            check_from_cells(file, end, nv, mats, nm, events, cells, nc, invariant, externals)
+            check_from_cells(
+                file,
+                end,
+                nv,
+                mats,
+                nm,
+                events,
+                cells,
+                nc,
+                invariant,
+                externals,
+            )
         }
         Walked::Refused(number, place) => Counted::Stopped(number, place),
     }
@@ -216,7 +227,18 @@ pub fn check_from_matrices(
             if events != p {
                 return Counted::Stopped(4, p);
             }
-            check_from_events(file, end, nv, mats, nm, events, cells, nc, invariant, externals)
+            check_from_events(
+                file,
+                end,
+                nv,
+                mats,
+                nm,
+                events,
+                cells,
+                nc,
+                invariant,
+                externals,
+            )
         }
         Walked::Refused(number, place) => Counted::Stopped(number, place),
     }
@@ -242,7 +264,18 @@ pub fn check_sections(
             if mats != p {
                 return Counted::Stopped(4, p);
             }
-            check_from_matrices(file, end, nv, mats, nm, events, cells, nc, invariant, externals)
+            check_from_matrices(
+                file,
+                end,
+                nv,
+                mats,
+                nm,
+                events,
+                cells,
+                nc,
+                invariant,
+                externals,
+            )
         }
         Counted::Stopped(number, place) => Counted::Stopped(number, place),
     }

@@ -68,8 +68,8 @@ if-value : (l : Layout) (s : State) (x : Read BoolExpr) (q : ℕ → Read Stmts)
 unfolding execute executeAll
 if-value l s (got c m) q h =
     ap (λ (r : State → State). r s) (two-value (ifElse c) {P = State → State} {Q = State → State} {R = State → State} (λ (t : Stmt) (w : State). execute t
-        l w) (λ w. w) (λ (t : Stmts) (w : State). executeAll t l w) (λ w. w) (λ (t : Stmts) (w : State). executeAll t l w) (λ w. w) (λ a b w. cond
-        (evalBool l w c) (a w) (b w)) (λ a b. refl) (q m) q h)
+    l w) (λ w. w) (λ (t : Stmts) (w : State). executeAll t l w) (λ w. w) (λ (t : Stmts) (w : State). executeAll t l w) (λ w. w) (λ a b w. cond
+    (evalBool l w c) (a w) (b w)) (λ a b. refl) (q m) q h)
 if-value l s bad q h = absurd (false≢true h)
 
 module _ (text : List ℕ) (N : Names) (end : ℕ) where

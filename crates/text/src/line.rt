@@ -66,14 +66,7 @@ fn put_flag(out: &mut [u8], at: usize, flag: bool) -> usize
 }
 
 // Step, mover, idle, property holds.
-fn put_head(
-    out: &mut [u8],
-    at: usize,
-    step: usize,
-    mover: usize,
-    idle: bool,
-    holds: bool,
-) -> usize
+fn put_head(out: &mut [u8], at: usize, step: usize, mover: usize, idle: bool, holds: bool) -> usize
     requires { ⌜ at + 45 ≤ length (now out) ⌝ }
     ensures { λ r. ⌜ Written (head step mover idle holds) (now (out .entry)) (now (out .exit)) at r × (r ≤ at + 45) ⌝ }
 {

@@ -11,6 +11,7 @@ ghost use Rattle.step.specs.Ready.{Ready, externalsFrom};
 ghost use Rattle.text.specs.Text.{Written, maxLine, maxText};
 ghost use Rattle.text.specs.Trace.{stateLine, nextLines, stateLines, resultText, refusalText, trace, replayText};
 ghost use Rattle.text.specs.Ready.{Replayable};
+use super::input::design_end;
 use super::line::put_line;
 use super::number::put_byte;
 use super::number::put_bytes;
@@ -24,7 +25,6 @@ use design::index::trailer_word;
 use step::mover::move_chosen;
 use step::property::property_true;
 use step::replaying::load_start;
-use super::input::design_end;
 
 // `refused N at P`, at the front.
 pub fn put_refusal(out: &mut [u8], number: u8, place: usize) -> usize

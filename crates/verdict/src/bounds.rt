@@ -3,13 +3,13 @@ ghost use mathlib.Core.Path.{_≡_};
 ghost use Rattle.verdict.specs.Verdict.{verdict as verdictOf};
 ghost use Rattle.verdict.specs.Answers.{exit};
 ghost use Rattle.verdict.specs.Loop.{Ready};
-use search::Answered;
-use search::search;
 use super::answer::Judged;
 use super::answer::Reply;
 use super::answer::Verdict;
 use clauses::decode::decode;
 use clauses::encode::write_formula;
+use search::Answered;
+use search::search;
 
 // The bounds one after the other, to the first SAT.
 pub fn judge(
@@ -31,7 +31,12 @@ pub fn judge(
         let f = write_formula(file, property, i, clauses);
         let m = f.words;
         let n = f.variables;
-        let r = search(&clauses[..m], &mut values[..n], &mut trail[..n], budget - tries);
+        let r = search(
+            &clauses[..m],
+            &mut values[..n],
+            &mut trail[..n],
+            budget - tries,
+        );
         tries += r.tries;
         let a = r.answer;
         match a {

@@ -46,7 +46,14 @@ pub fn verdict(
                 return SHORT;
             }
             Reply::Done(judge(
-                file, property, bound, budget, clauses, values, trail, choices,
+                file,
+                property,
+                bound,
+                budget,
+                clauses,
+                values,
+                trail,
+                choices,
             ))
         }
     }

@@ -16,7 +16,7 @@ answer-requires c κs = tt
 returns : tie.Need-returns
 returns c =
     c .answer .ensures ∙ whole-length (c .before .before .before .before .args .file .now) _ (c .before .before .length-right .ensures) (not-true _ (c
-        .before .if1 .taken))
+    .before .if1 .taken))
 
 sub-end : tie.Need-sub-end
 sub-end c =
@@ -32,41 +32,59 @@ answer-requires-2 c κs = tt
 returns-2 : tie.Need-returns-2
 returns-2 c =
     c .answer2 .ensures ∙ whole-version (c .before .before .before .before .before .before .args .file .now) _ (c .before .before .before .before
-        .length-right .ensures) (not-false _ (c .before .before .before .if1 .left)) _ (c .before .before .word .ensures .0) (c .before .if2 .taken)
+    .length-right .ensures) (not-false _ (c .before .before .before .if1 .left)) _ (c .before .before .word .ensures .0) (c .before .if2 .taken)
 
 trailer-word-requires : tie.Need-trailer-word-requires
 trailer-word-requires c κs =
-    omega (arith, length-low _ (length (c .before .before .before .before .before .args .file .now)) (c .before .before .before .length-right .ensures)
-        (not-false _ (c .before .before .if1 .left)))
+    omega (
+      arith,
+      length-low _ (length (c .before .before .before .before .before .args .file .now)) (c .before .before .before .length-right .ensures)
+          (not-false _ (c .before .before .if1 .left)),
+    )
 
 trailer-word-requires-2 : tie.Need-trailer-word-requires-2
 trailer-word-requires-2 c κs =
-    omega (arith, length-low _ (length (c .before .before .before .before .before .before .args .file .now)) (c .before .before .before .before
-        .length-right .ensures) (not-false _ (c .before .before .before .if1 .left)))
+    omega (
+      arith,
+      length-low _ (length (c .before .before .before .before .before .before .args .file .now)) (c .before .before .before .before
+          .length-right .ensures) (not-false _ (c .before .before .before .if1 .left)),
+    )
 
 trailer-word-requires-3 : tie.Need-trailer-word-requires-3
 trailer-word-requires-3 c κs =
-    omega (arith, length-low _ (length (c .before .before .before .before .before .before .before .args .file .now)) (c .before .before .before .before
-        .before .length-right .ensures) (not-false _ (c .before .before .before .before .if1 .left)))
+    omega (
+      arith,
+      length-low _ (length (c .before .before .before .before .before .before .before .args .file .now)) (c .before .before .before .before
+          .before .length-right .ensures) (not-false _ (c .before .before .before .before .if1 .left)),
+    )
 
 trailer-word-requires-4 : tie.Need-trailer-word-requires-4
 trailer-word-requires-4 c κs =
     let entry = c .before .before .before .before .before .before .before .before in
-    omega (arith, length-low _ (length (entry .args .file .now)) (c .before .before .before .before .before .before .length-right .ensures) (not-false _
-        (c .before .before .before .before .before .if1 .left)))
+    omega (
+      arith,
+      length-low _ (length (entry .args .file .now)) (c .before .before .before .before .before .before .length-right .ensures) (not-false _
+          (c .before .before .before .before .before .if1 .left)),
+    )
 
 trailer-word-requires-5 : tie.Need-trailer-word-requires-5
 trailer-word-requires-5 c κs =
     let entry = c .before .before .before .before .before .before .before .before .before in
-    omega (arith, length-low _ (length (entry .args .file .now)) (c .before .before .before .before .before .before .before .length-right .ensures)
-        (not-false _ (c .before .before .before .before .before .before .if1 .left)))
+    omega (
+      arith,
+      length-low _ (length (entry .args .file .now)) (c .before .before .before .before .before .before .before .length-right .ensures)
+          (not-false _ (c .before .before .before .before .before .before .if1 .left)),
+    )
 
 trailer-word-requires-6 : tie.Need-trailer-word-requires-6
 trailer-word-requires-6 c κs =
     let at-length-right = c .before .before .before .before .before .before .before .before in
     let entry = at-length-right .before .before in
-    omega (arith, length-low _ (length (entry .args .file .now)) (at-length-right .length-right .ensures) (not-false _ (c .before .before .before .before
-        .before .before .before .if1 .left)))
+    omega (
+      arith,
+      length-low _ (length (entry .args .file .now)) (at-length-right .length-right .ensures) (not-false _ (c .before .before .before .before
+          .before .before .before .if1 .left)),
+    )
 
 trailer-word-requires-7 : tie.Need-trailer-word-requires-7
 trailer-word-requires-7 c κs =
@@ -90,9 +108,9 @@ returns-3 c =
     let at-length-right = at-if1 .before in
     let entry = at-length-right .before .before in
     c .answer3 .ensures ∙ whole-counts (entry .args .file .now) _ (at-length-right .length-right .ensures) (not-false _ (at-if1 .if1 .left)) _ (at-word
-        .word .ensures .0) (at-if2 .if2 .left) _ _ _ (at-trailer-word .trailer-word .ensures .0) (c .before .before .before .before .before .before
-        .before .trailer-word3 .ensures .0) (c .before .before .before .before .trailer-word6 .ensures .0) _ (c .before .before .counts-right
-        .ensures) (not-true _ (c .before .if3 .taken))
+    .word .ensures .0) (at-if2 .if2 .left) _ _ _ (at-trailer-word .trailer-word .ensures .0) (c .before .before .before .before .before .before
+    .before .trailer-word3 .ensures .0) (c .before .before .before .before .trailer-word6 .ensures .0) _ (c .before .before .counts-right
+    .ensures) (not-true _ (c .before .if3 .taken))
 
 check-sections-requires : tie.Need-check-sections-requires
 check-sections-requires c κs =
@@ -100,8 +118,11 @@ check-sections-requires c κs =
     let at-if1 = at-trailer-word .before .before .before in
     let at-length-right = at-if1 .before in
     let entry = at-length-right .before .before in
-    let h = length-low _ (length (entry .args .file .now)) (at-length-right .length-right .ensures) (not-false _ (at-if1 .if1 .left)) in omega (arith,
-        at-trailer-word .trailer-word .ensures .1, c .before .before .before .trailer-word6 .ensures .1)
+    let h = length-low _ (length (entry .args .file .now)) (at-length-right .length-right .ensures) (not-false _ (at-if1 .if1 .left)) in omega (
+      arith,
+      at-trailer-word .trailer-word .ensures .1,
+      c .before .before .before .trailer-word6 .ensures .1,
+    )
 
 enum-known-movers : tie.Need-enum-known-movers
 enum-known-movers c = c .match .keys1
@@ -137,12 +158,12 @@ returns-4 c =
     let at-length-right = at-if1 .before in
     let entry = at-length-right .before .before in
     c .answer4 .ensures ∙ whole-accepted (entry .args .file .now) _ (at-length-right .length-right .ensures) (not-false _ (at-if1 .if1 .left)) _ (at-word
-        .word .ensures .0) (at-if2 .if2 .left) _ _ _ (at-trailer-word .trailer-word .ensures .0) (at-trailer-word3 .trailer-word3 .ensures .0)
-        (at-trailer-word6 .trailer-word6 .ensures .0) _ (at-counts-right .counts-right .ensures) (not-false _ (c .before .before .before .before
-        .before .before .before .if3 .left)) _ _ _ _ (at-trailer-word2 .trailer-word2 .ensures .0) (at-trailer-word4 .trailer-word4 .ensures .0)
-        (at-trailer-word5 .trailer-word5 .ensures .0) (at-trailer-word7 .trailer-word7 .ensures .0) _ _ _ (c .before .before .before .before .before
-        .before .check-sections .ensures) (c .before .before .before .before .movers .given .1) _ (c .before .before .movers-right .ensures) (c
-        .before .if4 .taken)
+    .word .ensures .0) (at-if2 .if2 .left) _ _ _ (at-trailer-word .trailer-word .ensures .0) (at-trailer-word3 .trailer-word3 .ensures .0)
+    (at-trailer-word6 .trailer-word6 .ensures .0) _ (at-counts-right .counts-right .ensures) (not-false _ (c .before .before .before .before
+    .before .before .before .if3 .left)) _ _ _ _ (at-trailer-word2 .trailer-word2 .ensures .0) (at-trailer-word4 .trailer-word4 .ensures .0)
+    (at-trailer-word5 .trailer-word5 .ensures .0) (at-trailer-word7 .trailer-word7 .ensures .0) _ _ _ (c .before .before .before .before .before
+    .before .check-sections .ensures) (c .before .before .before .before .movers .given .1) _ (c .before .before .movers-right .ensures) (c
+    .before .if4 .taken)
 
 returns-5 : tie.Need-returns-5
 returns-5 c =
@@ -160,12 +181,12 @@ returns-5 c =
     let at-length-right = at-if1 .before in
     let entry = at-length-right .before .before in
     c .answer5 .ensures ∙ whole-movers (entry .args .file .now) _ (at-length-right .length-right .ensures) (not-false _ (at-if1 .if1 .left)) _ (at-word
-        .word .ensures .0) (at-if2 .if2 .left) _ _ _ (at-trailer-word .trailer-word .ensures .0) (at-trailer-word3 .trailer-word3 .ensures .0)
-        (at-trailer-word6 .trailer-word6 .ensures .0) _ (at-counts-right .counts-right .ensures) (not-false _ (c .before .before .before .before
-        .before .before .before .if3 .left)) _ _ _ _ (at-trailer-word2 .trailer-word2 .ensures .0) (at-trailer-word4 .trailer-word4 .ensures .0)
-        (at-trailer-word5 .trailer-word5 .ensures .0) (at-trailer-word7 .trailer-word7 .ensures .0) _ _ _ (c .before .before .before .before .before
-        .before .check-sections .ensures) (c .before .before .before .before .movers .given .1) _ (c .before .before .movers-right .ensures) (c
-        .before .if4 .left)
+    .word .ensures .0) (at-if2 .if2 .left) _ _ _ (at-trailer-word .trailer-word .ensures .0) (at-trailer-word3 .trailer-word3 .ensures .0)
+    (at-trailer-word6 .trailer-word6 .ensures .0) _ (at-counts-right .counts-right .ensures) (not-false _ (c .before .before .before .before
+    .before .before .before .if3 .left)) _ _ _ _ (at-trailer-word2 .trailer-word2 .ensures .0) (at-trailer-word4 .trailer-word4 .ensures .0)
+    (at-trailer-word5 .trailer-word5 .ensures .0) (at-trailer-word7 .trailer-word7 .ensures .0) _ _ _ (c .before .before .before .before .before
+    .before .check-sections .ensures) (c .before .before .before .before .movers .given .1) _ (c .before .before .movers-right .ensures) (c
+    .before .if4 .left)
 
 returns-6 : tie.Need-returns-6
 returns-6 c =
@@ -181,11 +202,11 @@ returns-6 c =
     let at-length-right = at-if1 .before in
     let entry = at-length-right .before .before in
     c .answer6 .ensures ∙ whole-stopped (entry .args .file .now) _ (at-length-right .length-right .ensures) (not-false _ (at-if1 .if1 .left)) _ (at-word
-        .word .ensures .0) (at-if2 .if2 .left) _ _ _ (at-trailer-word .trailer-word .ensures .0) (at-trailer-word3 .trailer-word3 .ensures .0)
-        (at-trailer-word6 .trailer-word6 .ensures .0) _ (c .before .before .before .before .before .before .counts-right .ensures) (not-false _ (c
-        .before .before .before .before .before .if3 .left)) _ _ _ _ (at-trailer-word2 .trailer-word2 .ensures .0) (at-trailer-word4 .trailer-word4
-        .ensures .0) (at-trailer-word5 .trailer-word5 .ensures .0) (c .before .before .before .before .before .before .before .trailer-word7 .ensures
-        .0) _ _ _ (c .before .before .before .before .check-sections .ensures) (c .before .before .number .given .1)
+    .word .ensures .0) (at-if2 .if2 .left) _ _ _ (at-trailer-word .trailer-word .ensures .0) (at-trailer-word3 .trailer-word3 .ensures .0)
+    (at-trailer-word6 .trailer-word6 .ensures .0) _ (c .before .before .before .before .before .before .counts-right .ensures) (not-false _ (c
+    .before .before .before .before .before .if3 .left)) _ _ _ _ (at-trailer-word2 .trailer-word2 .ensures .0) (at-trailer-word4 .trailer-word4
+    .ensures .0) (at-trailer-word5 .trailer-word5 .ensures .0) (c .before .before .before .before .before .before .before .trailer-word7 .ensures
+    .0) _ _ _ (c .before .before .before .before .check-sections .ensures) (c .before .before .number .given .1)
 
 pub check-spec : {M : Type 1} → statement M
 check-spec =

@@ -24,8 +24,12 @@ array-share-prefix-out c = omega (arith, c .before .before .put-part-of .ensures
 slice-aggregate-write-all : tie.Need-slice-aggregate-write-all
 slice-aggregate-write-all c =
     let at-put-part-of = c .before .before .before in
-    let b : at-put-part-of .put-part-of .result ≤ length (at-put-part-of .put-part-of .last .1 .1 .1 .0) = omega (arith, at-put-part-of .put-part-of
-        .ensures .1, written-length (at-put-part-of .put-part-of .ensures .0)) in sym (length-take-le _ _ b)
+    let b : at-put-part-of .put-part-of .result ≤ length (at-put-part-of .put-part-of .last .1 .1 .1 .0) = omega (
+      arith,
+      at-put-part-of .put-part-of
+          .ensures .1,
+      written-length (at-put-part-of .put-part-of .ensures .0),
+    ) in sym (length-take-le _ _ b)
 
 write-all-requires : tie.Need-write-all-requires
 write-all-requires c κs = search needs

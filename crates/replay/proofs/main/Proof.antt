@@ -32,8 +32,12 @@ array-share-prefix-out c = search needs
 
 slice-aggregate-write-all : tie.Need-slice-aggregate-write-all
 slice-aggregate-write-all c =
-    let b : c .before .before .put-replay .result ≤ length (c .before .before .put-replay .last .1 .0) = omega (arith, c .before .before .put-replay
-        .ensures .1, written-length (c .before .before .put-replay .ensures .0)) in sym (length-take-le _ _ b)
+    let b : c .before .before .put-replay .result ≤ length (c .before .before .put-replay .last .1 .0) = omega (
+      arith,
+      c .before .before .put-replay
+          .ensures .1,
+      written-length (c .before .before .put-replay .ensures .0),
+    ) in sym (length-take-le _ _ b)
 
 write-all-requires : tie.Need-write-all-requires
 write-all-requires c κs = search needs

@@ -20,7 +20,7 @@ refuse-replay-requires-2 c κs = search needs
 returns-2 : tie.Need-returns-2
 returns-2 c =
     c .refuse-replay2 .ensures ∙ replay-property _ _ _ (sym (ap (λ (y : Refusal). y .number) (c .before .before .before .before .check .ensures)) ∙ c
-        .before .before .if1 .left) (c .before .if2 .taken)
+    .before .before .if1 .left) (c .before .if2 .taken)
 
 refuse-replay-requires-3 : tie.Need-refuse-replay-requires-3
 refuse-replay-requires-3 c κs = search needs
@@ -28,12 +28,15 @@ refuse-replay-requires-3 c κs = search needs
 returns-3 : tie.Need-returns-3
 returns-3 c =
     c .refuse-replay3 .ensures ∙ replay-choices _ _ _ (sym (ap (λ (y : Refusal). y .number) (c .before .before .before .before .before .check .ensures)) ∙
-        c .before .before .before .if1 .left) (c .before .before .if2 .left) (c .before .if3 .taken)
+    c .before .before .before .if1 .left) (c .before .before .if2 .left) (c .before .if3 .taken)
 
 replay-accepted-requires : tie.Need-replay-accepted-requires
-replay-accepted-requires c κs =
-    (sym (ap (λ (y : Refusal). y .number) (c .before .before .before .before .check .ensures)) ∙ c .before .before .if1 .left, c .before .if2 .left, c
-        .if3 .left)
+replay-accepted-requires c κs = (
+  sym (ap (λ (y : Refusal). y .number) (c .before .before .before .before .check .ensures)) ∙ c .before .before .if1 .left,
+  c .before .if2 .left,
+  c
+      .if3 .left,
+)
 
 returns-4 : tie.Need-returns-4
 returns-4 c = search needs

@@ -73,18 +73,28 @@ encode-list-add-p t c =
 
 encode-list-loop-holds : (t : ℕ) → encode-list-lts.Need-loop-holds (encode-list-claims t) (encode-list-at t) encode-list.Post encode-list-Inv-loop encode-list-μ-loop
 encode-list-loop-holds t c =
-    let entry = c .before .before .before in
-    (listing-start (entry .args .file .now) (entry .args .nv) (entry .args .nm) (entry .args .end) _ _ _ _ _ _ _ (c .wide .ensures .0) (entry .pre .1 .0
-        .2) (entry .pre .1 .1), refl)
+    let entry = c .before .before .before in (
+      listing-start (entry .args .file .now) (entry .args .nv) (entry .args .nm) (entry .args .end) _ _ _ _ _ _ _ (c .wide .ensures .0) (entry .pre .1 .0
+          .2) (entry .pre .1 .1),
+      refl,
+    )
 
 encode-list-encode-stmt-requires : (t : ℕ) → encode-list-lts.Need-encode-stmt-requires (encode-list-claims t) (encode-list-at t) encode-list.Post encode-list-Inv-loop encode-list-μ-loop
 encode-list-encode-stmt-requires t c κs =
     let at-loop = c .before .before .before in
-    let entry = at-loop .before .before .before .before in
-    (omega (arith, entry .pre .0, (at-loop .loop .inv .0) .ahead, (list-in _ _ _ _ _ _ _ (entry .pre .1 .1 .reads)) .0), ((entry .pre .1 .0 .0,
-        slotted-again (entry .pre .1 .0 .1) (entry .pre .1 .0 .2 ∙ sym ((at-loop .loop .inv .0) .size)), (at-loop .loop .inv .0) .size), listing-reads
-        (entry .args .file .now) (entry .args .nv) (entry .args .nm) (entry .args .end) (c .before .before .loop-test .taken) (at-loop .loop .inv
-        .0)))
+    let entry = at-loop .before .before .before .before in (
+      omega (arith, entry .pre .0, (at-loop .loop .inv .0) .ahead, (list-in _ _ _ _ _ _ _ (entry .pre .1 .1 .reads)) .0),
+      (
+        (
+          entry .pre .1 .0 .0,
+          slotted-again (entry .pre .1 .0 .1) (entry .pre .1 .0 .2 ∙ sym ((at-loop .loop .inv .0) .size)),
+          (at-loop .loop .inv .0) .size,
+        ),
+        listing-reads
+            (entry .args .file .now) (entry .args .nv) (entry .args .nm) (entry .args .end) (c .before .before .loop-test .taken) (at-loop .loop .inv
+            .0),
+      ),
+    )
 
 encode-list-sub-left : (t : ℕ) → encode-list-lts.Need-sub-left (encode-list-claims t) (encode-list-at t) encode-list.Post encode-list-Inv-loop encode-list-μ-loop
 encode-list-sub-left t c = omega arith
@@ -93,11 +103,13 @@ encode-list-loop-less : (t : ℕ) → encode-list-lts.Need-loop-less (encode-lis
 encode-list-loop-less t c = omega arith
 
 encode-list-loop-again : (t : ℕ) → encode-list-lts.Need-loop-again (encode-list-claims t) (encode-list-at t) encode-list.Post encode-list-Inv-loop encode-list-μ-loop
-encode-list-loop-again t c =
-    (listing-on (c .before .before .before .before .before .before .before .before .before .args .file .now) (c .before .before .before .before .before
-        .before .before .before .before .args .nv) (c .before .before .before .before .before .before .before .before .before .args .nm) (c .before
-        .before .before .before .before .before .before .before .before .args .end) (c .before .before .before .before .loop-test .taken) (c .before
-        .before .before .before .before .loop .inv .0) (c .before .encode-stmt .ensures), omega arith)
+encode-list-loop-again t c = (
+  listing-on (c .before .before .before .before .before .before .before .before .before .args .file .now) (c .before .before .before .before .before
+      .before .before .before .before .args .nv) (c .before .before .before .before .before .before .before .before .before .args .nm) (c .before
+      .before .before .before .before .before .before .before .before .args .end) (c .before .before .before .before .loop-test .taken) (c .before
+      .before .before .before .before .loop .inv .0) (c .before .encode-stmt .ensures),
+  omega arith,
+)
 
 encode-list-same-length : (t : ℕ) → encode-list-lts.Need-same-length (encode-list-claims t) (encode-list-at t) encode-list.Post encode-list-Inv-loop encode-list-μ-loop
 encode-list-same-length t c = c .before .loop .inv .1
@@ -120,17 +132,25 @@ encode-stmt-add-encode-assign t c =
 
 encode-stmt-encode-assign-requires : (t : ℕ) → encode-stmt-lts.Need-encode-assign-requires (encode-stmt-claims t) (encode-stmt-at t) encode-stmt.Post
 encode-stmt-encode-assign-requires t c κs =
-    let entry = c .before .before .before .before .before .before .before in
-    (entry .pre .1 .0, record { tree = entry .pre .1 .1 .tree; past = entry .pre .1 .1 .past; reads = stmt-assign _ _ _ _ _ _ _ (entry .pre .1 .1 .reads)
-        (c .before .before .if3 .taken) })
+    let entry = c .before .before .before .before .before .before .before in (
+      entry .pre .1 .0,
+      record {
+        tree = entry .pre .1 .1 .tree;
+        past = entry .pre .1 .1 .past;
+        reads = stmt-assign _ _ _ _ _ _ _ (entry .pre .1 .1 .reads)
+            (c .before .before .if3 .taken);
+      },
+    )
 
 encode-stmt-same-length : (t : ℕ) → encode-stmt-lts.Need-same-length (encode-stmt-claims t) (encode-stmt-at t) encode-stmt.Post
 encode-stmt-same-length t c = search needs
 
 encode-stmt-returns : (t : ℕ) → encode-stmt-lts.Need-returns (encode-stmt-claims t) (encode-stmt-at t) encode-stmt.Post
-encode-stmt-returns t c =
-    ((λ t n h. c .before .encode-assign .ensures .0 t n (stmt-assign _ _ _ _ _ _ _ h (c .before .before .before .before .if3 .taken))), c .before
-        .encode-assign .ensures .1)
+encode-stmt-returns t c = (
+  (λ t n h. c .before .encode-assign .ensures .0 t n (stmt-assign _ _ _ _ _ _ _ h (c .before .before .before .before .if3 .taken))),
+  c .before
+      .encode-assign .ensures .1,
+)
 
 encode-stmt-add-encode-bool : (t : ℕ) → encode-stmt-lts.Need-add-encode-bool (encode-stmt-claims t) (encode-stmt-at t) encode-stmt.Post
 encode-stmt-add-encode-bool t c =
@@ -140,10 +160,16 @@ encode-stmt-add-encode-bool t c =
 encode-stmt-encode-bool-requires : (t : ℕ) → encode-stmt-lts.Need-encode-bool-requires (encode-stmt-claims t) (encode-stmt-at t) encode-stmt.Post
 encode-stmt-encode-bool-requires t c κs =
     let at-if3 = c .before .before .before in
-    let entry = at-if3 .before .before .before .before .before in
-    ((entry .pre .1 .0 .0, entry .pre .1 .0 .1), record { tree = (stmt-if _ _ _ _ _ _ _ (entry .pre .1 .1 .reads) (at-if3 .if3 .left)) .1 .test; past =
-        (stmt-if _ _ _ _ _ _ _ (entry .pre .1 .1 .reads) (at-if3 .if3 .left)) .1 .first; reads = (stmt-if _ _ _ _ _ _ _ (entry .pre .1 .1 .reads)
-        (at-if3 .if3 .left)) .1 .reads })
+    let entry = at-if3 .before .before .before .before .before in (
+      (entry .pre .1 .0 .0, entry .pre .1 .0 .1),
+      record {
+        tree = (stmt-if _ _ _ _ _ _ _ (entry .pre .1 .1 .reads) (at-if3 .if3 .left)) .1 .test;
+        past =
+            (stmt-if _ _ _ _ _ _ _ (entry .pre .1 .1 .reads) (at-if3 .if3 .left)) .1 .first;
+        reads = (stmt-if _ _ _ _ _ _ _ (entry .pre .1 .1 .reads)
+            (at-if3 .if3 .left)) .1 .reads;
+      },
+    )
 
 encode-stmt-sub-encode-list : (t : ℕ) → encode-stmt-lts.Need-sub-encode-list (encode-stmt-claims t) (encode-stmt-at t) encode-stmt.Post
 encode-stmt-sub-encode-list t c =
@@ -154,14 +180,29 @@ encode-stmt-encode-list-requires : (t : ℕ) → encode-stmt-lts.Need-encode-lis
 encode-stmt-encode-list-requires t c κs =
     let at-encode-bool = c .before .before .before .before in
     let at-if3 = at-encode-bool .before .before .before .before in
-    let entry = at-if3 .before .before .before .before .before in
-    (omega (arith, entry .pre .0, stmt-live _ _ _ _ _ _ _ (entry .pre .1 .1 .reads), (at-encode-bool .encode-bool .ensures _ _ ((stmt-if _ _ _ _ _ _ _
-        (entry .pre .1 .1 .reads) (at-if3 .if3 .left)) .1 .reads) .1), ahead-bool _ _ _ _ _ _ _ ((stmt-if _ _ _ _ _ _ _ (entry .pre .1 .1 .reads)
-        (at-if3 .if3 .left)) .1 .reads)), (entry .pre .1 .0, record { tree = (stmt-if _ _ _ _ _ _ _ (entry .pre .1 .1 .reads) (at-if3 .if3 .left)) .1
-        .yes; past = (stmt-if _ _ _ _ _ _ _ (entry .pre .1 .1 .reads) (at-if3 .if3 .left)) .1 .second; reads = (ap (list (entry .args .file .now)
-        (namesOf (entry .args .file .now) (entry .args .nv) (entry .args .nm)) (entry .args .end) (entry .args .nest - 1)) (at-encode-bool
-        .encode-bool .ensures _ _ ((stmt-if _ _ _ _ _ _ _ (entry .pre .1 .1 .reads) (at-if3 .if3 .left)) .1 .reads) .1) ∙ (stmt-if _ _ _ _ _ _ _
-        (entry .pre .1 .1 .reads) (at-if3 .if3 .left)) .1 .then) }))
+    let entry = at-if3 .before .before .before .before .before in (
+      omega (
+        arith,
+        entry .pre .0,
+        stmt-live _ _ _ _ _ _ _ (entry .pre .1 .1 .reads),
+        (at-encode-bool .encode-bool .ensures _ _ ((stmt-if _ _ _ _ _ _ _
+            (entry .pre .1 .1 .reads) (at-if3 .if3 .left)) .1 .reads) .1),
+        ahead-bool _ _ _ _ _ _ _ ((stmt-if _ _ _ _ _ _ _ (entry .pre .1 .1 .reads)
+            (at-if3 .if3 .left)) .1 .reads),
+      ),
+      (
+        entry .pre .1 .0,
+        record {
+          tree = (stmt-if _ _ _ _ _ _ _ (entry .pre .1 .1 .reads) (at-if3 .if3 .left)) .1
+              .yes;
+          past = (stmt-if _ _ _ _ _ _ _ (entry .pre .1 .1 .reads) (at-if3 .if3 .left)) .1 .second;
+          reads = (ap (list (entry .args .file .now)
+              (namesOf (entry .args .file .now) (entry .args .nv) (entry .args .nm)) (entry .args .end) (entry .args .nest - 1)) (at-encode-bool
+              .encode-bool .ensures _ _ ((stmt-if _ _ _ _ _ _ _ (entry .pre .1 .1 .reads) (at-if3 .if3 .left)) .1 .reads) .1) ∙ (stmt-if _ _ _ _ _ _ _
+              (entry .pre .1 .1 .reads) (at-if3 .if3 .left)) .1 .then);
+        },
+      ),
+    )
 
 encode-stmt-sub-encode-list-2 : (t : ℕ) → encode-stmt-lts.Need-sub-encode-list-2 (encode-stmt-claims t) (encode-stmt-at t) encode-stmt.Post
 encode-stmt-sub-encode-list-2 t c =
@@ -179,24 +220,44 @@ encode-stmt-encode-list-requires-2 t c κs =
     let file = entry .args .file .now in
     let nest = entry .args .nest in
     let nm = entry .args .nm in
-    let nv = entry .args .nv in
-    (omega (arith, entry .pre .0, stmt-live _ _ _ _ _ _ _ (entry .pre .1 .1 .reads), (at-encode-bool .encode-bool .ensures _ _ ((stmt-if _ _ _ _ _ _ _
-        (entry .pre .1 .1 .reads) (at-if3 .if3 .left)) .1 .reads) .1), (at-encode-list .encode-list .ensures .0 _ _ (ap (list file (namesOf file nv
-        nm) end (nest - 1)) (at-encode-bool .encode-bool .ensures _ _ ((stmt-if _ _ _ _ _ _ _ (entry .pre .1 .1 .reads) (at-if3 .if3 .left)) .1
-        .reads) .1) ∙ (stmt-if _ _ _ _ _ _ _ (entry .pre .1 .1 .reads) (at-if3 .if3 .left)) .1 .then) .1), ahead-bool _ _ _ _ _ _ _ ((stmt-if _ _ _ _
-        _ _ _ (entry .pre .1 .1 .reads) (at-if3 .if3 .left)) .1 .reads), ahead-list _ _ _ _ _ _ _ ((stmt-if _ _ _ _ _ _ _ (entry .pre .1 .1 .reads)
-        (at-if3 .if3 .left)) .1 .then)), (entry .pre .1 .0, record { tree = (stmt-if _ _ _ _ _ _ _ (entry .pre .1 .1 .reads) (at-if3 .if3 .left)) .1
-        .no; past = _; reads = (ap (list file (namesOf file nv nm) end (nest - 1)) (at-encode-list .encode-list .ensures .0 _ _ (ap (list file
-        (namesOf file nv nm) end (nest - 1)) (at-encode-bool .encode-bool .ensures _ _ ((stmt-if _ _ _ _ _ _ _ (entry .pre .1 .1 .reads) (at-if3 .if3
-        .left)) .1 .reads) .1) ∙ (stmt-if _ _ _ _ _ _ _ (entry .pre .1 .1 .reads) (at-if3 .if3 .left)) .1 .then) .1) ∙ (stmt-if _ _ _ _ _ _ _ (entry
-        .pre .1 .1 .reads) (at-if3 .if3 .left)) .1 .else) }))
+    let nv = entry .args .nv in (
+      omega (
+        arith,
+        entry .pre .0,
+        stmt-live _ _ _ _ _ _ _ (entry .pre .1 .1 .reads),
+        (at-encode-bool .encode-bool .ensures _ _ ((stmt-if _ _ _ _ _ _ _
+            (entry .pre .1 .1 .reads) (at-if3 .if3 .left)) .1 .reads) .1),
+        (at-encode-list .encode-list .ensures .0 _ _ (ap (list file (namesOf file nv
+            nm) end (nest - 1)) (at-encode-bool .encode-bool .ensures _ _ ((stmt-if _ _ _ _ _ _ _ (entry .pre .1 .1 .reads) (at-if3 .if3 .left)) .1
+            .reads) .1) ∙ (stmt-if _ _ _ _ _ _ _ (entry .pre .1 .1 .reads) (at-if3 .if3 .left)) .1 .then) .1),
+        ahead-bool _ _ _ _ _ _ _ ((stmt-if _ _ _ _
+            _ _ _ (entry .pre .1 .1 .reads) (at-if3 .if3 .left)) .1 .reads),
+        ahead-list _ _ _ _ _ _ _ ((stmt-if _ _ _ _ _ _ _ (entry .pre .1 .1 .reads)
+            (at-if3 .if3 .left)) .1 .then),
+      ),
+      (
+        entry .pre .1 .0,
+        record {
+          tree = (stmt-if _ _ _ _ _ _ _ (entry .pre .1 .1 .reads) (at-if3 .if3 .left)) .1
+              .no;
+          past = _;
+          reads = (ap (list file (namesOf file nv nm) end (nest - 1)) (at-encode-list .encode-list .ensures .0 _ _ (ap (list file
+              (namesOf file nv nm) end (nest - 1)) (at-encode-bool .encode-bool .ensures _ _ ((stmt-if _ _ _ _ _ _ _ (entry .pre .1 .1 .reads) (at-if3 .if3
+              .left)) .1 .reads) .1) ∙ (stmt-if _ _ _ _ _ _ _ (entry .pre .1 .1 .reads) (at-if3 .if3 .left)) .1 .then) .1) ∙ (stmt-if _ _ _ _ _ _ _ (entry
+              .pre .1 .1 .reads) (at-if3 .if3 .left)) .1 .else);
+        },
+      ),
+    )
 
 encode-stmt-muxes-requires : (t : ℕ) → encode-stmt-lts.Need-muxes-requires (encode-stmt-claims t) (encode-stmt-at t) encode-stmt.Post
 encode-stmt-muxes-requires t c κs =
     let at-encode-list = c .before .before .before .before .before .before .before .before in
-    let entry = at-encode-list .before .before .before .before .before .before .before .before .before .before .before .before .before .before in
-    (slotted-again (entry .pre .1 .0 .1) (entry .pre .1 .0 .2 ∙ sym (at-encode-list .encode-list .ensures .1)), at-encode-list .encode-list .ensures .1, c
-        .before .before .before .before .encode-list2 .ensures .1)
+    let entry = at-encode-list .before .before .before .before .before .before .before .before .before .before .before .before .before .before in (
+      slotted-again (entry .pre .1 .0 .1) (entry .pre .1 .0 .2 ∙ sym (at-encode-list .encode-list .ensures .1)),
+      at-encode-list .encode-list .ensures .1,
+      c
+          .before .before .before .before .encode-list2 .ensures .1,
+    )
 
 encode-stmt-same-length-2 : (t : ℕ) → encode-stmt-lts.Need-same-length-2 (encode-stmt-claims t) (encode-stmt-at t) encode-stmt.Post
 encode-stmt-same-length-2 t c = search needs
@@ -206,10 +267,12 @@ encode-stmt-returns-2 t c =
     let at-encode-list = c .before .before .before .before .before .before .before .before .before .before in
     let at-encode-bool = at-encode-list .before .before .before .before .before in
     let at-if3 = at-encode-bool .before .before .before .before in
-    let entry = at-if3 .before .before .before .before .before in
-    ((λ t n h. if-emits (layoutOf (entry .args .nv)) (slotsOf (entry .args .file .now) (entry .args .nv) (entry .args .nm) (entry .args .state .now))
-        (stmt-if _ _ _ _ _ t n h (at-if3 .if3 .left) .1) (at-encode-bool .encode-bool .ensures) (at-encode-list .encode-list .ensures .0) (c .before
-        .before .before .before .before .before .encode-list2 .ensures .0) (c .before .muxes .ensures .0)), c .before .muxes .ensures .1)
+    let entry = at-if3 .before .before .before .before .before in (
+      (λ t n h. if-emits (layoutOf (entry .args .nv)) (slotsOf (entry .args .file .now) (entry .args .nv) (entry .args .nm) (entry .args .state .now))
+          (stmt-if _ _ _ _ _ t n h (at-if3 .if3 .left) .1) (at-encode-bool .encode-bool .ensures) (at-encode-list .encode-list .ensures .0) (c .before
+          .before .before .before .before .before .encode-list2 .ensures .0) (c .before .muxes .ensures .0)),
+      c .before .muxes .ensures .1,
+    )
 
 encode-stmt-returns-3 : (t : ℕ) → encode-stmt-lts.Need-returns-3 (encode-stmt-claims t) (encode-stmt-at t) encode-stmt.Post
 encode-stmt-returns-3 t c = absurd (stmt-unknown _ _ _ _ _ (ap isRead (c .before .before .before .pre .1 .1 .reads)) (inl (c .if1 .taken)))

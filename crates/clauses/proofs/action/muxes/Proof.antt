@@ -21,10 +21,17 @@ state-bits-requires : tie.Need-state-bits-requires Inv-loop μ-loop
 state-bits-requires c κs = ((c .before .pre .0) .kinds, (c .before .pre .0) .variables, (c .before .pre .0) .matrices)
 
 loop-holds : tie.Need-loop-holds Inv-loop μ-loop
-loop-holds c =
-    (muxing-start (c .before .before .args .file .now) (c .before .before .args .nv) (c .before .before .args .nm) _ (c .before .before .args .state .now)
-        (c .before .before .args .other .now) (omega (arith, (c .before .before .pre .0) .bits, c .before .before .pre .1)) (omega (arith, (c .before
-        .before .pre .0) .bits, c .before .before .pre .1, c .before .before .pre .2)) _ _ _, refl)
+loop-holds c = (
+  muxing-start (c .before .before .args .file .now) (c .before .before .args .nv) (c .before .before .args .nm) _ (c .before .before .args .state .now)
+      (c .before .before .args .other .now) (omega (arith, (c .before .before .pre .0) .bits, c .before .before .pre .1)) (omega (
+        arith,
+        (c .before
+            .before .pre .0) .bits,
+        c .before .before .pre .1,
+        c .before .before .pre .2,
+      )) _ _ _,
+  refl,
+)
 
 mul-emit-mux : tie.Need-mul-emit-mux Inv-loop μ-loop
 mul-emit-mux c = omega (arith, c .before .before .before .state-bits .ensures)
@@ -54,26 +61,51 @@ loop-less : tie.Need-loop-less Inv-loop μ-loop
 loop-less c = omega arith
 
 loop-again : tie.Need-loop-again Inv-loop μ-loop
-loop-again c =
-    (muxing-on (c .before .before .before .before .before .before .before .before .before .args .file .now) (c .before .before .before .before .before
-        .before .before .before .before .args .nv) (c .before .before .before .before .before .before .before .before .before .args .nm) _ (c .before
-        .before .before .before .before .before .before .before .before .args .state .now) (c .before .before .before .before .before .before .before
-        .before .before .args .other .now) (omega (arith, (c .before .before .before .before .before .before .before .before .before .pre .0) .bits, c
-        .before .before .before .before .before .before .before .before .before .pre .1)) (omega (arith, (c .before .before .before .before .before
-        .before .before .before .before .pre .0) .bits, c .before .before .before .before .before .before .before .before .before .pre .1, c .before
-        .before .before .before .before .before .before .before .before .pre .2)) _ _ _ _ (omega (arith, c .before .before .before .before .before
-        .before .before .state-bits .ensures, c .before .before .before .before .before .loop-test .taken)) (c .before .before .before .before .before
-        .before .loop .inv .0) _ (c .before .emit-mux .ensures), omega arith)
+loop-again c = (
+  muxing-on (c .before .before .before .before .before .before .before .before .before .args .file .now) (c .before .before .before .before .before
+      .before .before .before .before .args .nv) (c .before .before .before .before .before .before .before .before .before .args .nm) _ (c .before
+      .before .before .before .before .before .before .before .before .args .state .now) (c .before .before .before .before .before .before .before
+      .before .before .args .other .now) (omega (
+        arith,
+        (c .before .before .before .before .before .before .before .before .before .pre .0) .bits,
+        c
+            .before .before .before .before .before .before .before .before .before .pre .1,
+      )) (omega (
+        arith,
+        (c .before .before .before .before .before
+            .before .before .before .before .pre .0) .bits,
+        c .before .before .before .before .before .before .before .before .before .pre .1,
+        c .before
+            .before .before .before .before .before .before .before .before .pre .2,
+      )) _ _ _ _ (omega (
+        arith,
+        c .before .before .before .before .before
+            .before .before .state-bits .ensures,
+        c .before .before .before .before .before .loop-test .taken,
+      )) (c .before .before .before .before .before
+      .before .loop .inv .0) _ (c .before .emit-mux .ensures),
+  omega arith,
+)
 
 same-length : tie.Need-same-length Inv-loop μ-loop
 same-length c = omega arith
 
 returns : tie.Need-returns Inv-loop μ-loop
 returns c =
-    let entry = c .before .before .before .before in
-    (muxing-end (entry .args .file .now) (entry .args .nv) (entry .args .nm) _ (entry .args .state .now) (entry .args .other .now) (omega (arith, (entry
-        .pre .0) .bits, entry .pre .1)) (omega (arith, (entry .pre .0) .bits, entry .pre .1, entry .pre .2)) _ _ _ _ (omega (arith, c .before .before
-        .state-bits .ensures, c .loop-test .left)) (c .before .loop .inv .0), c .before .loop .inv .0 .size ∙ entry .pre .1)
+    let entry = c .before .before .before .before in (
+      muxing-end (entry .args .file .now) (entry .args .nv) (entry .args .nm) _ (entry .args .state .now) (entry .args .other .now) (omega (
+        arith,
+        (entry
+            .pre .0) .bits,
+        entry .pre .1,
+      )) (omega (arith, (entry .pre .0) .bits, entry .pre .1, entry .pre .2)) _ _ _ _ (omega (
+        arith,
+        c .before .before
+            .state-bits .ensures,
+        c .loop-test .left,
+      )) (c .before .loop .inv .0),
+      c .before .loop .inv .0 .size ∙ entry .pre .1,
+    )
 
 pub muxes-spec : {M : Type 1} → statement M
 muxes-spec =

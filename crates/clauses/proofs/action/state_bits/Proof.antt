@@ -17,9 +17,15 @@ add-result : tie.Need-add-result
 add-result c = omega (arith, c .offset .ensures, variables-small (c .before .before .args .file .now) 0 (c .before .before .args .nv))
 
 returns : tie.Need-returns
-returns c =
-    (state-size _ _ _ _ (c .offset .ensures), omega (arith, c .offset .ensures, variables-small (c .before .before .args .file .now) 0 (c .before .before
-        .args .nv)))
+returns c = (
+  state-size _ _ _ _ (c .offset .ensures),
+  omega (
+    arith,
+    c .offset .ensures,
+    variables-small (c .before .before .args .file .now) 0 (c .before .before
+        .args .nv),
+  ),
+)
 
 pub state-bits-spec : {M : Type 1} → statement M
 state-bits-spec = tie.close (tie.spec offset-requires mul-result add-result returns)

@@ -42,7 +42,7 @@ loop-less c = omega arith
 loop-again : tie.Need-loop-again Inv-loop μ-loop
 loop-again c =
     storing-on _ _ _ _ _ _ (let h : length (c .before .before .args .t3) ≡ 16 = search needs in omega arith) (omega arith) (c .loop-test .taken) (c
-        .before .loop .inv)
+    .before .loop .inv)
 
 returns : tie.Need-returns Inv-loop μ-loop
 returns c = (storing-end _ _ _ _ _ _ (c .loop-test .left) (c .before .loop .inv), c .before .loop .inv .size ∙ c .before .before .pre .2)

@@ -56,29 +56,35 @@ add-t26 c = search needs
 
 returns : tie.Need-returns
 returns c =
-    let entry = c .before .before .before .before .before .before .before in
-    (ap₂ (λ (i j : ℕ). entry .args .p + 8 + i + j) (c .before .before .before .before .wide .ensures .0) (c .before .before .before .word .ensures .0),
-        normal-passed _ _ _ _ _ (entry .pre .0) _ (c .before .if1 .taken) _ (c .if2 .taken) _ refl refl)
+    let entry = c .before .before .before .before .before .before .before in (
+      ap₂ (λ (i j : ℕ). entry .args .p + 8 + i + j) (c .before .before .before .before .wide .ensures .0) (c .before .before .before .word .ensures .0),
+      normal-passed _ _ _ _ _ (entry .pre .0) _ (c .before .if1 .taken) _ (c .if2 .taken) _ refl refl,
+    )
 
 returns-2 : tie.Need-returns-2
 returns-2 c =
-    let entry = c .before .before .before .before .before .before .before .before in
-    (ap₂ (λ (i j : ℕ). entry .args .p + 8 + i + j) (c .before .before .before .before .before .wide .ensures .0) (c .before .before .before .before .word
-        .ensures .0), normal-counted _ _ _ _ _ (entry .pre .0) _ (c .before .before .if1 .taken) _ (c .before .if2 .left) _ _ (c .size-normal
-        .ensures) refl refl)
+    let entry = c .before .before .before .before .before .before .before .before in (
+      ap₂ (λ (i j : ℕ). entry .args .p + 8 + i + j) (c .before .before .before .before .before .wide .ensures .0) (c .before .before .before .before .word
+          .ensures .0),
+      normal-counted _ _ _ _ _ (entry .pre .0) _ (c .before .before .if1 .taken) _ (c .before .if2 .left) _ _ (c .size-normal
+          .ensures) refl refl,
+    )
 
 returns-3 : tie.Need-returns-3
 returns-3 c =
-    let entry = c .before .before .before .before .before .before .before .before .before in
-    (ap₂ (λ (i j : ℕ). entry .args .p + 8 + i + j) (c .before .before .before .before .before .before .wide .ensures .0) (c .before .before .before
-        .before .before .word .ensures .0), invalid-counted _ _ _ _ _ (entry .pre .0) _ (c .before .before .before .if1 .left) _ (c .before .before
-        .if3 .taken) _ _ (c .before .size-place .ensures .1) refl refl)
+    let entry = c .before .before .before .before .before .before .before .before .before in (
+      ap₂ (λ (i j : ℕ). entry .args .p + 8 + i + j) (c .before .before .before .before .before .before .wide .ensures .0) (c .before .before .before
+          .before .before .word .ensures .0),
+      invalid-counted _ _ _ _ _ (entry .pre .0) _ (c .before .before .before .if1 .left) _ (c .before .before
+          .if3 .taken) _ _ (c .before .size-place .ensures .1) refl refl,
+    )
 
 returns-4 : tie.Need-returns-4
 returns-4 c =
-    let entry = c .before .before .before .before .before .before .before in
-    (ap₂ (λ (i j : ℕ). entry .args .p + 8 + i + j) (c .before .before .before .before .wide .ensures .0) (c .before .before .before .word .ensures .0),
-        invalid-passed _ _ _ _ _ (entry .pre .0) _ (c .before .if1 .left) _ (c .if3 .left) _ refl refl)
+    let entry = c .before .before .before .before .before .before .before in (
+      ap₂ (λ (i j : ℕ). entry .args .p + 8 + i + j) (c .before .before .before .before .wide .ensures .0) (c .before .before .before .word .ensures .0),
+      invalid-passed _ _ _ _ _ (entry .pre .0) _ (c .before .if1 .left) _ (c .if3 .left) _ refl refl,
+    )
 
 pub size-cell-spec : {M : Type 1} → statement M
 size-cell-spec =

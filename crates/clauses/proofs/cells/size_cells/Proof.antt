@@ -26,15 +26,25 @@ loop-holds c = walking-start _ _ _ _ _ (c .before .trailer-word .ensures .0) ref
 
 size-cell-requires : tie.Need-size-cell-requires Inv-loop μ-loop
 size-cell-requires c κs =
-    let entry = c .before .before .before .before .before in
-    (entry .pre, cell-here _ _ _ _ _ (entry .pre) (λ i. omega (arith, c .before .before .before .before .shared-slice-known .given i)) _ _ _ (c .loop-test
-        .taken) (c .before .loop .inv))
+    let entry = c .before .before .before .before .before in (
+      entry .pre,
+      cell-here _ _ _ _ _ (entry .pre) (λ i. omega (arith, c .before .before .before .before .shared-slice-known .given i)) _ _ _ (c .loop-test
+          .taken) (c .before .loop .inv),
+    )
 
 join-requires : tie.Need-join-requires Inv-loop μ-loop
 join-requires c κs =
-    let f = sum-few _ _ _ _ _ (c .before .before .before .before .before .before .pre) (λ i. omega (arith, c .before .before .before .before .before
-        .shared-slice-known .given i)) _ _ _ (c .before .loop-test .taken) (c .before .before .loop .inv) _ (c .size-cell .ensures) in (omega (arith,
-        f .0), omega (arith, f .1))
+    let f = sum-few _ _ _ _ _ (c .before .before .before .before .before .before .pre) (λ i. omega (
+      arith,
+      c .before .before .before .before .before
+          .shared-slice-known .given i,
+    )) _ _ _ (c .before .loop-test .taken) (c .before .before .loop .inv) _ (c .size-cell .ensures) in (
+      omega (
+        arith,
+        f .0,
+      ),
+      omega (arith, f .1),
+    )
 
 sub-left : tie.Need-sub-left Inv-loop μ-loop
 sub-left c = omega arith
@@ -45,12 +55,15 @@ loop-less c = omega arith
 loop-again : tie.Need-loop-again Inv-loop μ-loop
 loop-again c =
     walking-on _ _ _ _ _ (c .before .before .loop-test .taken) (c .before .before .before .loop .inv) _ (c .before .size-cell .ensures .0) (c .before
-        .size-cell .ensures .1) _ (c .join .ensures)
+    .size-cell .ensures .1) _ (c .join .ensures)
 
 returns : tie.Need-returns Inv-loop μ-loop
 returns c =
-    all-counted _ _ _ _ _ (c .before .before .before .before .before .pre) (λ i. omega (arith, c .before .before .before .before .shared-slice-known
-        .given i)) _ _ _ (c .loop-test .left) (c .before .loop .inv)
+    all-counted _ _ _ _ _ (c .before .before .before .before .before .pre) (λ i. omega (
+      arith,
+      c .before .before .before .before .shared-slice-known
+          .given i,
+    )) _ _ _ (c .loop-test .left) (c .before .loop .inv)
 
 pub size-cells-spec : {M : Type 1} → statement M
 size-cells-spec =

@@ -22,13 +22,21 @@ element-copy-out-at c = omega (arith, event-slot _ _ _ _ _ (c .before .pre .0) _
 
 cast-at : tie.Need-cast-at
 cast-at c =
-    omega (arith, event-inside _ _ _ _ _ (c .before .before .pre .0) _ _ (c .before .before .pre .1) (c .before .before .pre .2), sizes _ _ _ _ _ (c
-        .before .before .pre .0))
+    omega (
+      arith,
+      event-inside _ _ _ _ _ (c .before .before .pre .0) _ _ (c .before .before .pre .1) (c .before .before .pre .2),
+      sizes _ _ _ _ _ (c
+          .before .before .pre .0),
+    )
 
 add-past : tie.Need-add-past
 add-past c =
-    omega (arith, event-inside _ _ _ _ _ (c .before .before .pre .0) _ _ (c .before .before .pre .1) (c .before .before .pre .2), sizes _ _ _ _ _ (c
-        .before .before .pre .0))
+    omega (
+      arith,
+      event-inside _ _ _ _ _ (c .before .before .pre .0) _ _ (c .before .before .pre .1) (c .before .before .pre .2),
+      sizes _ _ _ _ _ (c
+          .before .before .pre .0),
+    )
 
 shared-slice-read-wide : tie.Need-shared-slice-read-wide
 shared-slice-read-wide c =
@@ -50,10 +58,23 @@ add-size-bool c =
 
 size-bool-requires : tie.Need-size-bool-requires
 size-bool-requires c κs =
-    let entry = c .before .before .before .before in
-    (event-reads _ _ _ _ _ (entry .pre .0) _ _ (entry .pre .1) (entry .pre .2) _ (c .wide .ensures .0), omega (arith, c .wide .ensures .0, event-inside _
-        _ _ _ _ (entry .pre .0) _ _ (entry .pre .1) (entry .pre .2), sizes _ _ _ _ _ (entry .pre .0)), omega (arith, c .wide .ensures .0, event-inside
-        _ _ _ _ _ (entry .pre .0) _ _ (entry .pre .1) (entry .pre .2), sizes _ _ _ _ _ (entry .pre .0)))
+    let entry = c .before .before .before .before in (
+      event-reads _ _ _ _ _ (entry .pre .0) _ _ (entry .pre .1) (entry .pre .2) _ (c .wide .ensures .0),
+      omega (
+        arith,
+        c .wide .ensures .0,
+        event-inside _
+            _ _ _ _ (entry .pre .0) _ _ (entry .pre .1) (entry .pre .2),
+        sizes _ _ _ _ _ (entry .pre .0),
+      ),
+      omega (
+        arith,
+        c .wide .ensures .0,
+        event-inside
+            _ _ _ _ _ (entry .pre .0) _ _ (entry .pre .1) (entry .pre .2),
+        sizes _ _ _ _ _ (entry .pre .0),
+      ),
+    )
 
 returns : tie.Need-returns
 returns c =

@@ -20,9 +20,11 @@ wide-requires : tie.Need-wide-requires
 wide-requires c κs = search needs
 
 returns : tie.Need-returns
-returns c =
-    (record { ands = omega arith; wides = omega arith }, λ x. guard-none _ _ _ _ _ (c .before .before .before .before .pre .0) _ x _ (c .before .wide
-        .ensures .0) (c .if1 .taken) _ refl refl)
+returns c = (
+  record { ands = omega arith; wides = omega arith },
+  λ x. guard-none _ _ _ _ _ (c .before .before .before .before .pre .0) _ x _ (c .before .wide
+      .ensures .0) (c .if1 .taken) _ refl refl,
+)
 
 add-size-bool : tie.Need-add-size-bool
 add-size-bool c = search needs
@@ -35,17 +37,34 @@ add-size-bool-3 c = search needs
 
 size-bool-requires : tie.Need-size-bool-requires
 size-bool-requires c κs =
-    let entry = c .before .before .before .before in
-    (guard-reads _ _ _ _ _ (entry .pre .0) _ (entry .pre .1) _ (c .before .wide .ensures .0) (c .if1 .left), omega (arith, guard-inside _ _ _ _ _ (entry
-        .pre .0) _ (entry .pre .1) _ (c .before .wide .ensures .0), sizes _ _ _ _ _ (entry .pre .0)), omega (arith, guard-inside _ _ _ _ _ (entry .pre
-        .0) _ (entry .pre .1) _ (c .before .wide .ensures .0), sizes _ _ _ _ _ (entry .pre .0)))
+    let entry = c .before .before .before .before in (
+      guard-reads _ _ _ _ _ (entry .pre .0) _ (entry .pre .1) _ (c .before .wide .ensures .0) (c .if1 .left),
+      omega (
+        arith,
+        guard-inside _ _ _ _ _ (entry
+            .pre .0) _ (entry .pre .1) _ (c .before .wide .ensures .0),
+        sizes _ _ _ _ _ (entry .pre .0),
+      ),
+      omega (
+        arith,
+        guard-inside _ _ _ _ _ (entry .pre
+            .0) _ (entry .pre .1) _ (c .before .wide .ensures .0),
+        sizes _ _ _ _ _ (entry .pre .0),
+      ),
+    )
 
 returns-2 : tie.Need-returns-2
 returns-2 c =
-    let entry = c .before .before .before .before .before in
-    (few-gates _ (bool-few _ _ _ (omega (arith, guard-inside _ _ _ _ _ (entry .pre .0) _ (entry .pre .1) _ (c .before .before .wide .ensures .0), sizes _
-        _ _ _ _ (entry .pre .0))) _ _ _ (c .size-bool .ensures)), λ x. guard-gates _ _ _ _ _ (entry .pre .0) _ x _ (c .before .before .wide .ensures
-        .0) (c .before .if1 .left) _ (c .size-bool .ensures))
+    let entry = c .before .before .before .before .before in (
+      few-gates _ (bool-few _ _ _ (omega (
+        arith,
+        guard-inside _ _ _ _ _ (entry .pre .0) _ (entry .pre .1) _ (c .before .before .wide .ensures .0),
+        sizes _
+            _ _ _ _ (entry .pre .0),
+      )) _ _ _ (c .size-bool .ensures)),
+      λ x. guard-gates _ _ _ _ _ (entry .pre .0) _ x _ (c .before .before .wide .ensures
+          .0) (c .before .if1 .left) _ (c .size-bool .ensures),
+    )
 
 pub size-guard-spec : {M : Type 1} → statement M
 size-guard-spec =

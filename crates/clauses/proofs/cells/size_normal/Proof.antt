@@ -48,12 +48,27 @@ add-past c = search needs
 
 size-list-requires : tie.Need-size-list-requires
 size-list-requires c κs =
-    let entry = c .before .before .before .before .before .before in
-    (action-reads _ _ _ _ _ (entry .pre .0) _ (entry .pre .1) _ _ (ap (λ (i : ℕ). entry .args .p + 8 + i) (c .before .wide .ensures .0)) (ap₂ (λ (i j :
-        ℕ). entry .args .p + 8 + i + j) (c .before .wide .ensures .0) (c .word .ensures .0)), omega (arith, c .before .wide .ensures .0, c .word
-        .ensures .0, normal-fields _ _ _ _ _ (entry .pre .0) _ (entry .pre .1) .past), omega (arith, c .before .wide .ensures .0, c .word .ensures .0,
-        normal-fields _ _ _ _ _ (entry .pre .0) _ (entry .pre .1) .past, sizes _ _ _ _ _ (entry .pre .0)), kinds _ _ _ _ _ (entry .pre .0), entry .pre
-        .0 .few)
+    let entry = c .before .before .before .before .before .before in (
+      action-reads _ _ _ _ _ (entry .pre .0) _ (entry .pre .1) _ _ (ap (λ (i : ℕ). entry .args .p + 8 + i) (c .before .wide .ensures .0)) (ap₂ (λ (i j :
+          ℕ). entry .args .p + 8 + i + j) (c .before .wide .ensures .0) (c .word .ensures .0)),
+      omega (
+        arith,
+        c .before .wide .ensures .0,
+        c .word
+            .ensures .0,
+        normal-fields _ _ _ _ _ (entry .pre .0) _ (entry .pre .1) .past,
+      ),
+      omega (
+        arith,
+        c .before .wide .ensures .0,
+        c .word .ensures .0,
+        normal-fields _ _ _ _ _ (entry .pre .0) _ (entry .pre .1) .past,
+        sizes _ _ _ _ _ (entry .pre .0),
+      ),
+      kinds _ _ _ _ _ (entry .pre .0),
+      entry .pre
+          .0 .few,
+    )
 
 join-requires : tie.Need-join-requires
 join-requires c κs = search needs
@@ -63,20 +78,41 @@ join-requires-2 c κs =
     let at-size-guard = c .before .before .before .before .before in
     let at-size-place = at-size-guard .before in
     let entry = at-size-place .before .before in
-    let f = list-few _ _ _ (omega (arith, c .before .before .before .wide .ensures .0, c .before .before .word .ensures .0, normal-fields _ _ _ _ _ (entry
-        .pre .0) _ (entry .pre .1) .past, sizes _ _ _ _ _ (entry .pre .0))) _ (entry .pre .0 .few) _ _ _ (c .before .size-list .ensures) in (omega
-        (arith, f .ands, at-size-place .size-place .ensures .0 .ands, at-size-guard .size-guard .ensures .0 .ands, ap (λ (z : GatesAt). z .ands) (c
-        .join .ensures)), omega (arith, f .wides, entry .pre .0 .few, at-size-place .size-place .ensures .0 .wides, at-size-guard .size-guard .ensures
-        .0 .wides, ap (λ (z : GatesAt). z .wides) (c .join .ensures)))
+    let f = list-few _ _ _ (omega (
+      arith,
+      c .before .before .before .wide .ensures .0,
+      c .before .before .word .ensures .0,
+      normal-fields _ _ _ _ _ (entry
+          .pre .0) _ (entry .pre .1) .past,
+      sizes _ _ _ _ _ (entry .pre .0),
+    )) _ (entry .pre .0 .few) _ _ _ (c .before .size-list .ensures) in (
+      omega (
+        arith,
+        f .ands,
+        at-size-place .size-place .ensures .0 .ands,
+        at-size-guard .size-guard .ensures .0 .ands,
+        ap (λ (z : GatesAt). z .ands) (c
+            .join .ensures),
+      ),
+      omega (
+        arith,
+        f .wides,
+        entry .pre .0 .few,
+        at-size-place .size-place .ensures .0 .wides,
+        at-size-guard .size-guard .ensures
+            .0 .wides,
+        ap (λ (z : GatesAt). z .wides) (c .join .ensures),
+      ),
+    )
 
 returns : tie.Need-returns
 returns c =
     let at-wide = c .before .before .before .before in
     let entry = at-wide .before .before .before .before .before in
     λ x. normal-gates _ _ _ _ _ (entry .pre .0) _ x _ _ (ap (λ (i : ℕ). entry .args .p + 8 + i) (at-wide .wide .ensures .0)) (ap₂ (λ (i j : ℕ). entry
-        .args .p + 8 + i + j) (at-wide .wide .ensures .0) (c .before .before .before .word .ensures .0)) _ _ _ _ _ (c .before .before .before .before
-        .before .before .before .size-place .ensures .1) (c .before .before .before .before .before .before .size-guard .ensures .1 x) (c .before
-        .before .size-list .ensures) (c .before .join .ensures) (c .join2 .ensures)
+    .args .p + 8 + i + j) (at-wide .wide .ensures .0) (c .before .before .before .word .ensures .0)) _ _ _ _ _ (c .before .before .before .before
+    .before .before .before .size-place .ensures .1) (c .before .before .before .before .before .before .size-guard .ensures .1 x) (c .before
+    .before .size-list .ensures) (c .before .join .ensures) (c .join2 .ensures)
 
 pub size-normal-spec : {M : Type 1} → statement M
 size-normal-spec =

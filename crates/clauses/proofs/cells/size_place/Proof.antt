@@ -27,8 +27,12 @@ wide-requires-2 c κs = search needs
 size-event-requires : tie.Need-size-event-requires
 size-event-requires c κs =
     let entry = c .before .before .before .before .before in
-    let q = place-range _ _ _ _ _ (entry .pre .0) _ _ _ (c .before .before .wide .ensures .0) (c .wide2 .ensures .0) (entry .pre .1) in (entry .pre .0, q
-        .0, q .1)
+    let q = place-range _ _ _ _ _ (entry .pre .0) _ _ _ (c .before .before .wide .ensures .0) (c .wide2 .ensures .0) (entry .pre .1) in (
+      entry .pre .0,
+      q
+          .0,
+      q .1,
+    )
 
 add-t14 : tie.Need-add-t14
 add-t14 c = search needs
@@ -38,10 +42,11 @@ add-t15 c = search needs
 
 returns : tie.Need-returns
 returns c =
-    let entry = c .before .before .before .before .before .before .before .before in
-    (record { ands = omega (arith, c .before .before .size-event .ensures .0); wides = omega (arith, c .before .before .size-event .ensures .1) },
-        place-gates _ _ _ _ _ (entry .pre .0) _ _ _ (c .before .before .before .before .before .wide .ensures .0) (c .before .before .before .wide2
-        .ensures .0) _ _ (c .before .before .size-event .ensures .2) refl refl)
+    let entry = c .before .before .before .before .before .before .before .before in (
+      record { ands = omega (arith, c .before .before .size-event .ensures .0); wides = omega (arith, c .before .before .size-event .ensures .1) },
+      place-gates _ _ _ _ _ (entry .pre .0) _ _ _ (c .before .before .before .before .before .wide .ensures .0) (c .before .before .before .wide2
+          .ensures .0) _ _ (c .before .before .size-event .ensures .2) refl refl,
+    )
 
 pub size-place-spec : {M : Type 1} → statement M
 size-place-spec =

@@ -40,10 +40,12 @@ loop-less : tie.Need-loop-less Inv-loop μ-loop
 loop-less c = omega arith
 
 loop-again : tie.Need-loop-again Inv-loop μ-loop
-loop-again c =
-    (chaining-on (c .before .before .before .before .before .before .args .t1) (let h : length (c .before .before .before .before .before .before .args
-        .t1) ≡ 16 = search needs in h) _ _ _ _ _ (c .before .before .before .before .loop-test .taken) (c .before .before .before .before .before
-        .loop .inv .0) _ _ (c .before .before .before .negate .ensures) (c .before .emit-and .ensures), omega arith)
+loop-again c = (
+  chaining-on (c .before .before .before .before .before .before .args .t1) (let h : length (c .before .before .before .before .before .before .args
+      .t1) ≡ 16 = search needs in h) _ _ _ _ _ (c .before .before .before .before .loop-test .taken) (c .before .before .before .before .before
+      .loop .inv .0) _ _ (c .before .before .before .negate .ensures) (c .before .emit-and .ensures),
+  omega arith,
+)
 
 same-length : tie.Need-same-length Inv-loop μ-loop
 same-length c = omega arith
@@ -51,7 +53,7 @@ same-length c = omega arith
 returns : tie.Need-returns Inv-loop μ-loop
 returns c =
     chaining-end (c .before .before .args .t1) (let h : length (c .before .before .args .t1) ≡ 16 = search needs in h) _ _ _ _ _ (c .loop-test .left) (c
-        .before .loop .inv .0)
+    .before .loop .inv .0)
 
 pub chain-spec : {M : Type 1} → statement M
 chain-spec =

@@ -26,7 +26,7 @@ same-length c = search needs
 returns : tie.Need-returns
 returns c =
     less-emits _ _ _ _ _ _ _ (c .before .before .before .before .before .negate-top .ensures) (c .before .before .before .before .negate-top2 .ensures) (c
-        .negate .ensures) (c .before .before .difference .ensures)
+    .negate .ensures) (c .before .before .difference .ensures)
 
 pub less-spec : {M : Type 1} → statement M
 less-spec =

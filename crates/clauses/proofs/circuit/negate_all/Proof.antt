@@ -43,7 +43,7 @@ loop-less c = omega arith
 loop-again : tie.Need-loop-again Inv-loop μ-loop
 loop-again c =
     negating-on _ _ _ _ (let h : length (c .before .before .before .args .t1) ≡ 16 = search needs in h) (c .before .loop-test .taken) (c .negate .ensures)
-        (c .before .before .loop .inv)
+    (c .before .before .loop .inv)
 
 returns : tie.Need-returns Inv-loop μ-loop
 returns c = negating-end _ _ _ (let h : length (c .before .before .args .t1) ≡ 16 = search needs in h) (c .loop-test .left) (c .before .loop .inv)

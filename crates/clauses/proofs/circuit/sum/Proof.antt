@@ -18,9 +18,11 @@ abbrev μ-loop : tie.MeasureT-loop
 μ-loop c buf₀ cur var a b out₀ carry₀ at₀ g₀ i₀ buf out carry at g i = 16 - i
 
 loop-holds : tie.Need-loop-holds Inv-loop μ-loop
-loop-holds c =
-    (summing-start (c .args .t1) (c .args .t2) (let h : length (c .args .t1) ≡ 16 = search needs in h) (let h : length (c .args .t2) ≡ 16 = search needs
-        in h) _ _ _ _ _ refl, refl)
+loop-holds c = (
+  summing-start (c .args .t1) (c .args .t2) (let h : length (c .args .t1) ≡ 16 = search needs in h) (let h : length (c .args .t2) ≡ 16 = search needs
+      in h) _ _ _ _ _ refl,
+  refl,
+)
 
 mul-sum-bit : tie.Need-mul-sum-bit Inv-loop μ-loop
 mul-sum-bit c = omega arith
@@ -50,11 +52,13 @@ loop-less : tie.Need-loop-less Inv-loop μ-loop
 loop-less c = omega arith
 
 loop-again : tie.Need-loop-again Inv-loop μ-loop
-loop-again c =
-    (summing-on (c .before .before .before .before .before .args .t1) (c .before .before .before .before .before .args .t2) (let h : length (c .before
-        .before .before .before .before .args .t1) ≡ 16 = search needs in h) (let h : length (c .before .before .before .before .before .args .t2) ≡
-        16 = search needs in h) _ _ _ _ _ _ (c .before .before .before .loop-test .taken) (c .before .before .before .before .loop .inv .0) _ _ (c
-        .before .sum-bit .ensures), omega arith)
+loop-again c = (
+  summing-on (c .before .before .before .before .before .args .t1) (c .before .before .before .before .before .args .t2) (let h : length (c .before
+      .before .before .before .before .args .t1) ≡ 16 = search needs in h) (let h : length (c .before .before .before .before .before .args .t2) ≡
+      16 = search needs in h) _ _ _ _ _ _ (c .before .before .before .loop-test .taken) (c .before .before .before .before .loop .inv .0) _ _ (c
+      .before .sum-bit .ensures),
+  omega arith,
+)
 
 same-length : tie.Need-same-length Inv-loop μ-loop
 same-length c = omega arith
@@ -62,7 +66,7 @@ same-length c = omega arith
 returns : tie.Need-returns Inv-loop μ-loop
 returns c =
     summing-end (c .before .before .args .t1) (c .before .before .args .t2) (let h : length (c .before .before .args .t1) ≡ 16 = search needs in h) (let h
-        : length (c .before .before .args .t2) ≡ 16 = search needs in h) _ _ _ _ _ _ (c .loop-test .left) (c .before .loop .inv .0)
+    : length (c .before .before .args .t2) ≡ 16 = search needs in h) _ _ _ _ _ _ (c .loop-test .left) (c .before .loop .inv .0)
 
 pub sum-spec : {M : Type 1} → statement M
 sum-spec =

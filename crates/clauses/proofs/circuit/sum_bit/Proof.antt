@@ -31,7 +31,7 @@ returns c =
     let at-emit-xor2 = c .before .before .before .before .before .before .before .before .before .before in
     let at-emit-xor = at-emit-xor2 .before .before .before in
     bit-emits _ _ _ _ _ _ _ _ _ (at-emit-xor .emit-xor .ensures) (at-emit-xor2 .emit-xor2 .ensures) (c .before .before .before .before .before .before
-        .before .emit-and .ensures) (c .before .before .before .before .emit-and2 .ensures) (c .before .emit-or .ensures)
+    .before .emit-and .ensures) (c .before .before .before .before .emit-and2 .ensures) (c .before .emit-or .ensures)
 
 pub sum-bit-spec : {M : Type 1} → statement M
 sum-bit-spec =

@@ -18,9 +18,12 @@ abbrev μ-loop : tie.MeasureT-loop
 μ-loop buf₀ cur var a b out₀ at₀ g₀ i₀ buf out at g i = 16 - i
 
 loop-holds : tie.Need-loop-holds Inv-loop μ-loop
-loop-holds c =
-    (rowing-start xor! xors! xors-row 16 (c .args .t1) (c .args .t2) (let h : length (c .args .t1) ≡ 16 = search needs in h) (let h : length (c .args .t2)
-        ≡ 16 = search needs in h) _ _ _ _, refl, refl)
+loop-holds c = (
+  rowing-start xor! xors! xors-row 16 (c .args .t1) (c .args .t2) (let h : length (c .args .t1) ≡ 16 = search needs in h) (let h : length (c .args .t2)
+      ≡ 16 = search needs in h) _ _ _ _,
+  refl,
+  refl,
+)
 
 mul-emit-xor : tie.Need-mul-emit-xor Inv-loop μ-loop
 mul-emit-xor c = omega arith
@@ -50,11 +53,14 @@ loop-less : tie.Need-loop-less Inv-loop μ-loop
 loop-less c = omega arith
 
 loop-again : tie.Need-loop-again Inv-loop μ-loop
-loop-again c =
-    (rowing-on xor! xors! xors-row 16 (c .before .before .before .before .before .args .t1) (c .before .before .before .before .before .args .t2) (let h :
-        length (c .before .before .before .before .before .args .t1) ≡ 16 = search needs in h) (let h : length (c .before .before .before .before
-        .before .args .t2) ≡ 16 = search needs in h) _ _ _ _ (c .before .before .before .loop-test .taken) (omega arith) (c .before .before .before
-        .before .loop .inv .0) _ _ _ refl refl (c .before .emit-xor .ensures), search needs, omega arith)
+loop-again c = (
+  rowing-on xor! xors! xors-row 16 (c .before .before .before .before .before .args .t1) (c .before .before .before .before .before .args .t2) (let h :
+      length (c .before .before .before .before .before .args .t1) ≡ 16 = search needs in h) (let h : length (c .before .before .before .before
+      .before .args .t2) ≡ 16 = search needs in h) _ _ _ _ (c .before .before .before .loop-test .taken) (omega arith) (c .before .before .before
+      .before .loop .inv .0) _ _ _ refl refl (c .before .emit-xor .ensures),
+  search needs,
+  omega arith,
+)
 
 same-length : tie.Need-same-length Inv-loop μ-loop
 same-length c = omega arith
@@ -62,8 +68,8 @@ same-length c = omega arith
 returns : tie.Need-returns Inv-loop μ-loop
 returns c =
     rowing-all xor! xors! xors-row 16 (c .before .before .args .t1) (c .before .before .args .t2) (let h : length (c .before .before .args .t1) ≡ 16 =
-        search needs in h) (let h : length (c .before .before .args .t2) ≡ 16 = search needs in h) _ _ _ _ (c .before .loop .inv .1) (c .loop-test
-        .left) (c .before .loop .inv .0)
+    search needs in h) (let h : length (c .before .before .args .t2) ≡ 16 = search needs in h) _ _ _ _ (c .before .loop .inv .1) (c .loop-test
+    .left) (c .before .loop .inv .0)
 
 pub xors-spec : {M : Type 1} → statement M
 xors-spec =

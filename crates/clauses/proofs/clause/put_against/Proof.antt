@@ -51,15 +51,16 @@ loop-less : tie.Need-loop-less Inv-loop μ-loop
 loop-less c = omega arith
 
 loop-again : tie.Need-loop-again Inv-loop μ-loop
-loop-again c =
-    ((λ g. putting-on (λ (bs : Bits). words (against (positive (c .before .before .before .before .before .before .before .before .before .before .args
-        .f)) bs)) _ _ _ _ (c .before .before .before .before .before .before .loop-test .taken) ((c .before .before .before .before .before .before
-        .before .loop .inv .0) g) _ (c .next .ensures) (clauseWords (negate (positive (c .before .before .before .before .before .before .before
-        .before .before .before .args .f)) ∷ negate (positive (c .before .before .before .before .before .before .before .loop .x)) ∷ [])) refl (λ b
-        h. clause-puts _ _ (ap₂ (λ (p q : Literal). p ∷ q ∷ []) (c .before .before .before .before .before .before .before .before .negate .ensures ∙
-        ap negate (c .before .before .before .before .before .before .before .before .before .positive .ensures (omega arith))) (c .before .before
-        .before .negate2 .ensures ∙ ap negate (c .before .before .before .before .positive2 .ensures b))) (c .before .before .clause2 .ensures))),
-        omega arith)
+loop-again c = (
+  (λ g. putting-on (λ (bs : Bits). words (against (positive (c .before .before .before .before .before .before .before .before .before .before .args
+      .f)) bs)) _ _ _ _ (c .before .before .before .before .before .before .loop-test .taken) ((c .before .before .before .before .before .before
+      .before .loop .inv .0) g) _ (c .next .ensures) (clauseWords (negate (positive (c .before .before .before .before .before .before .before
+      .before .before .before .args .f)) ∷ negate (positive (c .before .before .before .before .before .before .before .loop .x)) ∷ [])) refl (λ b
+      h. clause-puts _ _ (ap₂ (λ (p q : Literal). p ∷ q ∷ []) (c .before .before .before .before .before .before .before .before .negate .ensures ∙
+      ap negate (c .before .before .before .before .before .before .before .before .before .positive .ensures (omega arith))) (c .before .before
+      .before .negate2 .ensures ∙ ap negate (c .before .before .before .before .positive2 .ensures b))) (c .before .before .clause2 .ensures))),
+  omega arith,
+)
 
 same-length : tie.Need-same-length Inv-loop μ-loop
 same-length c = omega arith
@@ -67,7 +68,7 @@ same-length c = omega arith
 returns : tie.Need-returns Inv-loop μ-loop
 returns c =
     λ g h. putting-end (λ (bs : Bits). words (against (positive (c .before .before .before .before .args .f)) bs)) _ _ _ _ refl (c .loop-test .left) ((c
-        .before .loop .inv .0) g) h
+    .before .loop .inv .0) g) h
 
 pub put-against-spec : {M : Type 1} → statement M
 put-against-spec =

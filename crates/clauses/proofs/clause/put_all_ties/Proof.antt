@@ -35,10 +35,16 @@ loop-less : tie.Need-loop-less Inv-loop μ-loop
 loop-less c = omega arith
 
 loop-again : tie.Need-loop-again Inv-loop μ-loop
-loop-again c =
-    (tied-on _ _ _ _ _ _ _ (c .before .before .before .before .before .loop-test .taken) (omega (arith, c .before .before .before .before .before .before
-        .before .pre .0, c .before .before .before .before .before .before .before .pre .2)) (c .before .before .before .before .before .before .loop
-        .inv .0) _ (c .next .ensures) (c .before .before .put-ties .ensures), omega arith)
+loop-again c = (
+  tied-on _ _ _ _ _ _ _ (c .before .before .before .before .before .loop-test .taken) (omega (
+    arith,
+    c .before .before .before .before .before .before
+        .before .pre .0,
+    c .before .before .before .before .before .before .before .pre .2,
+  )) (c .before .before .before .before .before .before .loop
+      .inv .0) _ (c .next .ensures) (c .before .before .put-ties .ensures),
+  omega arith,
+)
 
 same-length : tie.Need-same-length Inv-loop μ-loop
 same-length c = omega (arith, c .before .loop .inv .1)

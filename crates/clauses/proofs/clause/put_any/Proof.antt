@@ -40,10 +40,12 @@ loop-less : tie.Need-loop-less Inv-loop μ-loop
 loop-less c = omega arith
 
 loop-again : tie.Need-loop-again Inv-loop μ-loop
-loop-again c =
-    (putting-on clauseWords _ _ _ _ (c .before .before .before .before .before .loop-test .taken) (c .before .before .before .before .before .before .loop
-        .inv .0) _ (c .next .ensures) (wordOf (positive (c .before .before .before .before .before .before .loop .x)) ∷ []) refl (λ b h. literal-puts
-        _ (c .before .before .before .positive .ensures) b (c .before .before .put-literal .ensures)), omega arith)
+loop-again c = (
+  putting-on clauseWords _ _ _ _ (c .before .before .before .before .before .loop-test .taken) (c .before .before .before .before .before .before .loop
+      .inv .0) _ (c .next .ensures) (wordOf (positive (c .before .before .before .before .before .before .loop .x)) ∷ []) refl (λ b h. literal-puts
+      _ (c .before .before .before .positive .ensures) b (c .before .before .put-literal .ensures)),
+  omega arith,
+)
 
 put-end-requires : tie.Need-put-end-requires Inv-loop μ-loop
 put-end-requires c κs = tt

@@ -60,15 +60,17 @@ loop-less : tie.Need-loop-less Inv-loop μ-loop
 loop-less c = omega arith
 
 loop-again : tie.Need-loop-again Inv-loop μ-loop
-loop-again c =
-    ((λ g. tying-on _ _ _ _ _ _ (c .before .before .before .before .before .before .before .before .before .before .before .before .loop-test .taken) ((c
-        .before .before .before .before .before .before .before .before .before .before .before .before .before .loop .inv .0) g) _ _ _ _ _ _ _ (c
-        .before .before .before .before .before .before .before .before .before .before .before .before .before .before .negate .ensures ∙ ap negate
-        (c .before .before .before .before .before .before .before .before .before .before .before .before .before .before .before .positive .ensures
-        (omega arith))) (c .before .before .before .before .before .before .before .before .before .before .before .positive2 .ensures) (c .before
-        .before .before .before .before .before .before .before .negate2 .ensures) (c .before .before .before .before .before .before .before .before
-        .before .before .positive3 .ensures) (c .before .before .before .before .negate3 .ensures) (c .before .next .ensures) (c .next2 .ensures) (c
-        .before .before .before .before .before .before .before .clause3 .ensures) (c .before .before .before .clause32 .ensures)), omega arith)
+loop-again c = (
+  (λ g. tying-on _ _ _ _ _ _ (c .before .before .before .before .before .before .before .before .before .before .before .before .loop-test .taken) ((c
+      .before .before .before .before .before .before .before .before .before .before .before .before .before .loop .inv .0) g) _ _ _ _ _ _ _ (c
+      .before .before .before .before .before .before .before .before .before .before .before .before .before .before .negate .ensures ∙ ap negate
+      (c .before .before .before .before .before .before .before .before .before .before .before .before .before .before .before .positive .ensures
+      (omega arith))) (c .before .before .before .before .before .before .before .before .before .before .before .positive2 .ensures) (c .before
+      .before .before .before .before .before .before .before .negate2 .ensures) (c .before .before .before .before .before .before .before .before
+      .before .before .positive3 .ensures) (c .before .before .before .before .negate3 .ensures) (c .before .next .ensures) (c .next2 .ensures) (c
+      .before .before .before .before .before .before .before .clause3 .ensures) (c .before .before .before .clause32 .ensures)),
+  omega arith,
+)
 
 same-length : tie.Need-same-length Inv-loop μ-loop
 same-length c = omega arith

@@ -37,9 +37,11 @@ loop-less : tie.Need-loop-less Inv-loop μ-loop
 loop-less c = omega arith
 
 loop-again : tie.Need-loop-again Inv-loop μ-loop
-loop-again c =
-    (giving-on _ _ _ _ _ (c .before .before .before .before .before .loop-test .taken) (c .before .before .before .before .before .before .loop .inv .0) _
-        _ (c .before .before .before .signed-by .ensures) (c .next .ensures) (c .before .before .clause1 .ensures), omega arith)
+loop-again c = (
+  giving-on _ _ _ _ _ (c .before .before .before .before .before .loop-test .taken) (c .before .before .before .before .before .before .loop .inv .0) _
+      _ (c .before .before .before .signed-by .ensures) (c .next .ensures) (c .before .before .clause1 .ensures),
+  omega arith,
+)
 
 same-length : tie.Need-same-length Inv-loop μ-loop
 same-length c = omega arith

@@ -41,7 +41,7 @@ loop-less c = omega arith
 loop-again : tie.Need-loop-again Inv-loop μ-loop
 loop-again c =
     listing-on _ _ _ (c .before .before .before .before .pre) (c .before .before .loop-test .taken) (c .before .before .before .loop .inv) (c .before
-        .positive .ensures) (c .next .ensures)
+    .positive .ensures) (c .next .ensures)
 
 returns : tie.Need-returns Inv-loop μ-loop
 returns c = listing-end _ (c .loop-test .left) (c .before .loop .inv)

@@ -38,9 +38,15 @@ size-bool-sub-size-bool : (t : ℕ) → size-bool-lts.Need-sub-size-bool (size-b
 size-bool-sub-size-bool t c = omega (arith, bool-live _ _ _ _ _ (c .before .before .before .before .pre .1 .0) .deep)
 
 size-bool-size-bool-requires : (t : ℕ) → size-bool-lts.Need-size-bool-requires (size-bool-claims t) (size-bool-at t) size-bool.Post
-size-bool-size-bool-requires t c κs =
-    (omega (arith, bool-live _ _ _ _ _ (c .before .before .before .before .pre .1 .0) .deep), (not-first _ _ _ _ _ (c .before .before .before .before .pre
-        .1 .0) (c .match .keys1), omega arith, omega arith))
+size-bool-size-bool-requires t c κs = (
+  omega (arith, bool-live _ _ _ _ _ (c .before .before .before .before .pre .1 .0) .deep),
+  (
+    not-first _ _ _ _ _ (c .before .before .before .before .pre
+        .1 .0) (c .match .keys1),
+    omega arith,
+    omega arith,
+  ),
+)
 
 size-bool-add-t19 : (t : ℕ) → size-bool-lts.Need-add-t19 (size-bool-claims t) (size-bool-at t) size-bool.Post
 size-bool-add-t19 t c =
@@ -53,9 +59,15 @@ size-bool-sub-size-bool-2 : (t : ℕ) → size-bool-lts.Need-sub-size-bool-2 (si
 size-bool-sub-size-bool-2 t c = omega (arith, bool-live _ _ _ _ _ (c .before .before .before .before .before .before .before .pre .1 .0) .deep)
 
 size-bool-size-bool-requires-2 : (t : ℕ) → size-bool-lts.Need-size-bool-requires-2 (size-bool-claims t) (size-bool-at t) size-bool.Post
-size-bool-size-bool-requires-2 t c κs =
-    (omega (arith, bool-live _ _ _ _ _ (c .before .before .before .before .before .before .before .pre .1 .0) .deep), (logic-first _ _ _ _ _ (c .before
-        .before .before .before .before .before .before .pre .1 .0) (omega arith) (omega arith), omega arith, omega arith))
+size-bool-size-bool-requires-2 t c κs = (
+  omega (arith, bool-live _ _ _ _ _ (c .before .before .before .before .before .before .before .pre .1 .0) .deep),
+  (
+    logic-first _ _ _ _ _ (c .before
+        .before .before .before .before .before .before .pre .1 .0) (omega arith) (omega arith),
+    omega arith,
+    omega arith,
+  ),
+)
 
 size-bool-sub-size-bool-3 : (t : ℕ) → size-bool-lts.Need-sub-size-bool-3 (size-bool-claims t) (size-bool-at t) size-bool.Post
 size-bool-sub-size-bool-3 t c =
@@ -63,16 +75,22 @@ size-bool-sub-size-bool-3 t c =
     omega (arith, bool-live _ _ _ _ _ (entry .pre .1 .0) .deep)
 
 size-bool-size-bool-requires-3 : (t : ℕ) → size-bool-lts.Need-size-bool-requires-3 (size-bool-claims t) (size-bool-at t) size-bool.Post
-size-bool-size-bool-requires-3 t c κs =
-    (omega (arith, bool-live _ _ _ _ _ (c .before .before .before .before .before .before .before .before .pre .1 .0) .deep), (bool-then _ _ _ _ _ (c
-        .before .before .before .before .before .before .before .before .pre .1 .0) (omega arith) (omega arith) _ (c .size-bool2 .ensures), omega
-        arith, omega arith))
+size-bool-size-bool-requires-3 t c κs = (
+  omega (arith, bool-live _ _ _ _ _ (c .before .before .before .before .before .before .before .before .pre .1 .0) .deep),
+  (
+    bool-then _ _ _ _ _ (c
+        .before .before .before .before .before .before .before .before .pre .1 .0) (omega arith) (omega arith) _ (c .size-bool2 .ensures),
+    omega
+        arith,
+    omega arith,
+  ),
+)
 
 size-bool-join-requires : (t : ℕ) → size-bool-lts.Need-join-requires (size-bool-claims t) (size-bool-at t) size-bool.Post
 size-bool-join-requires t c κs =
     let entry = c .before .before .before .before .before .before .before .before .before in
     let f = bool-few _ _ _ (entry .pre .1 .2) _ _ _ (c .before .size-bool2 .ensures) in let g = bool-few _ _ _ (entry .pre .1 .2) _ _ _ (c .size-bool3
-        .ensures) in (omega (arith, f .ands, g .ands), omega (arith, f .wides, g .wides))
+    .ensures) in (omega (arith, f .ands, g .ands), omega (arith, f .wides, g .wides))
 
 size-bool-add-size-int : (t : ℕ) → size-bool-lts.Need-add-size-int (size-bool-claims t) (size-bool-at t) size-bool.Post
 size-bool-add-size-int t c =
@@ -85,9 +103,11 @@ size-bool-sub-size-int t c =
     omega (arith, bool-live _ _ _ _ _ (entry .pre .1 .0) .deep)
 
 size-bool-size-int-requires : (t : ℕ) → size-bool-lts.Need-size-int-requires (size-bool-claims t) (size-bool-at t) size-bool.Post
-size-bool-size-int-requires t c κs =
-    (compare-first _ _ _ _ _ (c .before .before .before .before .before .before .before .before .pre .1 .0) (omega arith) (omega arith), omega arith,
-        omega arith)
+size-bool-size-int-requires t c κs = (
+  compare-first _ _ _ _ _ (c .before .before .before .before .before .before .before .before .pre .1 .0) (omega arith) (omega arith),
+  omega arith,
+  omega arith,
+)
 
 size-bool-sub-size-int-2 : (t : ℕ) → size-bool-lts.Need-sub-size-int-2 (size-bool-claims t) (size-bool-at t) size-bool.Post
 size-bool-sub-size-int-2 t c =
@@ -95,21 +115,24 @@ size-bool-sub-size-int-2 t c =
     omega (arith, bool-live _ _ _ _ _ (entry .pre .1 .0) .deep)
 
 size-bool-size-int-requires-2 : (t : ℕ) → size-bool-lts.Need-size-int-requires-2 (size-bool-claims t) (size-bool-at t) size-bool.Post
-size-bool-size-int-requires-2 t c κs =
-    (compare-then _ _ _ _ _ (c .before .before .before .before .before .before .before .before .before .pre .1 .0) (omega arith) (omega arith) _ (c
-        .size-int .ensures), omega arith, omega arith)
+size-bool-size-int-requires-2 t c κs = (
+  compare-then _ _ _ _ _ (c .before .before .before .before .before .before .before .before .before .pre .1 .0) (omega arith) (omega arith) _ (c
+      .size-int .ensures),
+  omega arith,
+  omega arith,
+)
 
 size-bool-join-requires-2 : (t : ℕ) → size-bool-lts.Need-join-requires-2 (size-bool-claims t) (size-bool-at t) size-bool.Post
 size-bool-join-requires-2 t c κs =
     let entry = c .before .before .before .before .before .before .before .before .before .before .before in
     let f = int-few _ _ _ (entry .pre .1 .2) _ _ _ (c .before .before .size-int .ensures) in let g = int-few _ _ _ (entry .pre .1 .2) _ _ _ (c .before
-        .size-int2 .ensures) in (omega (arith, f .ands, g .ands), omega (arith, f .wides, g .wides))
+    .size-int2 .ensures) in (omega (arith, f .ands, g .ands), omega (arith, f .wides, g .wides))
 
 size-bool-join-requires-3 : (t : ℕ) → size-bool-lts.Need-join-requires-3 (size-bool-claims t) (size-bool-at t) size-bool.Post
 size-bool-join-requires-3 t c κs =
     let entry = c .before .before .before .before .before .before .before .before .before .before .before in
     let f = int-few _ _ _ (entry .pre .1 .2) _ _ _ (c .before .before .size-int .ensures) in let g = int-few _ _ _ (entry .pre .1 .2) _ _ _ (c .before
-        .size-int2 .ensures) in (omega (arith, f .ands, g .ands), omega (arith, f .wides, g .wides))
+    .size-int2 .ensures) in (omega (arith, f .ands, g .ands), omega (arith, f .wides, g .wides))
 
 size-bool-returns : (t : ℕ) → size-bool-lts.Need-returns (size-bool-claims t) (size-bool-at t) size-bool.Post
 size-bool-returns t c =
@@ -121,19 +144,19 @@ size-bool-returns-2 t c = bool-name _ _ _ _ _ (c .before .before .before .before
 size-bool-returns-3 : (t : ℕ) → size-bool-lts.Need-returns-3 (size-bool-claims t) (size-bool-at t) size-bool.Post
 size-bool-returns-3 t c =
     c .join .ensures ∙ bool-joined _ _ _ _ _ (c .before .before .before .before .before .before .before .before .before .before .pre .1 .0) (omega arith)
-        (omega arith) _ _ (c .before .before .size-bool2 .ensures) (c .before .size-bool3 .ensures)
+    (omega arith) _ _ (c .before .before .size-bool2 .ensures) (c .before .size-bool3 .ensures)
 
 size-bool-returns-4 : (t : ℕ) → size-bool-lts.Need-returns-4 (size-bool-claims t) (size-bool-at t) size-bool.Post
 size-bool-returns-4 t c =
     c .join2 .ensures ∙ equal-joined _ _ _ _ _ (c .before .before .before .before .before .before .before .before .before .before .before .before .pre .1
-        .0) (omega arith) (omega arith) _ _ (c .before .before .before .size-int .ensures) (c .before .before .size-int2 .ensures) (c .before .if5
-        .taken)
+    .0) (omega arith) (omega arith) _ _ (c .before .before .before .size-int .ensures) (c .before .before .size-int2 .ensures) (c .before .if5
+    .taken)
 
 size-bool-returns-5 : (t : ℕ) → size-bool-lts.Need-returns-5 (size-bool-claims t) (size-bool-at t) size-bool.Post
 size-bool-returns-5 t c =
     c .join3 .ensures ∙ less-joined _ _ _ _ _ (c .before .before .before .before .before .before .before .before .before .before .before .before .pre .1
-        .0) (omega arith) (omega arith) _ _ (c .before .before .before .size-int .ensures) (c .before .before .size-int2 .ensures) (c .before .if5
-        .left)
+    .0) (omega arith) (omega arith) _ _ (c .before .before .before .size-int .ensures) (c .before .before .size-int2 .ensures) (c .before .if5
+    .left)
 
 size-bool-returns-6 : (t : ℕ) → size-bool-lts.Need-returns-6 (size-bool-claims t) (size-bool-at t) size-bool.Post
 size-bool-returns-6 t c = absurd (bool-unknown _ _ _ _ _ (c .before .before .before .before .before .pre .1 .0) (inl (omega arith)))

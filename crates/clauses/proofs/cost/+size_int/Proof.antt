@@ -43,9 +43,15 @@ size-int-sub-size-int : (t : ℕ) → size-int-lts.Need-sub-size-int (size-int-c
 size-int-sub-size-int t c = omega (arith, int-live _ _ _ _ _ (c .before .before .before .before .before .before .before .pre .1 .0) .deep)
 
 size-int-size-int-requires : (t : ℕ) → size-int-lts.Need-size-int-requires (size-int-claims t) (size-int-at t) size-int.Post
-size-int-size-int-requires t c κs =
-    (omega (arith, int-live _ _ _ _ _ (c .before .before .before .before .before .before .before .pre .1 .0) .deep), (int-first _ _ _ _ _ (c .before
-        .before .before .before .before .before .before .pre .1 .0) (omega arith) (omega arith), omega arith, omega arith))
+size-int-size-int-requires t c κs = (
+  omega (arith, int-live _ _ _ _ _ (c .before .before .before .before .before .before .before .pre .1 .0) .deep),
+  (
+    int-first _ _ _ _ _ (c .before
+        .before .before .before .before .before .before .pre .1 .0) (omega arith) (omega arith),
+    omega arith,
+    omega arith,
+  ),
+)
 
 size-int-sub-size-int-2 : (t : ℕ) → size-int-lts.Need-sub-size-int-2 (size-int-claims t) (size-int-at t) size-int.Post
 size-int-sub-size-int-2 t c =
@@ -53,16 +59,21 @@ size-int-sub-size-int-2 t c =
     omega (arith, int-live _ _ _ _ _ (entry .pre .1 .0) .deep)
 
 size-int-size-int-requires-2 : (t : ℕ) → size-int-lts.Need-size-int-requires-2 (size-int-claims t) (size-int-at t) size-int.Post
-size-int-size-int-requires-2 t c κs =
-    (omega (arith, int-live _ _ _ _ _ (c .before .before .before .before .before .before .before .before .pre .1 .0) .deep), (int-then _ _ _ _ _ (c
-        .before .before .before .before .before .before .before .before .pre .1 .0) (omega arith) (omega arith) _ (c .size-int .ensures), omega arith,
-        omega arith))
+size-int-size-int-requires-2 t c κs = (
+  omega (arith, int-live _ _ _ _ _ (c .before .before .before .before .before .before .before .before .pre .1 .0) .deep),
+  (
+    int-then _ _ _ _ _ (c
+        .before .before .before .before .before .before .before .before .pre .1 .0) (omega arith) (omega arith) _ (c .size-int .ensures),
+    omega arith,
+    omega arith,
+  ),
+)
 
 size-int-join-requires : (t : ℕ) → size-int-lts.Need-join-requires (size-int-claims t) (size-int-at t) size-int.Post
 size-int-join-requires t c κs =
     let entry = c .before .before .before .before .before .before .before .before .before in
     let f = int-few _ _ _ (entry .pre .1 .2) _ _ _ (c .before .size-int .ensures) in let g = int-few _ _ _ (entry .pre .1 .2) _ _ _ (c .size-int2
-        .ensures) in (omega (arith, f .ands, g .ands), omega (arith, f .wides, g .wides))
+    .ensures) in (omega (arith, f .ands, g .ands), omega (arith, f .wides, g .wides))
 
 size-int-returns : (t : ℕ) → size-int-lts.Need-returns (size-int-claims t) (size-int-at t) size-int.Post
 size-int-returns t c = int-number _ _ _ _ _ (c .before .before .before .before .pre .1 .0) (c .match .keys1) .1
@@ -73,7 +84,7 @@ size-int-returns-2 t c = int-name _ _ _ _ _ (c .before .before .before .before .
 size-int-returns-3 : (t : ℕ) → size-int-lts.Need-returns-3 (size-int-claims t) (size-int-at t) size-int.Post
 size-int-returns-3 t c =
     c .join .ensures ∙ int-joined _ _ _ _ _ (c .before .before .before .before .before .before .before .before .before .before .pre .1 .0) (omega arith)
-        (omega arith) _ _ (c .before .before .size-int .ensures) (c .before .size-int2 .ensures)
+    (omega arith) _ _ (c .before .before .size-int .ensures) (c .before .size-int2 .ensures)
 
 size-int-returns-4 : (t : ℕ) → size-int-lts.Need-returns-4 (size-int-claims t) (size-int-at t) size-int.Post
 size-int-returns-4 t c = absurd (int-unknown _ _ _ _ _ (c .before .before .before .before .before .pre .1 .0) (inl (omega arith)))

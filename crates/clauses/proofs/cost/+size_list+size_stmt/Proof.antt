@@ -65,16 +65,29 @@ size-list-loop-holds : (t : ℕ) → size-list-lts.Need-loop-holds (size-list-cl
 size-list-loop-holds t c = counting-start _ _ _ _ _ _ _ (c .wide .ensures .0) (c .before .before .before .before .pre .1 .0)
 
 size-list-size-stmt-requires : (t : ℕ) → size-list-lts.Need-size-stmt-requires (size-list-claims t) (size-list-at t) size-list.Post size-list-Inv-loop size-list-μ-loop
-size-list-size-stmt-requires t c κs =
-    (omega (arith, list-live _ _ _ _ _ (c .before .before .before .before .before .before .pre .1 .0), c .before .loop .inv .on, stmt-live _ _ _ _ _
-        (seq-first _ _ _ _ _ _ (c .before .loop .inv .live) (c .loop-test .taken))), (seq-first _ _ _ _ _ _ (c .before .loop .inv .live) (c .loop-test
-        .taken), omega arith, omega arith, omega arith, omega arith))
+size-list-size-stmt-requires t c κs = (
+  omega (
+    arith,
+    list-live _ _ _ _ _ (c .before .before .before .before .before .before .pre .1 .0),
+    c .before .loop .inv .on,
+    stmt-live _ _ _ _ _
+        (seq-first _ _ _ _ _ _ (c .before .loop .inv .live) (c .loop-test .taken)),
+  ),
+  (
+    seq-first _ _ _ _ _ _ (c .before .loop .inv .live) (c .loop-test
+        .taken),
+    omega arith,
+    omega arith,
+    omega arith,
+    omega arith,
+  ),
+)
 
 size-list-join-requires : (t : ℕ) → size-list-lts.Need-join-requires (size-list-claims t) (size-list-at t) size-list.Post size-list-Inv-loop size-list-μ-loop
 size-list-join-requires t c κs =
     let entry = c .before .before .before .before .before .before .before in
     let f = counting-few _ _ _ _ _ _ _ _ (entry .pre .1 .2) (entry .pre .1 .4) (c .before .before .loop .inv) in let g = statement-few _ _ _ (entry .pre
-        .1 .2) _ (entry .pre .1 .4) _ _ _ (c .size-stmt .ensures) in (omega (arith, f .0, g .ands), omega (arith, f .1, g .wides))
+    .1 .2) _ (entry .pre .1 .4) _ _ _ (c .size-stmt .ensures) in (omega (arith, f .0, g .ands), omega (arith, f .1, g .wides))
 
 size-list-sub-left : (t : ℕ) → size-list-lts.Need-sub-left (size-list-claims t) (size-list-at t) size-list.Post size-list-Inv-loop size-list-μ-loop
 size-list-sub-left t c = omega arith
@@ -85,7 +98,7 @@ size-list-loop-less t c = omega arith
 size-list-loop-again : (t : ℕ) → size-list-lts.Need-loop-again (size-list-claims t) (size-list-at t) size-list.Post size-list-Inv-loop size-list-μ-loop
 size-list-loop-again t c =
     counting-on _ _ _ _ _ _ _ _ _ _ (c .before .before .loop-test .taken) (c .before .before .before .loop .inv) (c .before .size-stmt .ensures) (c .join
-        .ensures)
+    .ensures)
 
 size-list-returns : (t : ℕ) → size-list-lts.Need-returns (size-list-claims t) (size-list-at t) size-list.Post size-list-Inv-loop size-list-μ-loop
 size-list-returns t c = counting-end _ _ _ _ _ _ _ _ (c .loop-test .left) (c .before .loop .inv)
@@ -119,10 +132,21 @@ size-stmt-sub-size-list t c =
     omega (arith, if-deep _ _ _ _ _ (c .before .before .before .before .before .before .before .pre .1 .0) (c .before .if3 .left))
 
 size-stmt-size-list-requires : (t : ℕ) → size-stmt-lts.Need-size-list-requires (size-stmt-claims t) (size-stmt-at t) size-stmt.Post
-size-stmt-size-list-requires t c κs =
-    (omega (arith, first-on _ _ _ _ _ (c .before .before .before .before .before .before .before .pre .1 .0) (c .before .if3 .left) _ (c .size-bool
-        .ensures)), (if-first _ _ _ _ _ (c .before .before .before .before .before .before .before .pre .1 .0) (c .before .if3 .left) _ (c .size-bool
-        .ensures), omega arith, omega arith, omega arith, omega arith))
+size-stmt-size-list-requires t c κs = (
+  omega (
+    arith,
+    first-on _ _ _ _ _ (c .before .before .before .before .before .before .before .pre .1 .0) (c .before .if3 .left) _ (c .size-bool
+        .ensures),
+  ),
+  (
+    if-first _ _ _ _ _ (c .before .before .before .before .before .before .before .pre .1 .0) (c .before .if3 .left) _ (c .size-bool
+        .ensures),
+    omega arith,
+    omega arith,
+    omega arith,
+    omega arith,
+  ),
+)
 
 size-stmt-sub-size-list-2 : (t : ℕ) → size-stmt-lts.Need-sub-size-list-2 (size-stmt-claims t) (size-stmt-at t) size-stmt.Post
 size-stmt-sub-size-list-2 t c =
@@ -130,32 +154,51 @@ size-stmt-sub-size-list-2 t c =
     omega (arith, if-deep _ _ _ _ _ (entry .pre .1 .0) (c .before .before .if3 .left))
 
 size-stmt-size-list-requires-2 : (t : ℕ) → size-stmt-lts.Need-size-list-requires-2 (size-stmt-claims t) (size-stmt-at t) size-stmt.Post
-size-stmt-size-list-requires-2 t c κs =
-    (omega (arith, second-on _ _ _ _ _ (c .before .before .before .before .before .before .before .before .pre .1 .0) (c .before .before .if3 .left) _ (c
-        .before .size-bool .ensures) _ _ (c .size-list .ensures)), (if-second _ _ _ _ _ (c .before .before .before .before .before .before .before
-        .before .pre .1 .0) (c .before .before .if3 .left) _ (c .before .size-bool .ensures) _ _ (c .size-list .ensures), omega arith, omega arith,
-        omega arith, omega arith))
+size-stmt-size-list-requires-2 t c κs = (
+  omega (
+    arith,
+    second-on _ _ _ _ _ (c .before .before .before .before .before .before .before .before .pre .1 .0) (c .before .before .if3 .left) _ (c
+        .before .size-bool .ensures) _ _ (c .size-list .ensures),
+  ),
+  (
+    if-second _ _ _ _ _ (c .before .before .before .before .before .before .before
+        .before .pre .1 .0) (c .before .before .if3 .left) _ (c .before .size-bool .ensures) _ _ (c .size-list .ensures),
+    omega arith,
+    omega arith,
+    omega arith,
+    omega arith,
+  ),
+)
 
 size-stmt-join-requires : (t : ℕ) → size-stmt-lts.Need-join-requires (size-stmt-claims t) (size-stmt-at t) size-stmt.Post
 size-stmt-join-requires t c κs =
     let entry = c .before .before .before .before .before .before .before .before .before in
     let f = bool-few _ _ _ (entry .pre .1 .2) _ _ _ (c .before .before .size-bool .ensures) in let g = list-few _ _ _ (entry .pre .1 .2) _ (entry .pre .1
-        .4) _ _ _ (c .before .size-list .ensures) in (omega (arith, f .ands, g .ands), omega (arith, f .wides, g .wides))
+    .4) _ _ _ (c .before .size-list .ensures) in (omega (arith, f .ands, g .ands), omega (arith, f .wides, g .wides))
 
 size-stmt-join-requires-2 : (t : ℕ) → size-stmt-lts.Need-join-requires-2 (size-stmt-claims t) (size-stmt-at t) size-stmt.Post
 size-stmt-join-requires-2 t c κs =
     let entry = c .before .before .before .before .before .before .before .before .before .before in
     let f = bool-few _ _ _ (entry .pre .1 .2) _ _ _ (c .before .before .before .size-bool .ensures) in let g = list-few _ _ _ (entry .pre .1 .2) _ (entry
-        .pre .1 .4) _ _ _ (c .before .before .size-list .ensures) in let k = list-few _ _ _ (entry .pre .1 .2) _ (entry .pre .1 .4) _ _ _ (c .before
-        .size-list2 .ensures) in let e = c .join .ensures in (omega (arith, f .ands, g .ands, k .ands, ap (λ (z : GatesAt). z .ands) e), omega (arith,
-        f .wides, g .wides, k .wides, entry .pre .1 .4, ap (λ (z : GatesAt). z .wides) e))
+    .pre .1 .4) _ _ _ (c .before .before .size-list .ensures) in let k = list-few _ _ _ (entry .pre .1 .2) _ (entry .pre .1 .4) _ _ _ (c .before
+    .size-list2 .ensures) in let e = c .join .ensures in (
+      omega (arith, f .ands, g .ands, k .ands, ap (λ (z : GatesAt). z .ands) e),
+      omega (
+        arith,
+        f .wides,
+        g .wides,
+        k .wides,
+        entry .pre .1 .4,
+        ap (λ (z : GatesAt). z .wides) e,
+      ),
+    )
 
 size-stmt-returns-2 : (t : ℕ) → size-stmt-lts.Need-returns-2 (size-stmt-claims t) (size-stmt-at t) size-stmt.Post
 size-stmt-returns-2 t c =
     let entry = c .before .before .before .before .before .before .before .before .before .before .before in
     if-joined _ _ _ _ _ (entry .pre .1 .0) (c .before .before .before .before .before .if3 .left) _ (c .before .before .before .before .size-bool
-        .ensures) _ _ (c .before .before .before .size-list .ensures) _ _ _ (c .before .before .size-list2 .ensures) (c .before .join .ensures) (c
-        .join2 .ensures)
+    .ensures) _ _ (c .before .before .before .size-list .ensures) _ _ _ (c .before .before .size-list2 .ensures) (c .before .join .ensures) (c
+    .join2 .ensures)
 
 size-stmt-returns-3 : (t : ℕ) → size-stmt-lts.Need-returns-3 (size-stmt-claims t) (size-stmt-at t) size-stmt.Post
 size-stmt-returns-3 t c = absurd (stmt-unknown _ _ _ _ _ (c .before .before .before .before .pre .1 .0) (inl (c .if1 .taken)))

@@ -16,12 +16,15 @@ returns-2 c = decode-property _ _ _ _ _ (accepted-zero _ _ (c .before .before .b
 returns-3 : tie.Need-returns-3
 returns-3 c =
     decode-bound _ _ _ _ _ (accepted-zero _ _ (c .before .before .before .before .check .ensures) (c .before .before .if1 .left)) (c .before .if2 .left)
-        (c .if3 .taken)
+    (c .if3 .taken)
 
 decode-accepted-requires : tie.Need-decode-accepted-requires
-decode-accepted-requires c κs =
-    (accepted-zero _ _ (c .before .before .before .before .before .check .ensures) (c .before .before .before .if1 .left), c .before .before .if2 .left, c
-        .before .if3 .left)
+decode-accepted-requires c κs = (
+  accepted-zero _ _ (c .before .before .before .before .before .check .ensures) (c .before .before .before .if1 .left),
+  c .before .before .if2 .left,
+  c
+      .before .if3 .left,
+)
 
 same-length : tie.Need-same-length
 same-length c = search needs

@@ -14,15 +14,21 @@ variables-requires c κs = search needs
 returns : tie.Need-returns
 returns c =
     let entry = c .before .before .before .before .before .before in
-    short-values _ _ _ _ _ (entry .pre .0) (entry .pre .1) (entry .pre .2) (λ i. omega (arith, c .before .before .before .before .before
-        .shared-slice-known .given i)) _ (c .before .before .sizes .ensures .1) _ (c .before .variables .ensures .0) (c .if1 .taken)
+    short-values _ _ _ _ _ (entry .pre .0) (entry .pre .1) (entry .pre .2) (λ i. omega (
+      arith,
+      c .before .before .before .before .before
+          .shared-slice-known .given i,
+    )) _ (c .before .before .sizes .ensures .1) _ (c .before .variables .ensures .0) (c .if1 .taken)
 
 returns-2 : tie.Need-returns-2
 returns-2 c =
     let entry = c .before .before .before .before .before .before .before in
-    short-choices _ _ _ _ _ (entry .pre .0) (entry .pre .1) (entry .pre .2) (λ i. omega (arith, c .before .before .before .before .before .before
-        .shared-slice-known .given i)) _ (c .before .before .before .sizes .ensures .1) _ (c .before .before .variables .ensures .0) (c .before .if1
-        .left) (c .if2 .taken)
+    short-choices _ _ _ _ _ (entry .pre .0) (entry .pre .1) (entry .pre .2) (λ i. omega (
+      arith,
+      c .before .before .before .before .before .before
+          .shared-slice-known .given i,
+    )) _ (c .before .before .before .sizes .ensures .1) _ (c .before .before .variables .ensures .0) (c .before .if1
+    .left) (c .if2 .taken)
 
 frame-length-requires : tie.Need-frame-length-requires
 frame-length-requires c κs = search needs
@@ -40,7 +46,7 @@ first-bad-requires : tie.Need-first-bad-requires
 first-bad-requires c κs =
     let entry = c .before .before .before .before .before .before .before .before .before .before in
     frames-fit (entry .args .values .now) (c .before .before .before .before .before .before .sizes .result) (entry .args .bound) _ _ (c .before .before
-        .before .before .before .variables .ensures .0) (c .before .before .before .before .if1 .left) (c .before .before .frame-length .ensures .0)
+    .before .before .before .variables .ensures .0) (c .before .before .before .before .if1 .left) (c .before .before .frame-length .ensures .0)
 
 returns-3 : tie.Need-returns-3
 returns-3 c =
@@ -48,9 +54,9 @@ returns-3 c =
     let at-shared-slice-known = at-sizes .before .before .before in
     let entry = at-shared-slice-known .before in
     bad-frame _ _ _ _ _ (entry .pre .0) (entry .pre .1) (entry .pre .2) (λ i. omega (arith, at-shared-slice-known .shared-slice-known .given i)) _
-        (at-sizes .sizes .ensures .1) _ (c .before .before .before .before .before .before .before .variables .ensures .0) (c .before .before .before
-        .before .before .before .if1 .left) (c .before .before .before .before .before .if2 .left) _ _ _ (c .before .before .before .before
-        .frame-length .ensures .0) refl refl _ (c .before .first-bad .ensures .0) (c .if3 .taken)
+    (at-sizes .sizes .ensures .1) _ (c .before .before .before .before .before .before .before .variables .ensures .0) (c .before .before .before
+    .before .before .before .if1 .left) (c .before .before .before .before .before .if2 .left) _ _ _ (c .before .before .before .before
+    .frame-length .ensures .0) refl refl _ (c .before .first-bad .ensures .0) (c .if3 .taken)
 
 write-choices-requires : tie.Need-write-choices-requires
 write-choices-requires c κs =
@@ -58,8 +64,13 @@ write-choices-requires c κs =
     let at-sizes = at-variables .before in
     let entry = at-sizes .before .before .before .before in
     let h = frames-fit (entry .args .values .now) (at-sizes .sizes .result) (entry .args .bound) _ _ (at-variables .variables .ensures .0) (c .before
-        .before .before .before .before .before .before .if1 .left) (c .before .before .before .before .before .frame-length .ensures .0) in (h .0, h
-        .1, at-sizes .sizes .ensures .0 .movers, c .before .before .before .before .before .before .if2 .left)
+    .before .before .before .before .before .before .if1 .left) (c .before .before .before .before .before .frame-length .ensures .0) in (
+      h .0,
+      h
+          .1,
+      at-sizes .sizes .ensures .0 .movers,
+      c .before .before .before .before .before .before .if2 .left,
+    )
 
 same-length : tie.Need-same-length
 same-length c = search needs
@@ -74,9 +85,9 @@ returns-4 c =
     let at-shared-slice-known = at-sizes .before .before .before in
     let entry = at-shared-slice-known .before in
     good-frames _ _ _ _ _ (entry .pre .0) (entry .pre .1) (entry .pre .2) (λ i. omega (arith, at-shared-slice-known .shared-slice-known .given i)) _
-        (at-sizes .sizes .ensures .1) _ (at-variables .variables .ensures .0) (at-if1 .if1 .left) (at-if2 .if2 .left) _ _ _ (at-frame-length
-        .frame-length .ensures .0) refl refl _ (c .before .before .before .before .before .first-bad .ensures .0) (c .before .before .before .before
-        .if3 .left) _ (c .before .before .write-choices .ensures)
+    (at-sizes .sizes .ensures .1) _ (at-variables .variables .ensures .0) (at-if1 .if1 .left) (at-if2 .if2 .left) _ _ _ (at-frame-length
+    .frame-length .ensures .0) refl refl _ (c .before .before .before .before .before .first-bad .ensures .0) (c .before .before .before .before
+    .if3 .left) _ (c .before .before .write-choices .ensures)
 
 pub decode-accepted-spec : {M : Type 1} → statement M
 decode-accepted-spec =

@@ -30,9 +30,11 @@ chosen-requires : tie.Need-chosen-requires Inv-loop μ-loop
 chosen-requires c κs = search needs
 
 returns : tie.Need-returns Inv-loop μ-loop
-returns c =
-    (testing-bad _ _ _ _ _ _ _ (c .before .before .before .loop-test .taken) (c .before .before .before .before .loop .inv) (c .before .before .before
-        .before .before .before .pre .1) _ (c .before .chosen .ensures .0) (c .if1 .taken), omega arith)
+returns c = (
+  testing-bad _ _ _ _ _ _ _ (c .before .before .before .loop-test .taken) (c .before .before .before .before .loop .inv) (c .before .before .before
+      .before .before .before .pre .1) _ (c .before .chosen .ensures .0) (c .if1 .taken),
+  omega arith,
+)
 
 add-at : tie.Need-add-at Inv-loop μ-loop
 add-at c =
@@ -47,7 +49,7 @@ loop-less c = search needs
 loop-again : tie.Need-loop-again Inv-loop μ-loop
 loop-again c =
     testing-on _ _ _ _ _ _ _ (c .before .before .before .loop-test .taken) (c .before .before .before .before .loop .inv) (c .before .before .before
-        .before .before .before .pre .1) _ (c .before .chosen .ensures .0) (c .if1 .left)
+    .before .before .before .pre .1) _ (c .before .chosen .ensures .0) (c .if1 .left)
 
 returns-2 : tie.Need-returns-2 Inv-loop μ-loop
 returns-2 c = (testing-end _ _ _ _ _ _ _ (c .loop-test .left) (c .before .loop .inv), c .before .loop .inv .next .inside)

@@ -32,8 +32,13 @@ chosen-requires c κs = search needs
 cast-choices : tie.Need-cast-choices Inv-loop μ-loop
 cast-choices c =
     let entry = c .before .before .before .before .before .before in
-    omega (arith, c .chosen .ensures .1, entry .pre .2, flags-long _ _ _ _ _ _ _ (c .before .before .loop-test .taken) (c .before .before .before .loop
-        .inv .next) (entry .pre .1))
+    omega (
+      arith,
+      c .chosen .ensures .1,
+      entry .pre .2,
+      flags-long _ _ _ _ _ _ _ (c .before .before .loop-test .taken) (c .before .before .before .loop
+          .inv .next) (entry .pre .1),
+    )
 
 slice-write-choices : tie.Need-slice-write-choices Inv-loop μ-loop
 slice-write-choices c = omega (arith, c .before .before .before .loop .inv .long, c .before .before .before .before .before .before .pre .3)
@@ -50,7 +55,7 @@ loop-less c = search needs
 loop-again : tie.Need-loop-again Inv-loop μ-loop
 loop-again c =
     writing-on _ _ _ _ _ _ _ _ _ _ (c .before .before .loop-test .taken) (c .before .before .before .before .before .before .pre .3) (c .before .before
-        .before .loop .inv) (c .chosen .ensures .0)
+    .before .loop .inv) (c .chosen .ensures .0)
 
 same-length : tie.Need-same-length Inv-loop μ-loop
 same-length c = c .before .loop .inv .long

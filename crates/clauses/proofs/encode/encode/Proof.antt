@@ -20,7 +20,7 @@ returns-2 c = encode-property _ _ _ _ _ (accepted-zero _ _ (c .before .before .b
 returns-3 : tie.Need-returns-3
 returns-3 c =
     encode-bound _ _ _ _ _ (accepted-zero _ _ (c .before .before .before .before .check .ensures) (c .before .before .if1 .left)) (c .before .if2 .left)
-        (c .if3 .taken)
+    (c .if3 .taken)
 
 add-if4 : tie.Need-add-if4
 add-if4 c = search needs
@@ -28,12 +28,16 @@ add-if4 c = search needs
 returns-4 : tie.Need-returns-4
 returns-4 c =
     encode-part _ _ _ _ _ (accepted-zero _ _ (c .before .before .before .before .before .check .ensures) (c .before .before .before .if1 .left)) (c
-        .before .before .if2 .left) (c .before .if3 .left) (c .if4 .taken)
+    .before .before .if2 .left) (c .before .if3 .left) (c .if4 .taken)
 
 encode-accepted-requires : tie.Need-encode-accepted-requires
-encode-accepted-requires c κs =
-    (accepted-zero _ _ (c .before .before .before .before .before .before .check .ensures) (c .before .before .before .before .if1 .left), c .before
-        .before .before .if2 .left, c .before .before .if3 .left, c .before .if4 .left)
+encode-accepted-requires c κs = (
+  accepted-zero _ _ (c .before .before .before .before .before .before .check .ensures) (c .before .before .before .before .if1 .left),
+  c .before
+      .before .before .if2 .left,
+  c .before .before .if3 .left,
+  c .before .if4 .left,
+)
 
 same-length : tie.Need-same-length
 same-length c = search needs

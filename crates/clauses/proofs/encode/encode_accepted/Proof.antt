@@ -23,8 +23,11 @@ part-words-requires c κs = search needs
 returns : tie.Need-returns
 returns c =
     let entry = c .before .before .before .before in
-    encode-short _ _ _ _ _ (entry .pre .0) (entry .pre .1) (entry .pre .2) (entry .pre .3) (λ i. omega (arith, c .before .before .before
-        .shared-slice-known .given i)) _ (c .before .before .sizes .ensures .1) _ (c .before .part-words .ensures) (c .if1 .taken)
+    encode-short _ _ _ _ _ (entry .pre .0) (entry .pre .1) (entry .pre .2) (entry .pre .3) (λ i. omega (
+      arith,
+      c .before .before .before
+          .shared-slice-known .given i,
+    )) _ (c .before .before .sizes .ensures .1) _ (c .before .part-words .ensures) (c .if1 .taken)
 
 trailer-word-requires : tie.Need-trailer-word-requires
 trailer-word-requires c κs = (bounds _ (c .before .before .before .before .pre .0) .long, omega arith)
@@ -43,11 +46,13 @@ put-part-requires c κs =
     let at-trailer-word = c .before .before .before .before .before .before .before .before in
     let at-sizes = at-trailer-word .before .before .before in
     let at-shared-slice-known = at-sizes .before in
-    let entry = at-shared-slice-known .before in
-    (frame-ready _ _ _ _ _ _ _ _ (entry .pre .0) (λ i. omega (arith, at-shared-slice-known .shared-slice-known .given i)) (c .before .before .before
-        .before .before .index-events .ensures) (at-trailer-word .trailer-word .ensures .0) (c .before .before .before .before .before .before .before
-        .trailer-word2 .ensures .0) (c .before .before .before .index-cells .ensures) (at-sizes .sizes .ensures .0) (at-sizes .sizes .ensures .1),
-        entry .pre .2, entry .pre .3)
+    let entry = at-shared-slice-known .before in (
+      frame-ready _ _ _ _ _ _ _ _ (entry .pre .0) (λ i. omega (arith, at-shared-slice-known .shared-slice-known .given i)) (c .before .before .before
+          .before .before .index-events .ensures) (at-trailer-word .trailer-word .ensures .0) (c .before .before .before .before .before .before .before
+          .trailer-word2 .ensures .0) (c .before .before .before .index-cells .ensures) (at-sizes .sizes .ensures .0) (at-sizes .sizes .ensures .1),
+      entry .pre .2,
+      entry .pre .3,
+    )
 
 same-length : tie.Need-same-length
 same-length c = search needs
@@ -59,8 +64,11 @@ returns-2 c =
     let at-sizes = at-part-words .before in
     let at-shared-slice-known = at-sizes .before in
     let entry = at-shared-slice-known .before in
-    encode-done _ _ _ _ _ (entry .pre .0) (entry .pre .1) (entry .pre .2) (entry .pre .3) (λ i. omega (arith, at-shared-slice-known .shared-slice-known
-        .given i)) _ (at-sizes .sizes .ensures .1) _ (at-part-words .part-words .ensures) (at-if1 .if1 .left) _ _ (c .before .put-part .ensures)
+    encode-done _ _ _ _ _ (entry .pre .0) (entry .pre .1) (entry .pre .2) (entry .pre .3) (λ i. omega (
+      arith,
+      at-shared-slice-known .shared-slice-known
+          .given i,
+    )) _ (at-sizes .sizes .ensures .1) _ (at-part-words .part-words .ensures) (at-if1 .if1 .left) _ _ (c .before .put-part .ensures)
 
 pub encode-accepted-spec : {M : Type 1} → statement M
 encode-accepted-spec =

@@ -34,11 +34,13 @@ put-parts-requires c κs =
     let at-trailer-word = c .before .before .before .before .before .before .before .before in
     let at-sizes = at-trailer-word .before in
     let at-shared-slice-known = at-sizes .before in
-    let entry = at-shared-slice-known .before in
-    (frame-ready _ _ _ _ _ _ _ _ (writable-accepted (entry .pre)) (λ i. omega (arith, at-shared-slice-known .shared-slice-known .given i)) (c .before
-        .before .before .before .before .index-events .ensures) (at-trailer-word .trailer-word .ensures .0) (c .before .before .before .before .before
-        .before .before .trailer-word2 .ensures .0) (c .before .before .before .index-cells .ensures) (at-sizes .sizes .ensures .0) (at-sizes .sizes
-        .ensures .1), entry .pre .bound)
+    let entry = at-shared-slice-known .before in (
+      frame-ready _ _ _ _ _ _ _ _ (writable-accepted (entry .pre)) (λ i. omega (arith, at-shared-slice-known .shared-slice-known .given i)) (c .before
+          .before .before .before .before .index-events .ensures) (at-trailer-word .trailer-word .ensures .0) (c .before .before .before .before .before
+          .before .before .trailer-word2 .ensures .0) (c .before .before .before .index-cells .ensures) (at-sizes .sizes .ensures .0) (at-sizes .sizes
+          .ensures .1),
+      entry .pre .bound,
+    )
 
 variables-requires : tie.Need-variables-requires
 variables-requires c κs = search needs
@@ -52,7 +54,7 @@ returns c =
     let at-shared-slice-known = at-sizes .before in
     let entry = at-shared-slice-known .before in
     formula-written _ _ _ _ _ _ _ _ (entry .pre) (λ i. omega (arith, at-shared-slice-known .shared-slice-known .given i)) (at-sizes .sizes .ensures .1) (c
-        .before .before .put-parts .ensures) (c .variables .ensures .0)
+    .before .before .put-parts .ensures) (c .variables .ensures .0)
 
 pub write-formula-spec : {M : Type 1} → statement M
 write-formula-spec =

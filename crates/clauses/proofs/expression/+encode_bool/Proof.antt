@@ -103,10 +103,12 @@ encode-bool-wide-requires t c κs = tt
 
 encode-bool-load-flag-requires : (t : ℕ) → encode-bool-lts.Need-load-flag-requires (encode-bool-claims t) (encode-bool-at t) encode-bool.Post
 encode-bool-load-flag-requires t c κs =
-    let entry = c .before .before .before .before .before .before .before in
-    (entry .pre .1 .0 .1, omega (arith, (read-flag _ _ _ _ _ _ _ ((entry .pre .1 .1) .reads) (c .before .before .match .keys2)) .1, c .wide .ensures .0),
-        subst (λ (v : ℕ). getD (entry .args .file .now) (3 * v) 0 ≡ 1 → ⊥) (sym (c .wide .ensures .0)) ((read-flag _ _ _ _ _ _ _ ((entry .pre .1 .1)
-        .reads) (c .before .before .match .keys2)) .2))
+    let entry = c .before .before .before .before .before .before .before in (
+      entry .pre .1 .0 .1,
+      omega (arith, (read-flag _ _ _ _ _ _ _ ((entry .pre .1 .1) .reads) (c .before .before .match .keys2)) .1, c .wide .ensures .0),
+      subst (λ (v : ℕ). getD (entry .args .file .now) (3 * v) 0 ≡ 1 → ⊥) (sym (c .wide .ensures .0)) ((read-flag _ _ _ _ _ _ _ ((entry .pre .1 .1)
+          .reads) (c .before .before .match .keys2)) .2),
+    )
 
 encode-bool-add-t32 : (t : ℕ) → encode-bool-lts.Need-add-t32 (encode-bool-claims t) (encode-bool-at t) encode-bool.Post
 encode-bool-add-t32 t c =
@@ -123,9 +125,14 @@ encode-bool-sub-encode-bool t c = omega (arith, bool-live _ _ _ _ _ _ _ ((c .bef
 
 encode-bool-encode-bool-requires : (t : ℕ) → encode-bool-lts.Need-encode-bool-requires (encode-bool-claims t) (encode-bool-at t) encode-bool.Post
 encode-bool-encode-bool-requires t c κs =
-    let entry = c .before .before .before .before .before .before in
-    (omega (arith, bool-live _ _ _ _ _ _ _ ((entry .pre .1 .1) .reads), entry .pre .0), (entry .pre .1 .0, one-reads (read-not _ _ _ _ _ _ _ ((entry .pre
-        .1 .1) .reads) (c .before .match .keys3))))
+    let entry = c .before .before .before .before .before .before in (
+      omega (arith, bool-live _ _ _ _ _ _ _ ((entry .pre .1 .1) .reads), entry .pre .0),
+      (
+        entry .pre .1 .0,
+        one-reads (read-not _ _ _ _ _ _ _ ((entry .pre
+            .1 .1) .reads) (c .before .match .keys3)),
+      ),
+    )
 
 encode-bool-negate-requires : (t : ℕ) → encode-bool-lts.Need-negate-requires (encode-bool-claims t) (encode-bool-at t) encode-bool.Post
 encode-bool-negate-requires t c κs = tt
@@ -142,9 +149,14 @@ encode-bool-sub-encode-bool-2 t c =
 encode-bool-encode-bool-requires-2 : (t : ℕ) → encode-bool-lts.Need-encode-bool-requires-2 (encode-bool-claims t) (encode-bool-at t) encode-bool.Post
 encode-bool-encode-bool-requires-2 t c κs =
     let at-match = c .before .before .before in
-    let entry = at-match .before .before .before .before .before in
-    (omega (arith, bool-live _ _ _ _ _ _ _ ((entry .pre .1 .1) .reads), entry .pre .0), (entry .pre .1 .0, two-reads (read-logic _ _ _ _ _ _ _ ((entry
-        .pre .1 .1) .reads) (at-match .match .rest .0 .0 .1) (at-match .match .rest .0 .1) (at-match .match .rest .1) (c .before .if2 .taken))))
+    let entry = at-match .before .before .before .before .before in (
+      omega (arith, bool-live _ _ _ _ _ _ _ ((entry .pre .1 .1) .reads), entry .pre .0),
+      (
+        entry .pre .1 .0,
+        two-reads (read-logic _ _ _ _ _ _ _ ((entry
+            .pre .1 .1) .reads) (at-match .match .rest .0 .0 .1) (at-match .match .rest .0 .1) (at-match .match .rest .1) (c .before .if2 .taken)),
+      ),
+    )
 
 encode-bool-sub-encode-bool-3 : (t : ℕ) → encode-bool-lts.Need-sub-encode-bool-3 (encode-bool-claims t) (encode-bool-at t) encode-bool.Post
 encode-bool-sub-encode-bool-3 t c =
@@ -155,11 +167,16 @@ encode-bool-encode-bool-requires-3 : (t : ℕ) → encode-bool-lts.Need-encode-b
 encode-bool-encode-bool-requires-3 t c κs =
     let at-if2 = c .before .before .before .before in
     let at-match = at-if2 .before .before in
-    let entry = at-match .before .before .before .before .before in
-    (omega (arith, bool-live _ _ _ _ _ _ _ ((entry .pre .1 .1) .reads), entry .pre .0), (entry .pre .1 .0, two-then (read-logic _ _ _ _ _ _ _ ((entry .pre
-        .1 .1) .reads) (at-match .match .rest .0 .0 .1) (at-match .match .rest .0 .1) (at-match .match .rest .1) (at-if2 .if2 .taken)) (c .before
-        .before .encode-bool2 .ensures _ _ ((read-logic _ _ _ _ _ _ _ ((entry .pre .1 .1) .reads) (at-match .match .rest .0 .0 .1) (at-match .match
-        .rest .0 .1) (at-match .match .rest .1) (at-if2 .if2 .taken)) .reads) .1)))
+    let entry = at-match .before .before .before .before .before in (
+      omega (arith, bool-live _ _ _ _ _ _ _ ((entry .pre .1 .1) .reads), entry .pre .0),
+      (
+        entry .pre .1 .0,
+        two-then (read-logic _ _ _ _ _ _ _ ((entry .pre
+            .1 .1) .reads) (at-match .match .rest .0 .0 .1) (at-match .match .rest .0 .1) (at-match .match .rest .1) (at-if2 .if2 .taken)) (c .before
+            .before .encode-bool2 .ensures _ _ ((read-logic _ _ _ _ _ _ _ ((entry .pre .1 .1) .reads) (at-match .match .rest .0 .0 .1) (at-match .match
+            .rest .0 .1) (at-match .match .rest .1) (at-if2 .if2 .taken)) .reads) .1),
+      ),
+    )
 
 encode-bool-logic-requires : (t : ℕ) → encode-bool-lts.Need-logic-requires (encode-bool-claims t) (encode-bool-at t) encode-bool.Post
 encode-bool-logic-requires t c κs = tt
@@ -187,9 +204,11 @@ encode-bool-sub-encode-int-2 t c =
 encode-bool-encode-int-requires-2 : (t : ℕ) → encode-bool-lts.Need-encode-int-requires-2 (encode-bool-claims t) (encode-bool-at t) encode-bool.Post
 encode-bool-encode-int-requires-2 t c κs =
     let at-if2 = c .before .before .before .before .before in
-    let entry = at-if2 .before .before .before .before .before .before .before in
-    (entry .pre .1 .0, two-then (read-compare _ _ _ _ _ _ _ ((entry .pre .1 .1) .reads) (at-if2 .if2 .left)) (c .before .before .encode-int .ensures _ _
-        ((read-compare _ _ _ _ _ _ _ ((entry .pre .1 .1) .reads) (at-if2 .if2 .left)) .reads) .1))
+    let entry = at-if2 .before .before .before .before .before .before .before in (
+      entry .pre .1 .0,
+      two-then (read-compare _ _ _ _ _ _ _ ((entry .pre .1 .1) .reads) (at-if2 .if2 .left)) (c .before .before .encode-int .ensures _ _
+          ((read-compare _ _ _ _ _ _ _ ((entry .pre .1 .1) .reads) (at-if2 .if2 .left)) .reads) .1),
+    )
 
 encode-bool-compare-requires : (t : ℕ) → encode-bool-lts.Need-compare-requires (encode-bool-claims t) (encode-bool-at t) encode-bool.Post
 encode-bool-compare-requires t c κs = tt
@@ -199,8 +218,8 @@ encode-bool-returns t c =
     let entry = c .before .before .before .before .before .before .before in
     let nv = entry .args .nv in
     λ e n h. let k = read-truth _ _ _ _ _ e n h (c .before .before .match .keys1) in leaf-emits (boolExpr (entry .args .text .now) (namesOf (entry .args
-        .file .now) nv (entry .args .nm)) (entry .args .end) (entry .args .depth)) (bool! (layoutOf nv) (slotsOf (entry .args .file .now) nv (entry
-        .args .nm) (entry .args .bits .now))) _ _ h (k .1) (truth-give _ _ _) (c .truth-code .ensures) (sym (k .2))
+    .file .now) nv (entry .args .nm)) (entry .args .end) (entry .args .depth)) (bool! (layoutOf nv) (slotsOf (entry .args .file .now) nv (entry
+    .args .nm) (entry .args .bits .now))) _ _ h (k .1) (truth-give _ _ _) (c .truth-code .ensures) (sym (k .2))
 
 encode-bool-returns-2 : (t : ℕ) → encode-bool-lts.Need-returns-2 (encode-bool-claims t) (encode-bool-at t) encode-bool.Post
 encode-bool-returns-2 t c =
@@ -209,8 +228,8 @@ encode-bool-returns-2 t c =
     let nm = entry .args .nm in
     let nv = entry .args .nv in
     λ e n h. let k = read-flag _ _ _ _ _ e n h (c .before .before .before .match .keys2) in leaf-emits (boolExpr (entry .args .text .now) (namesOf file nv
-        nm) (entry .args .end) (entry .args .depth)) (bool! (layoutOf nv) (slotsOf file nv nm (entry .args .bits .now))) _ _ h (k .3) (flag-give _ _
-        _) (c .load-flag .ensures ∙ ap (booleanAt (slotsOf file nv nm (entry .args .bits .now))) (c .before .wide .ensures .0)) (sym (k .4))
+    nm) (entry .args .end) (entry .args .depth)) (bool! (layoutOf nv) (slotsOf file nv nm (entry .args .bits .now))) _ _ h (k .3) (flag-give _ _
+    _) (c .load-flag .ensures ∙ ap (booleanAt (slotsOf file nv nm (entry .args .bits .now))) (c .before .wide .ensures .0)) (sym (k .4))
 
 encode-bool-same-length : (t : ℕ) → encode-bool-lts.Need-same-length (encode-bool-claims t) (encode-bool-at t) encode-bool.Post
 encode-bool-same-length t c = omega arith
@@ -223,8 +242,8 @@ encode-bool-returns-3 t c =
     let nm = entry .args .nm in
     let nv = entry .args .nv in
     λ e n h. one-emits (boolExpr (entry .args .text .now) (namesOf file nv nm) (entry .args .end) (entry .args .depth - 1)) notB (bool! (layoutOf nv)
-        (slotsOf file nv nm bits)) (bool! (layoutOf nv) (slotsOf file nv nm bits)) negate (not-tree (layoutOf nv) (slotsOf file nv nm bits)) (read-not
-        _ _ _ _ _ e n h (c .before .before .before .before .match .keys3)) _ (c .before .before .encode-bool .ensures) (c .negate .ensures)
+    (slotsOf file nv nm bits)) (bool! (layoutOf nv) (slotsOf file nv nm bits)) negate (not-tree (layoutOf nv) (slotsOf file nv nm bits)) (read-not
+    _ _ _ _ _ e n h (c .before .before .before .before .match .keys3)) _ (c .before .before .encode-bool .ensures) (c .negate .ensures)
 
 encode-bool-same-length-2 : (t : ℕ) → encode-bool-lts.Need-same-length-2 (encode-bool-claims t) (encode-bool-at t) encode-bool.Post
 encode-bool-same-length-2 t c = omega arith
@@ -241,10 +260,10 @@ encode-bool-returns-4 t c =
     let nv = entry .args .nv in
     let text = entry .args .text .now in
     λ e n h. let p = read-logic _ _ _ _ _ e n h (at-match .match .rest .0 .0 .1) (at-match .match .rest .0 .1) (at-match .match .rest .1) (at-if2 .if2
-        .taken) in two-emits (boolExpr text (namesOf file nv nm) (entry .args .end) (entry .args .depth - 1)) (logicOf (getD text at 0)) (bool!
-        (layoutOf nv) (slotsOf file nv nm bits)) (bool! (layoutOf nv) (slotsOf file nv nm bits)) (logic! (getD text at 0)) (logic-tree (layoutOf nv)
-        (slotsOf file nv nm bits) (getD text at 0)) p (c .before .before .before .before .before .before .before .encode-bool2 .ensures) (c .before
-        .before .before .before .encode-bool3 .ensures) (c .before .logic .ensures)
+    .taken) in two-emits (boolExpr text (namesOf file nv nm) (entry .args .end) (entry .args .depth - 1)) (logicOf (getD text at 0)) (bool!
+    (layoutOf nv) (slotsOf file nv nm bits)) (bool! (layoutOf nv) (slotsOf file nv nm bits)) (logic! (getD text at 0)) (logic-tree (layoutOf nv)
+    (slotsOf file nv nm bits) (getD text at 0)) p (c .before .before .before .before .before .before .before .encode-bool2 .ensures) (c .before
+    .before .before .before .encode-bool3 .ensures) (c .before .logic .ensures)
 
 encode-bool-same-length-3 : (t : ℕ) → encode-bool-lts.Need-same-length-3 (encode-bool-claims t) (encode-bool-at t) encode-bool.Post
 encode-bool-same-length-3 t c = omega arith
@@ -261,9 +280,9 @@ encode-bool-returns-5 t c =
     let nv = entry .args .nv in
     let text = entry .args .text .now in
     λ e n h. let p = read-compare _ _ _ _ _ e n h (at-if2 .if2 .left) in two-emits (intExpr text (namesOf file nv nm) (entry .args .end) (entry .args
-        .depth - 1)) (compareOf (getD text at 0)) (int! (layoutOf nv) (slotsOf file nv nm bits)) (bool! (layoutOf nv) (slotsOf file nv nm bits))
-        (compare! (getD text at 0)) (compare-tree (layoutOf nv) (slotsOf file nv nm bits) (getD text at 0)) p (at-encode-int .encode-int .ensures) (c
-        .before .before .before .before .before .before .encode-int2 .ensures) (c .before .compare .ensures)
+    .depth - 1)) (compareOf (getD text at 0)) (int! (layoutOf nv) (slotsOf file nv nm bits)) (bool! (layoutOf nv) (slotsOf file nv nm bits))
+    (compare! (getD text at 0)) (compare-tree (layoutOf nv) (slotsOf file nv nm bits) (getD text at 0)) p (at-encode-int .encode-int .ensures) (c
+    .before .before .before .before .before .before .encode-int2 .ensures) (c .before .compare .ensures)
 
 encode-bool-returns-6 : (t : ℕ) → encode-bool-lts.Need-returns-6 (encode-bool-claims t) (encode-bool-at t) encode-bool.Post
 encode-bool-returns-6 t c =

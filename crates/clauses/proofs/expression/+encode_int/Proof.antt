@@ -82,10 +82,17 @@ encode-int-wide-requires t c κs = tt
 
 encode-int-load-variable-requires : (t : ℕ) → encode-int-lts.Need-load-variable-requires (encode-int-claims t) (encode-int-at t) encode-int.Post
 encode-int-load-variable-requires t c κs =
-    let entry = c .before .before .before .before .before .before .before in
-    (entry .pre .1 .0 .1, omega (arith, (read-variable _ _ _ _ _ _ _ ((entry .pre .1 .1) .reads) (c .before .before .match .keys2)) .1, c .wide .ensures
-        .0), subst (λ (v : ℕ). getD (entry .args .file .now) (3 * v) 0 ≡ 1) (sym (c .wide .ensures .0)) ((read-variable _ _ _ _ _ _ _ ((entry .pre .1
-        .1) .reads) (c .before .before .match .keys2)) .2))
+    let entry = c .before .before .before .before .before .before .before in (
+      entry .pre .1 .0 .1,
+      omega (
+        arith,
+        (read-variable _ _ _ _ _ _ _ ((entry .pre .1 .1) .reads) (c .before .before .match .keys2)) .1,
+        c .wide .ensures
+            .0,
+      ),
+      subst (λ (v : ℕ). getD (entry .args .file .now) (3 * v) 0 ≡ 1) (sym (c .wide .ensures .0)) ((read-variable _ _ _ _ _ _ _ ((entry .pre .1
+          .1) .reads) (c .before .before .match .keys2)) .2),
+    )
 
 encode-int-add-t28 : (t : ℕ) → encode-int-lts.Need-add-t28 (encode-int-claims t) (encode-int-at t) encode-int.Post
 encode-int-add-t28 t c =
@@ -107,9 +114,15 @@ encode-int-wide-requires-2 t c κs = tt
 
 encode-int-load-status-requires : (t : ℕ) → encode-int-lts.Need-load-status-requires (encode-int-claims t) (encode-int-at t) encode-int.Post
 encode-int-load-status-requires t c κs =
-    let entry = c .before .before .before .before .before .before .before in
-    (entry .pre .1 .0 .1, omega (arith, (read-status _ _ _ _ _ _ _ ((entry .pre .1 .1) .reads) (c .before .before .match .keys3)) .1, c .wide2 .ensures
-        .0))
+    let entry = c .before .before .before .before .before .before .before in (
+      entry .pre .1 .0 .1,
+      omega (
+        arith,
+        (read-status _ _ _ _ _ _ _ ((entry .pre .1 .1) .reads) (c .before .before .match .keys3)) .1,
+        c .wide2 .ensures
+            .0,
+      ),
+    )
 
 encode-int-add-t32 : (t : ℕ) → encode-int-lts.Need-add-t32 (encode-int-claims t) (encode-int-at t) encode-int.Post
 encode-int-add-t32 t c =
@@ -127,9 +140,14 @@ encode-int-sub-encode-int t c = omega (arith, int-live _ _ _ _ _ _ _ ((c .before
 encode-int-encode-int-requires : (t : ℕ) → encode-int-lts.Need-encode-int-requires (encode-int-claims t) (encode-int-at t) encode-int.Post
 encode-int-encode-int-requires t c κs =
     let at-match = c .before .before .before in
-    let entry = at-match .before .before .before .before .before in
-    (omega (arith, int-live _ _ _ _ _ _ _ ((entry .pre .1 .1) .reads), entry .pre .0), (entry .pre .1 .0, two-reads (read-arithmetic _ _ _ _ _ _ _ ((entry
-        .pre .1 .1) .reads) (at-match .match .rest .0 .0 .1) (at-match .match .rest .0 .1) (at-match .match .rest .1))))
+    let entry = at-match .before .before .before .before .before in (
+      omega (arith, int-live _ _ _ _ _ _ _ ((entry .pre .1 .1) .reads), entry .pre .0),
+      (
+        entry .pre .1 .0,
+        two-reads (read-arithmetic _ _ _ _ _ _ _ ((entry
+            .pre .1 .1) .reads) (at-match .match .rest .0 .0 .1) (at-match .match .rest .0 .1) (at-match .match .rest .1)),
+      ),
+    )
 
 encode-int-sub-encode-int-2 : (t : ℕ) → encode-int-lts.Need-sub-encode-int-2 (encode-int-claims t) (encode-int-at t) encode-int.Post
 encode-int-sub-encode-int-2 t c =
@@ -139,11 +157,16 @@ encode-int-sub-encode-int-2 t c =
 encode-int-encode-int-requires-2 : (t : ℕ) → encode-int-lts.Need-encode-int-requires-2 (encode-int-claims t) (encode-int-at t) encode-int.Post
 encode-int-encode-int-requires-2 t c κs =
     let at-match = c .before .before .before .before .before .before in
-    let entry = at-match .before .before .before .before .before in
-    (omega (arith, int-live _ _ _ _ _ _ _ ((entry .pre .1 .1) .reads), entry .pre .0), (entry .pre .1 .0, two-then (read-arithmetic _ _ _ _ _ _ _ ((entry
-        .pre .1 .1) .reads) (at-match .match .rest .0 .0 .1) (at-match .match .rest .0 .1) (at-match .match .rest .1)) (c .before .before .encode-int
-        .ensures _ _ ((read-arithmetic _ _ _ _ _ _ _ ((entry .pre .1 .1) .reads) (at-match .match .rest .0 .0 .1) (at-match .match .rest .0 .1)
-        (at-match .match .rest .1)) .reads) .1)))
+    let entry = at-match .before .before .before .before .before in (
+      omega (arith, int-live _ _ _ _ _ _ _ ((entry .pre .1 .1) .reads), entry .pre .0),
+      (
+        entry .pre .1 .0,
+        two-then (read-arithmetic _ _ _ _ _ _ _ ((entry
+            .pre .1 .1) .reads) (at-match .match .rest .0 .0 .1) (at-match .match .rest .0 .1) (at-match .match .rest .1)) (c .before .before .encode-int
+            .ensures _ _ ((read-arithmetic _ _ _ _ _ _ _ ((entry .pre .1 .1) .reads) (at-match .match .rest .0 .0 .1) (at-match .match .rest .0 .1)
+            (at-match .match .rest .1)) .reads) .1),
+      ),
+    )
 
 encode-int-arithmetic-requires : (t : ℕ) → encode-int-lts.Need-arithmetic-requires (encode-int-claims t) (encode-int-at t) encode-int.Post
 encode-int-arithmetic-requires t c κs = tt
@@ -153,9 +176,9 @@ encode-int-returns t c =
     let entry = c .before .before .before .before .before .before .before in
     let nv = entry .args .nv in
     λ e n h. let k = read-constant _ _ _ _ _ e n h (c .before .before .match .keys1) in leaf-emits (intExpr (entry .args .text .now) (namesOf (entry .args
-        .file .now) nv (entry .args .nm)) (entry .args .end) (entry .args .depth)) (int! (layoutOf nv) (slotsOf (entry .args .file .now) nv (entry
-        .args .nm) (entry .args .bits .now))) _ _ h (k .1) (constant-give _ _ _) (c .constant .ensures ∙ ap (constantBits 16) (c .before .word
-        .ensures .0)) (sym (k .2))
+    .file .now) nv (entry .args .nm)) (entry .args .end) (entry .args .depth)) (int! (layoutOf nv) (slotsOf (entry .args .file .now) nv (entry
+    .args .nm) (entry .args .bits .now))) _ _ h (k .1) (constant-give _ _ _) (c .constant .ensures ∙ ap (constantBits 16) (c .before .word
+    .ensures .0)) (sym (k .2))
 
 encode-int-returns-2 : (t : ℕ) → encode-int-lts.Need-returns-2 (encode-int-claims t) (encode-int-at t) encode-int.Post
 encode-int-returns-2 t c =
@@ -164,8 +187,8 @@ encode-int-returns-2 t c =
     let nm = entry .args .nm in
     let nv = entry .args .nv in
     λ e n h. let k = read-variable _ _ _ _ _ e n h (c .before .before .before .match .keys2) in leaf-emits (intExpr (entry .args .text .now) (namesOf file
-        nv nm) (entry .args .end) (entry .args .depth)) (int! (layoutOf nv) (slotsOf file nv nm (entry .args .bits .now))) _ _ h (k .3) (variable-give
-        _ _ _) (c .load-variable .ensures ∙ ap (integerAt (slotsOf file nv nm (entry .args .bits .now))) (c .before .wide .ensures .0)) (sym (k .4))
+    nv nm) (entry .args .end) (entry .args .depth)) (int! (layoutOf nv) (slotsOf file nv nm (entry .args .bits .now))) _ _ h (k .3) (variable-give
+    _ _ _) (c .load-variable .ensures ∙ ap (integerAt (slotsOf file nv nm (entry .args .bits .now))) (c .before .wide .ensures .0)) (sym (k .4))
 
 encode-int-returns-3 : (t : ℕ) → encode-int-lts.Need-returns-3 (encode-int-claims t) (encode-int-at t) encode-int.Post
 encode-int-returns-3 t c =
@@ -174,9 +197,9 @@ encode-int-returns-3 t c =
     let nm = entry .args .nm in
     let nv = entry .args .nv in
     λ e n h. let k = read-status _ _ _ _ _ e n h (c .before .before .before .match .keys3) in leaf-emits (intExpr (entry .args .text .now) (namesOf file
-        nv nm) (entry .args .end) (entry .args .depth)) (int! (layoutOf nv) (slotsOf file nv nm (entry .args .bits .now))) _ _ h (k .2) (status-give _
-        _ _) (c .load-status .ensures ∙ ap (λ (m : ℕ). integerAt (slotsOf file nv nm (entry .args .bits .now)) (nv + m)) (c .before .wide2 .ensures
-        .0)) (sym (k .3))
+    nv nm) (entry .args .end) (entry .args .depth)) (int! (layoutOf nv) (slotsOf file nv nm (entry .args .bits .now))) _ _ h (k .2) (status-give _
+    _ _) (c .load-status .ensures ∙ ap (λ (m : ℕ). integerAt (slotsOf file nv nm (entry .args .bits .now)) (nv + m)) (c .before .wide2 .ensures
+    .0)) (sym (k .3))
 
 encode-int-same-length : (t : ℕ) → encode-int-lts.Need-same-length (encode-int-claims t) (encode-int-at t) encode-int.Post
 encode-int-same-length t c = omega arith
@@ -193,10 +216,10 @@ encode-int-returns-4 t c =
     let nv = entry .args .nv in
     let text = entry .args .text .now in
     λ e n h. let p = read-arithmetic _ _ _ _ _ e n h (at-match .match .rest .0 .0 .1) (at-match .match .rest .0 .1) (at-match .match .rest .1) in
-        two-emits (intExpr text (namesOf file nv nm) (entry .args .end) (entry .args .depth - 1)) (arithmeticOf (getD text at 0)) (int! (layoutOf nv)
-        (slotsOf file nv nm bits)) (int! (layoutOf nv) (slotsOf file nv nm bits)) (arithmetic! (getD text at 0)) (arithmetic-tree (layoutOf nv)
-        (slotsOf file nv nm bits) (getD text at 0)) p (at-encode-int .encode-int .ensures) (c .before .before .before .before .before .before .before
-        .encode-int2 .ensures) (c .before .before .arithmetic .ensures)
+    two-emits (intExpr text (namesOf file nv nm) (entry .args .end) (entry .args .depth - 1)) (arithmeticOf (getD text at 0)) (int! (layoutOf nv)
+    (slotsOf file nv nm bits)) (int! (layoutOf nv) (slotsOf file nv nm bits)) (arithmetic! (getD text at 0)) (arithmetic-tree (layoutOf nv)
+    (slotsOf file nv nm bits) (getD text at 0)) p (at-encode-int .encode-int .ensures) (c .before .before .before .before .before .before .before
+    .encode-int2 .ensures) (c .before .before .arithmetic .ensures)
 
 encode-int-returns-5 : (t : ℕ) → encode-int-lts.Need-returns-5 (encode-int-claims t) (encode-int-at t) encode-int.Post
 encode-int-returns-5 t c =

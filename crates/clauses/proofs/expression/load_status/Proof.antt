@@ -20,14 +20,22 @@ mul-o c = search needs
 add-o : tie.Need-add-o
 add-o c =
     let entry = c .before .before .before in
-    omega (arith, status-room (entry .args .file .now) (entry .args .nv) (entry .args .nm) (entry .args .m) _ (entry .pre .1) (ap (λ (j : ℕ). j + 4 *
-        (entry .args .m)) (c .offset .ensures)), entry .pre .0)
+    omega (
+      arith,
+      status-room (entry .args .file .now) (entry .args .nv) (entry .args .nm) (entry .args .m) _ (entry .pre .1) (ap (λ (j : ℕ). j + 4 *
+          (entry .args .m)) (c .offset .ensures)),
+      entry .pre .0,
+    )
 
 load-requires : tie.Need-load-requires
 load-requires c κs =
     let entry = c .before .before .before in
-    omega (arith, status-room (entry .args .file .now) (entry .args .nv) (entry .args .nm) (entry .args .m) _ (entry .pre .1) (ap (λ (j : ℕ). j + 4 *
-        (entry .args .m)) (c .offset .ensures)), entry .pre .0)
+    omega (
+      arith,
+      status-room (entry .args .file .now) (entry .args .nv) (entry .args .nm) (entry .args .m) _ (entry .pre .1) (ap (λ (j : ℕ). j + 4 *
+          (entry .args .m)) (c .offset .ensures)),
+      entry .pre .0,
+    )
 
 returns : tie.Need-returns
 returns c =

@@ -27,8 +27,11 @@ width-requires c κs = tt
 
 add-bits : tie.Need-add-bits Inv-loop μ-loop
 add-bits c =
-    omega (arith, wd-bound (c .before .before .before .before .before .args .file .now) (c .before .before .before .loop .i) (c .width .result) (c .width
-        .ensures))
+    omega (
+      arith,
+      wd-bound (c .before .before .before .before .before .args .file .now) (c .before .before .before .loop .i) (c .width .result) (c .width
+          .ensures),
+    )
 
 add-i : tie.Need-add-i Inv-loop μ-loop
 add-i c = omega arith

@@ -13,33 +13,49 @@ put-values-requires c κs = search needs
 
 offset-requires : tie.Need-offset-requires
 offset-requires c κs =
-    let entry = c .before .before .before .before .before .before .before in
-    (first-small (entry .args .file .now) (entry .pre .0) (entry .args .nv) (entry .args .nm) (entry .pre .1) (entry .pre .2) _ refl .3, omega (arith,
-        first-small (entry .args .file .now) (entry .pre .0) (entry .args .nv) (entry .args .nm) (entry .pre .1) (entry .pre .2) _ refl))
+    let entry = c .before .before .before .before .before .before .before in (
+      first-small (entry .args .file .now) (entry .pre .0) (entry .args .nv) (entry .args .nm) (entry .pre .1) (entry .pre .2) _ refl .3,
+      omega (
+        arith,
+        first-small (entry .args .file .now) (entry .pre .0) (entry .args .nv) (entry .args .nm) (entry .pre .1) (entry .pre .2) _ refl,
+      ),
+    )
 
 add-x : tie.Need-add-x
 add-x c =
     let entry = c .before .before .before .before .before .before .before .before in
-    omega (arith, first-small (entry .args .file .now) (entry .pre .0) (entry .args .nv) (entry .args .nm) (entry .pre .1) (entry .pre .2) (c .offset
-        .result) (c .offset .ensures))
+    omega (
+      arith,
+      first-small (entry .args .file .now) (entry .pre .0) (entry .args .nv) (entry .args .nm) (entry .pre .1) (entry .pre .2) (c .offset
+          .result) (c .offset .ensures),
+    )
 
 cast-put-units : tie.Need-cast-put-units
 cast-put-units c =
     let entry = c .before .before .before .before .before .before .before .before .before in
-    omega (arith, first-small (entry .args .file .now) (entry .pre .0) (entry .args .nv) (entry .args .nm) (entry .pre .1) (entry .pre .2) (c .before
-        .offset .result) (c .before .offset .ensures))
+    omega (
+      arith,
+      first-small (entry .args .file .now) (entry .pre .0) (entry .args .nv) (entry .args .nm) (entry .pre .1) (entry .pre .2) (c .before
+          .offset .result) (c .before .offset .ensures),
+    )
 
 mul-put-units : tie.Need-mul-put-units
 mul-put-units c =
     let entry = c .before .before .before .before .before .before .before .before .before in
-    omega (arith, first-small (entry .args .file .now) (entry .pre .0) (entry .args .nv) (entry .args .nm) (entry .pre .1) (entry .pre .2) (c .before
-        .offset .result) (c .before .offset .ensures))
+    omega (
+      arith,
+      first-small (entry .args .file .now) (entry .pre .0) (entry .args .nv) (entry .args .nm) (entry .pre .1) (entry .pre .2) (c .before
+          .offset .result) (c .before .offset .ensures),
+    )
 
 put-units-requires : tie.Need-put-units-requires
 put-units-requires c κs =
     let entry = c .before .before .before .before .before .before .before .before .before in
-    omega (arith, first-small (entry .args .file .now) (entry .pre .0) (entry .args .nv) (entry .args .nm) (entry .pre .1) (entry .pre .2) (c .before
-        .offset .result) (c .before .offset .ensures))
+    omega (
+      arith,
+      first-small (entry .args .file .now) (entry .pre .0) (entry .args .nv) (entry .args .nm) (entry .pre .1) (entry .pre .2) (c .before
+          .offset .result) (c .before .offset .ensures),
+    )
 
 same-length : tie.Need-same-length
 same-length c = search needs
@@ -50,8 +66,8 @@ returns c =
     let at-clause1 = at-offset .before .before .before .before .before in
     let entry = at-clause1 .before .before .before in
     first-puts (entry .args .file .now) (entry .pre .0) (entry .args .nv) (entry .args .nm) (entry .pre .1) (entry .pre .2) (at-offset .offset .result)
-        (at-offset .offset .ensures) _ refl (at-clause1 .clause1 .ensures) (c .before .before .before .before .before .put-values .ensures) (c .before
-        .put-units .ensures)
+    (at-offset .offset .ensures) _ refl (at-clause1 .clause1 .ensures) (c .before .before .before .before .before .put-values .ensures) (c .before
+    .put-units .ensures)
 
 pub put-first-spec : {M : Type 1} → statement M
 put-first-spec =

@@ -24,8 +24,11 @@ mul-width c =
 shared-slice-read-width : tie.Need-shared-slice-read-width Inv-loop μ-loop
 shared-slice-read-width c =
     let entry = c .before .before .before .before in
-    omega (arith, values-inside (entry .args .file .now) (entry .pre .0) (entry .args .nv) (entry .pre .1) (c .before .before .loop .v) (c .before
-        .loop-test .taken))
+    omega (
+      arith,
+      values-inside (entry .args .file .now) (entry .pre .0) (entry .args .nv) (entry .pre .1) (c .before .before .loop .v) (c .before
+          .loop-test .taken),
+    )
 
 width-requires : tie.Need-width-requires Inv-loop μ-loop
 width-requires c κs = tt
@@ -33,58 +36,79 @@ width-requires c κs = tt
 mul-word : tie.Need-mul-word Inv-loop μ-loop
 mul-word c =
     let entry = c .before .before .before .before .before in
-    omega (arith, values-inside (entry .args .file .now) (entry .pre .0) (entry .args .nv) (entry .pre .1) (c .before .before .before .loop .v) (c .before
-        .before .loop-test .taken))
+    omega (
+      arith,
+      values-inside (entry .args .file .now) (entry .pre .0) (entry .args .nv) (entry .pre .1) (c .before .before .before .loop .v) (c .before
+          .before .loop-test .taken),
+    )
 
 add-word : tie.Need-add-word Inv-loop μ-loop
 add-word c =
     let entry = c .before .before .before .before .before in
-    omega (arith, values-inside (entry .args .file .now) (entry .pre .0) (entry .args .nv) (entry .pre .1) (c .before .before .before .loop .v) (c .before
-        .before .loop-test .taken))
+    omega (
+      arith,
+      values-inside (entry .args .file .now) (entry .pre .0) (entry .args .nv) (entry .pre .1) (c .before .before .before .loop .v) (c .before
+          .before .loop-test .taken),
+    )
 
 word-requires : tie.Need-word-requires Inv-loop μ-loop
 word-requires c κs =
     let entry = c .before .before .before .before .before in
     values-inside (entry .args .file .now) (entry .pre .0) (entry .args .nv) (entry .pre .1) (c .before .before .before .loop .v) (c .before .before
-        .loop-test .taken) .0
+    .loop-test .taken) .0
 
 put-units-requires : tie.Need-put-units-requires Inv-loop μ-loop
 put-units-requires c κs =
-    omega (arith, wd-bound (c .before .before .before .before .before .before .before .args .file .now) (c .before .before .before .before .before .loop
-        .v) (c .before .before .width .result) (c .before .before .width .ensures))
+    omega (
+      arith,
+      wd-bound (c .before .before .before .before .before .before .before .args .file .now) (c .before .before .before .before .before .loop
+          .v) (c .before .before .width .result) (c .before .before .width .ensures),
+    )
 
 cast-x : tie.Need-cast-x Inv-loop μ-loop
 cast-x c =
     let at-width = c .before .before .before .before in
     let entry = at-width .before .before .before .before .before in
-    omega (arith, wd-bound (entry .args .file .now) (c .before .before .before .before .before .before .before .loop .v) (at-width .width .result)
-        (at-width .width .ensures))
+    omega (
+      arith,
+      wd-bound (entry .args .file .now) (c .before .before .before .before .before .before .before .loop .v) (at-width .width .result)
+          (at-width .width .ensures),
+    )
 
 add-x : tie.Need-add-x Inv-loop μ-loop
 add-x c =
     let at-width = c .before .before .before .before in
     let at-loop = at-width .before .before .before in
     let entry = at-loop .before .before in
-    omega (arith, wd-bound (entry .args .file .now) (at-loop .loop .v) (at-width .width .result) (at-width .width .ensures), at-loop .loop .inv .0 .small,
-        values-inside (entry .args .file .now) (entry .pre .0) (entry .args .nv) (entry .pre .1) (at-loop .loop .v) (c .before .before .before .before
-        .before .before .loop-test .taken))
+    omega (
+      arith,
+      wd-bound (entry .args .file .now) (at-loop .loop .v) (at-width .width .result) (at-width .width .ensures),
+      at-loop .loop .inv .0 .small,
+      values-inside (entry .args .file .now) (entry .pre .0) (entry .args .nv) (entry .pre .1) (at-loop .loop .v) (c .before .before .before .before
+          .before .before .loop-test .taken),
+    )
 
 add-v : tie.Need-add-v Inv-loop μ-loop
 add-v c =
     let entry = c .before .before .before .before .before .before .before .before .before in
-    omega (arith, values-inside (entry .args .file .now) (entry .pre .0) (entry .args .nv) (entry .pre .1) (c .before .before .before .before .before
-        .before .before .loop .v) (c .before .before .before .before .before .before .loop-test .taken))
+    omega (
+      arith,
+      values-inside (entry .args .file .now) (entry .pre .0) (entry .args .nv) (entry .pre .1) (c .before .before .before .before .before
+          .before .before .loop .v) (c .before .before .before .before .before .before .loop-test .taken),
+    )
 
 loop-less : tie.Need-loop-less Inv-loop μ-loop
 loop-less c = omega arith
 
 loop-again : tie.Need-loop-again Inv-loop μ-loop
-loop-again c =
-    (valuing-on (c .before .before .before .before .before .before .before .before .before .args .file .now) (c .before .before .before .before .before
-        .before .before .before .before .pre .0) (c .before .before .before .before .before .before .before .before .before .args .nv) (c .before
-        .before .before .before .before .before .before .before .before .pre .1) (c .before .before .before .before .before .before .loop-test .taken)
-        (c .before .before .before .before .before .before .before .loop .inv .0) _ _ _ (c .before .before .before .before .width .ensures) (c .before
-        .before .before .word .ensures .0) refl (c .before .put-units .ensures), omega arith)
+loop-again c = (
+  valuing-on (c .before .before .before .before .before .before .before .before .before .args .file .now) (c .before .before .before .before .before
+      .before .before .before .before .pre .0) (c .before .before .before .before .before .before .before .before .before .args .nv) (c .before
+      .before .before .before .before .before .before .before .before .pre .1) (c .before .before .before .before .before .before .loop-test .taken)
+      (c .before .before .before .before .before .before .before .loop .inv .0) _ _ _ (c .before .before .before .before .width .ensures) (c .before
+      .before .before .word .ensures .0) refl (c .before .put-units .ensures),
+  omega arith,
+)
 
 same-length : tie.Need-same-length Inv-loop μ-loop
 same-length c = omega (arith, c .before .loop .inv .1)

@@ -90,8 +90,8 @@ returns c =
     let entry = at-variables .before .before .before .before .before .before .before in
     let s = entry .args .s in
     formula-same s _ _ _ _ (at-variables .variables .ensures .0) (clauses-sum s _ _ _ _ (c .before .before .before .before .times2 .ensures .0) (c .before
-        .before .before .before .before .before .times .ensures .0) (c .before .before .before .before .before .step-clauses .ensures .0)) (words-sum
-        s _ _ _ _ (c .times4 .ensures .0) (c .before .before .times3 .ensures .0) (c .before .step-words .ensures .0))
+    .before .before .before .before .before .times .ensures .0) (c .before .before .before .before .before .step-clauses .ensures .0)) (words-sum
+    s _ _ _ _ (c .times4 .ensures .0) (c .before .before .times3 .ensures .0) (c .before .step-words .ensures .0))
 
 pub formula-spec : {M : Type 1} → statement M
 formula-spec =

@@ -47,7 +47,7 @@ add-result-3 c = search needs
 returns-4 : tie.Need-returns-4
 returns-4 c =
     part-step _ _ _ _ (c .before .before .before .before .before .if1 .left) (c .before .before .before .before .if2 .left) (c .before .if3 .left) (omega
-        (arith, c .step-words .ensures .0))
+    (arith, c .step-words .ensures .0))
 
 pub part-words-spec : {M : Type 1} → statement M
 part-words-spec =

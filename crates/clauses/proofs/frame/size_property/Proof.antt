@@ -12,9 +12,15 @@ trailer-word-requires : tie.Need-trailer-word-requires
 trailer-word-requires c κs = (sizes _ _ _ _ _ (c .before .before .pre) .0, omega arith)
 
 size-bool-requires : tie.Need-size-bool-requires
-size-bool-requires c κs =
-    (invariant-reads _ _ _ _ _ (c .before .before .before .pre) _ _ (c .trailer-word .ensures .0) refl, omega arith, omega (arith, sizes _ _ _ _ _ (c
-        .before .before .before .pre) .1))
+size-bool-requires c κs = (
+  invariant-reads _ _ _ _ _ (c .before .before .before .pre) _ _ (c .trailer-word .ensures .0) refl,
+  omega arith,
+  omega (
+    arith,
+    sizes _ _ _ _ _ (c
+        .before .before .before .pre) .1,
+  ),
+)
 
 size-cells-requires : tie.Need-size-cells-requires
 size-cells-requires c κs = search needs
@@ -22,7 +28,7 @@ size-cells-requires c κs = search needs
 returns : tie.Need-returns
 returns c =
     invariant-gates _ _ _ _ _ (c .before .before .before .before .pre) _ _ (c .before .trailer-word .ensures .0) refl _ (c .before .before .if1 .taken) _
-        (c .size-bool .ensures)
+    (c .size-bool .ensures)
 
 returns-2 : tie.Need-returns-2
 returns-2 c =

@@ -27,19 +27,37 @@ external-count-requires c κs =
 state-bits-requires : tie.Need-state-bits-requires
 state-bits-requires c κs =
     let at-trailer-word = c .before .before .before .before .before .before in
-    let entry = at-trailer-word .before .before in
-    (omega (arith, bounds _ (entry .pre) .long, variables-inside _ (entry .pre), at-trailer-word .trailer-word .ensures .0), omega (arith, at-trailer-word
-        .trailer-word .ensures .0, read _ (entry .pre) .all .variables), omega (arith, c .before .before .before .before .before .trailer-word2
-        .ensures .0, bounds _ (entry .pre) .matrices))
+    let entry = at-trailer-word .before .before in (
+      omega (arith, bounds _ (entry .pre) .long, variables-inside _ (entry .pre), at-trailer-word .trailer-word .ensures .0),
+      omega (
+        arith,
+        at-trailer-word
+            .trailer-word .ensures .0,
+        read _ (entry .pre) .all .variables,
+      ),
+      omega (
+        arith,
+        c .before .before .before .before .before .trailer-word2
+            .ensures .0,
+        bounds _ (entry .pre) .matrices,
+      ),
+    )
 
 size-property-requires : tie.Need-size-property-requires
 size-property-requires c κs =
     let at-trailer-word2 = c .before .before .before .before .before .before .before in
     let at-trailer-word = at-trailer-word2 .before in
     let entry = at-trailer-word .before .before in
-    record { accepted = entry .pre; events = c .before .before .before .before .before .index-events .ensures; variables = at-trailer-word .trailer-word
-        .ensures .0; matrices = at-trailer-word2 .trailer-word2 .ensures .0; state = c .before .state-bits .ensures .1 (at-trailer-word .trailer-word
-        .ensures .0) (at-trailer-word2 .trailer-word2 .ensures .0); few = c .before .state-bits .ensures .0 }
+    record {
+      accepted = entry .pre;
+      events = c .before .before .before .before .before .index-events .ensures;
+      variables = at-trailer-word .trailer-word
+          .ensures .0;
+      matrices = at-trailer-word2 .trailer-word2 .ensures .0;
+      state = c .before .state-bits .ensures .1 (at-trailer-word .trailer-word
+          .ensures .0) (at-trailer-word2 .trailer-word2 .ensures .0);
+      few = c .before .state-bits .ensures .0;
+    }
 
 size-cells-requires : tie.Need-size-cells-requires
 size-cells-requires c κs =
@@ -47,23 +65,43 @@ size-cells-requires c κs =
     let at-trailer-word2 = at-state-bits .before .before .before .before .before .before in
     let at-trailer-word = at-trailer-word2 .before in
     let entry = at-trailer-word .before .before in
-    record { accepted = entry .pre; events = c .before .before .before .before .before .before .before .index-events .ensures; variables = at-trailer-word
-        .trailer-word .ensures .0; matrices = at-trailer-word2 .trailer-word2 .ensures .0; state = at-state-bits .state-bits .ensures .1
-        (at-trailer-word .trailer-word .ensures .0) (at-trailer-word2 .trailer-word2 .ensures .0); few = at-state-bits .state-bits .ensures .0 }
+    record {
+      accepted = entry .pre;
+      events = c .before .before .before .before .before .before .before .index-events .ensures;
+      variables = at-trailer-word
+          .trailer-word .ensures .0;
+      matrices = at-trailer-word2 .trailer-word2 .ensures .0;
+      state = at-state-bits .state-bits .ensures .1
+          (at-trailer-word .trailer-word .ensures .0) (at-trailer-word2 .trailer-word2 .ensures .0);
+      few = at-state-bits .state-bits .ensures .0;
+    }
 
 add-t17 : tie.Need-add-t17
 add-t17 c =
     let at-trailer-word = c .before .before .before .before .before .before .before .before .before .before .before in
     let entry = at-trailer-word .before .before in
-    omega (arith, few-normals _ (entry .pre), c .before .before .before .before .before .before .index-cells .ensures .count, c .before .before .before
-        .before .before .external-count .ensures .1, at-trailer-word .trailer-word .ensures .1)
+    omega (
+      arith,
+      few-normals _ (entry .pre),
+      c .before .before .before .before .before .before .index-cells .ensures .count,
+      c .before .before .before
+          .before .before .external-count .ensures .1,
+      at-trailer-word .trailer-word .ensures .1,
+    )
 
 times-requires : tie.Need-times-requires
 times-requires c κs =
     let at-trailer-word = c .before .before .before .before .before .before .before .before .before .before .before in
-    let entry = at-trailer-word .before .before in
-    (omega (arith, c .before .before .before .before .before .external-count .ensures .1, at-trailer-word .trailer-word .ensures .0, read _ (entry .pre)
-        .all .variables), omega (arith, c .before .before .before .before .state-bits .ensures .0))
+    let entry = at-trailer-word .before .before in (
+      omega (
+        arith,
+        c .before .before .before .before .before .external-count .ensures .1,
+        at-trailer-word .trailer-word .ensures .0,
+        read _ (entry .pre)
+            .all .variables,
+      ),
+      omega (arith, c .before .before .before .before .state-bits .ensures .0),
+    )
 
 add-t22 : tie.Need-add-t22
 add-t22 c = search needs
@@ -77,14 +115,16 @@ returns c =
     let at-trailer-word2 = at-index-cells .before .before .before .before in
     let at-trailer-word = at-trailer-word2 .before in
     let at-shared-slice-known = at-trailer-word .before in
-    let entry = at-shared-slice-known .before in
-    (frame-small _ (entry .pre) _ _ _ _ _ _ _ _ _ (at-trailer-word .trailer-word .ensures .0) (at-state-bits .state-bits .ensures .1 (at-trailer-word
-        .trailer-word .ensures .0) (at-trailer-word2 .trailer-word2 .ensures .0)) (at-index-cells .index-cells .ensures) (at-external-count
-        .external-count .ensures .0) (at-size-property .size-property .ensures .1) (c .before .before .size-cells .ensures .1) (c .before .times
-        .ensures .0) (λ i. omega (arith, at-shared-slice-known .shared-slice-known .given i)), frame-made _ (entry .pre) _ _ _ _ _ _ _ _ _
-        (at-trailer-word .trailer-word .ensures .0) (at-state-bits .state-bits .ensures .1 (at-trailer-word .trailer-word .ensures .0)
-        (at-trailer-word2 .trailer-word2 .ensures .0)) (at-index-cells .index-cells .ensures) (at-external-count .external-count .ensures .0)
-        (at-size-property .size-property .ensures .1) (c .before .before .size-cells .ensures .1) (c .before .times .ensures .0))
+    let entry = at-shared-slice-known .before in (
+      frame-small _ (entry .pre) _ _ _ _ _ _ _ _ _ (at-trailer-word .trailer-word .ensures .0) (at-state-bits .state-bits .ensures .1 (at-trailer-word
+          .trailer-word .ensures .0) (at-trailer-word2 .trailer-word2 .ensures .0)) (at-index-cells .index-cells .ensures) (at-external-count
+          .external-count .ensures .0) (at-size-property .size-property .ensures .1) (c .before .before .size-cells .ensures .1) (c .before .times
+          .ensures .0) (λ i. omega (arith, at-shared-slice-known .shared-slice-known .given i)),
+      frame-made _ (entry .pre) _ _ _ _ _ _ _ _ _
+          (at-trailer-word .trailer-word .ensures .0) (at-state-bits .state-bits .ensures .1 (at-trailer-word .trailer-word .ensures .0)
+          (at-trailer-word2 .trailer-word2 .ensures .0)) (at-index-cells .index-cells .ensures) (at-external-count .external-count .ensures .0)
+          (at-size-property .size-property .ensures .1) (c .before .before .size-cells .ensures .1) (c .before .times .ensures .0),
+    )
 
 pub sizes-spec : {M : Type 1} → statement M
 sizes-spec =

@@ -36,7 +36,7 @@ loop-again : tie.Need-loop-again Inv-loop μ-loop
 loop-again c =
     let at-loop = c .before .before .before in
     ⊎-elim (λ w. bits-integer _ _ _ _ _ (c .before .before .loop-test .taken) (at-loop .loop .inv) (w .0 .taken) (w .1)) (λ w. bits-boolean _ _ _ _ _ (c
-        .before .before .loop-test .taken) (at-loop .loop .inv) (w .0 .left) (w .1)) (c .if1 .came)
+    .before .before .loop-test .taken) (at-loop .loop .inv) (w .0 .left) (w .1)) (c .if1 .came)
 
 mul-result : tie.Need-mul-result Inv-loop μ-loop
 mul-result c = omega arith

@@ -34,9 +34,17 @@ add-result-4 c = search needs
 returns : tie.Need-returns
 returns c =
     let at-pairs = c .before .before .before in
-    let entry = at-pairs .before in
-    (omega (arith, at-pairs .pairs .ensures .0, c .times .ensures .0), omega (arith, at-pairs .pairs .ensures .1, c .times .ensures .0, ties-small _
-        (entry .pre), entry .pre .gates))
+    let entry = at-pairs .before in (
+      omega (arith, at-pairs .pairs .ensures .0, c .times .ensures .0),
+      omega (
+        arith,
+        at-pairs .pairs .ensures .1,
+        c .times .ensures .0,
+        ties-small _
+            (entry .pre),
+        entry .pre .gates,
+      ),
+    )
 
 pub step-clauses-spec : {M : Type 1} → statement M
 step-clauses-spec =

@@ -40,9 +40,18 @@ add-result-5 c = search needs
 returns : tie.Need-returns
 returns c =
     let at-pairs = c .before .before .before in
-    let entry = at-pairs .before .before in
-    (omega (arith, at-pairs .pairs .ensures .0, c .times .ensures .0), omega (arith, at-pairs .pairs .ensures .1, c .times .ensures .0, ties-small _
-        (entry .pre), entry .pre .gates, entry .pre .movers))
+    let entry = at-pairs .before .before in (
+      omega (arith, at-pairs .pairs .ensures .0, c .times .ensures .0),
+      omega (
+        arith,
+        at-pairs .pairs .ensures .1,
+        c .times .ensures .0,
+        ties-small _
+            (entry .pre),
+        entry .pre .gates,
+        entry .pre .movers,
+      ),
+    )
 
 pub step-words-spec : {M : Type 1} → statement M
 step-words-spec =

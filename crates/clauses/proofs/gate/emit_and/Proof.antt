@@ -45,8 +45,8 @@ returns c =
     let at-negate = at-negate2 .before in
     let at-positive = at-negate .before in
     and-emits _ _ _ _ _ _ _ (at-positive .positive .ensures) (c .next .ensures) (at-negate .negate .ensures) (at-negate2 .negate2 .ensures) (at-negate3
-        .negate3 .ensures) (at-clause2 .clause2 .ensures) (c .before .before .before .before .before .clause22 .ensures) (c .before .before .clause3
-        .ensures)
+    .negate3 .ensures) (at-clause2 .clause2 .ensures) (c .before .before .before .before .before .clause22 .ensures) (c .before .before .clause3
+    .ensures)
 
 pub emit-and-spec : {M : Type 1} → statement M
 emit-and-spec =

@@ -52,8 +52,8 @@ returns c =
     let at-negate = at-negate2 .before in
     let at-positive = at-negate .before in
     mux-emits _ _ _ _ _ _ _ _ _ (at-positive .positive .ensures) (c .next .ensures) (at-negate .negate .ensures) (at-negate2 .negate2 .ensures)
-        (at-negate3 .negate3 .ensures) (at-negate4 .negate4 .ensures) (at-clause3 .clause3 .ensures) (at-clause32 .clause32 .ensures) (c .before
-        .before .before .before .before .clause33 .ensures) (c .before .before .clause34 .ensures)
+    (at-negate3 .negate3 .ensures) (at-negate4 .negate4 .ensures) (at-clause3 .clause3 .ensures) (at-clause32 .clause32 .ensures) (c .before
+    .before .before .before .before .clause33 .ensures) (c .before .before .clause34 .ensures)
 
 pub emit-mux-spec : {M : Type 1} → statement M
 emit-mux-spec =

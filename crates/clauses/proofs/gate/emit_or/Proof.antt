@@ -25,7 +25,7 @@ same-length c = search needs
 returns : tie.Need-returns
 returns c =
     or-emits _ _ _ _ _ _ _ (c .before .before .before .before .before .negate .ensures) (c .before .before .before .before .negate2 .ensures) (c .negate3
-        .ensures) (c .before .before .emit-and .ensures)
+    .ensures) (c .before .before .emit-and .ensures)
 
 pub emit-or-spec : {M : Type 1} → statement M
 emit-or-spec =

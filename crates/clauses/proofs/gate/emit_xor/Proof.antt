@@ -48,8 +48,8 @@ returns c =
     let at-negate = at-negate2 .before in
     let at-positive = at-negate .before in
     xor-emits _ _ _ _ _ _ _ (at-positive .positive .ensures) (c .next .ensures) (at-negate .negate .ensures) (at-negate2 .negate2 .ensures) (at-negate3
-        .negate3 .ensures) (at-clause3 .clause3 .ensures) (at-clause32 .clause32 .ensures) (c .before .before .before .before .before .clause33
-        .ensures) (c .before .before .clause34 .ensures)
+    .negate3 .ensures) (at-clause3 .clause3 .ensures) (at-clause32 .clause32 .ensures) (c .before .before .before .before .before .clause33
+    .ensures) (c .before .before .clause34 .ensures)
 
 pub emit-xor-spec : {M : Type 1} → statement M
 emit-xor-spec =

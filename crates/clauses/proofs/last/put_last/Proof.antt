@@ -15,10 +15,13 @@ abbrev μ-loop : tie.MeasureT-loop
 μ-loop file events nv nm property stride bound buf₀ cur s at₀ x₀ j₀ buf at x j = bound + 1 - j
 
 state-bits-requires : tie.Need-state-bits-requires Inv-loop μ-loop
-state-bits-requires c κs =
-    (kinds (c .before .args .file .now) (c .before .args .events .now) (c .before .args .nv) (c .before .args .nm) (c .before .pre .0), sizes (c .before
-        .args .file .now) (c .before .args .events .now) (c .before .args .nv) (c .before .args .nm) (c .before .pre .0) .3, sizes (c .before .args
-        .file .now) (c .before .args .events .now) (c .before .args .nv) (c .before .args .nm) (c .before .pre .0) .2)
+state-bits-requires c κs = (
+  kinds (c .before .args .file .now) (c .before .args .events .now) (c .before .args .nv) (c .before .args .nm) (c .before .pre .0),
+  sizes (c .before
+      .args .file .now) (c .before .args .events .now) (c .before .args .nv) (c .before .args .nm) (c .before .pre .0) .3,
+  sizes (c .before .args
+      .file .now) (c .before .args .events .now) (c .before .args .nv) (c .before .args .nm) (c .before .pre .0) .2,
+)
 
 loop-holds : tie.Need-loop-holds Inv-loop μ-loop
 loop-holds c = (closing-start _ _ _ _ _ _, refl)
@@ -37,8 +40,14 @@ put-literal-requires c κs = tt
 add-x : tie.Need-add-x Inv-loop μ-loop
 add-x c =
     let entry = c .before .before .before .before .before .before .before .before .before in
-    omega (arith, c .before .before .before .before .before .before .loop .inv .0 .small, entry .pre .1, entry .pre .2, c .before .before .before .before
-        .before .loop-test .taken)
+    omega (
+      arith,
+      c .before .before .before .before .before .before .loop .inv .0 .small,
+      entry .pre .1,
+      entry .pre .2,
+      c .before .before .before .before
+          .before .loop-test .taken,
+    )
 
 add-j : tie.Need-add-j Inv-loop μ-loop
 add-j c =
@@ -49,15 +58,17 @@ loop-less : tie.Need-loop-less Inv-loop μ-loop
 loop-less c = omega (arith, c .before .before .before .before .before .loop-test .taken)
 
 loop-again : tie.Need-loop-again Inv-loop μ-loop
-loop-again c =
-    (closing-on (c .before .before .before .before .before .before .before .before .before .args .file .now) _ _ _ _ _ (c .before .before .before .before
-        .before .loop-test .taken) (c .before .before .before .before .before .before .before .before .before .pre .1) (c .before .before .before
-        .before .before .before .loop .inv .0) _ _ _ _ (λ d w. c .before .before .before .before .before .before .before .state-bits .ensures .0 ∙
-        bits-are (c .before .before .before .before .before .before .before .before .before .args .file .now) (c .before .before .before .before
-        .before .before .before .before .before .args .events .now) (c .before .before .before .before .before .before .before .before .before .args
-        .nv) (c .before .before .before .before .before .before .before .before .before .args .nm) (c .before .before .before .before .before .before
-        .before .before .before .pre .0) d w) refl (c .before .before .before .before .property-literal .ensures) (c .before .before .negate .ensures)
-        (c .before .put-literal .ensures), omega arith)
+loop-again c = (
+  closing-on (c .before .before .before .before .before .before .before .before .before .args .file .now) _ _ _ _ _ (c .before .before .before .before
+      .before .loop-test .taken) (c .before .before .before .before .before .before .before .before .before .pre .1) (c .before .before .before
+      .before .before .before .loop .inv .0) _ _ _ _ (λ d w. c .before .before .before .before .before .before .before .state-bits .ensures .0 ∙
+      bits-are (c .before .before .before .before .before .before .before .before .before .args .file .now) (c .before .before .before .before
+      .before .before .before .before .before .args .events .now) (c .before .before .before .before .before .before .before .before .before .args
+      .nv) (c .before .before .before .before .before .before .before .before .before .args .nm) (c .before .before .before .before .before .before
+      .before .before .before .pre .0) d w) refl (c .before .before .before .before .property-literal .ensures) (c .before .before .negate .ensures)
+      (c .before .put-literal .ensures),
+  omega arith,
+)
 
 put-end-requires : tie.Need-put-end-requires Inv-loop μ-loop
 put-end-requires c κs = tt

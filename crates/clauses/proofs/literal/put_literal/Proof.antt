@@ -23,7 +23,7 @@ same-length c = search needs
 returns : tie.Need-returns
 returns c =
     puts-same (ap (λ (z : ℤ). z ∷ []) (word-back _ (c .before .before .before .before .args .l) (omega arith) (c .before .before .signed .ensures))) (c
-        .before .store .ensures)
+    .before .store .ensures)
 
 pub put-literal-spec : {M : Type 1} → statement M
 put-literal-spec = tie.close (tie.spec signed-requires store-requires same-length returns)

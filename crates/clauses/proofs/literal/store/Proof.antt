@@ -31,7 +31,7 @@ same-length c = search needs
 returns-2 : tie.Need-returns-2
 returns-2 c =
     puts-one _ _ _ _ _ (ap (λ (z : ℤ). set (c .before .before .args .buf .now) (c .before .before .args .cur) z) (toZ-ofZ (c .before .before .fits
-        .word))) (c .advance2 .ensures)
+    .word))) (c .advance2 .ensures)
 
 pub store-spec : {M : Type 1} → statement M
 store-spec =

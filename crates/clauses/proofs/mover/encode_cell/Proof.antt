@@ -30,8 +30,13 @@ add-middle c =
     let file = entry .args .file .now in
     let nm = entry .args .nm in
     let nv = entry .args .nv in
-    omega (arith, (normal-fields file events nv nm (entry .pre .0) (entry .args .p) (entry .pre .2)) .header, (normal-fields file events nv nm (entry .pre
-        .0) (entry .args .p) (entry .pre .2)) .past, sizes file events nv nm (entry .pre .0))
+    omega (
+      arith,
+      (normal-fields file events nv nm (entry .pre .0) (entry .args .p) (entry .pre .2)) .header,
+      (normal-fields file events nv nm (entry .pre
+          .0) (entry .args .p) (entry .pre .2)) .past,
+      sizes file events nv nm (entry .pre .0),
+    )
 
 add-wide : tie.Need-add-wide
 add-wide c =
@@ -40,8 +45,13 @@ add-wide c =
     let file = entry .args .file .now in
     let nm = entry .args .nm in
     let nv = entry .args .nv in
-    omega (arith, (normal-fields file events nv nm (entry .pre .0) (entry .args .p) (entry .pre .2)) .header, (normal-fields file events nv nm (entry .pre
-        .0) (entry .args .p) (entry .pre .2)) .past, sizes file events nv nm (entry .pre .0))
+    omega (
+      arith,
+      (normal-fields file events nv nm (entry .pre .0) (entry .args .p) (entry .pre .2)) .header,
+      (normal-fields file events nv nm (entry .pre
+          .0) (entry .args .p) (entry .pre .2)) .past,
+      sizes file events nv nm (entry .pre .0),
+    )
 
 shared-slice-read-wide : tie.Need-shared-slice-read-wide
 shared-slice-read-wide c =
@@ -50,8 +60,13 @@ shared-slice-read-wide c =
     let file = entry .args .file .now in
     let nm = entry .args .nm in
     let nv = entry .args .nv in
-    omega (arith, (normal-fields file events nv nm (entry .pre .0) (entry .args .p) (entry .pre .2)) .header, (normal-fields file events nv nm (entry .pre
-        .0) (entry .args .p) (entry .pre .2)) .past, sizes file events nv nm (entry .pre .0))
+    omega (
+      arith,
+      (normal-fields file events nv nm (entry .pre .0) (entry .args .p) (entry .pre .2)) .header,
+      (normal-fields file events nv nm (entry .pre
+          .0) (entry .args .p) (entry .pre .2)) .past,
+      sizes file events nv nm (entry .pre .0),
+    )
 
 wide-requires : tie.Need-wide-requires
 wide-requires c κs = tt
@@ -59,9 +74,14 @@ wide-requires c κs = tt
 add-middle-2 : tie.Need-add-middle-2
 add-middle-2 c =
     let entry = c .before .before .before .before .before .before .before in
-    omega (arith, (normal-fields (entry .args .file .now) (entry .args .events .now) (entry .args .nv) (entry .args .nm) (entry .pre .0) (entry .args .p)
-        (entry .pre .2)) .past, sizes (entry .args .file .now) (entry .args .events .now) (entry .args .nv) (entry .args .nm) (entry .pre .0), c .wide
-        .ensures .0)
+    omega (
+      arith,
+      (normal-fields (entry .args .file .now) (entry .args .events .now) (entry .args .nv) (entry .args .nm) (entry .pre .0) (entry .args .p)
+          (entry .pre .2)) .past,
+      sizes (entry .args .file .now) (entry .args .events .now) (entry .args .nv) (entry .args .nm) (entry .pre .0),
+      c .wide
+          .ensures .0,
+    )
 
 add-word : tie.Need-add-word
 add-word c =
@@ -70,8 +90,13 @@ add-word c =
     let file = entry .args .file .now in
     let nm = entry .args .nm in
     let nv = entry .args .nv in
-    omega (arith, (normal-fields file events nv nm (entry .pre .0) (entry .args .p) (entry .pre .2)) .header, (normal-fields file events nv nm (entry .pre
-        .0) (entry .args .p) (entry .pre .2)) .past, sizes file events nv nm (entry .pre .0))
+    omega (
+      arith,
+      (normal-fields file events nv nm (entry .pre .0) (entry .args .p) (entry .pre .2)) .header,
+      (normal-fields file events nv nm (entry .pre
+          .0) (entry .args .p) (entry .pre .2)) .past,
+      sizes file events nv nm (entry .pre .0),
+    )
 
 word-requires : tie.Need-word-requires
 word-requires c κs =
@@ -80,15 +105,26 @@ word-requires c κs =
     let file = entry .args .file .now in
     let nm = entry .args .nm in
     let nv = entry .args .nv in
-    omega (arith, (normal-fields file events nv nm (entry .pre .0) (entry .args .p) (entry .pre .2)) .header, (normal-fields file events nv nm (entry .pre
-        .0) (entry .args .p) (entry .pre .2)) .past, sizes file events nv nm (entry .pre .0))
+    omega (
+      arith,
+      (normal-fields file events nv nm (entry .pre .0) (entry .args .p) (entry .pre .2)) .header,
+      (normal-fields file events nv nm (entry .pre
+          .0) (entry .args .p) (entry .pre .2)) .past,
+      sizes file events nv nm (entry .pre .0),
+    )
 
 add-past : tie.Need-add-past
 add-past c =
     let entry = c .before .before .before .before .before .before .before .before in
-    omega (arith, (normal-fields (entry .args .file .now) (entry .args .events .now) (entry .args .nv) (entry .args .nm) (entry .pre .0) (entry .args .p)
-        (entry .pre .2)) .past, sizes (entry .args .file .now) (entry .args .events .now) (entry .args .nv) (entry .args .nm) (entry .pre .0), c
-        .before .wide .ensures .0, c .word .ensures)
+    omega (
+      arith,
+      (normal-fields (entry .args .file .now) (entry .args .events .now) (entry .args .nv) (entry .args .nm) (entry .pre .0) (entry .args .p)
+          (entry .pre .2)) .past,
+      sizes (entry .args .file .now) (entry .args .events .now) (entry .args .nv) (entry .args .nm) (entry .pre .0),
+      c
+          .before .wide .ensures .0,
+      c .word .ensures,
+    )
 
 encode-list-requires : tie.Need-encode-list-requires
 encode-list-requires c κs =
@@ -98,18 +134,37 @@ encode-list-requires c κs =
     let file = entry .args .file .now in
     let nm = entry .args .nm in
     let nv = entry .args .nv in
-    let p = entry .args .p in
-    ((omega (arith, (normal-fields file events nv nm (entry .pre .0) p (entry .pre .2)) .past, sizes file events nv nm (entry .pre .0), at-wide .wide
-        .ensures .0, c .before .before .word .ensures .0), slotted file events nv nm (entry .pre .0) _ (entry .pre .1), (entry .pre .1)), record {
-        tree = entry .pre .2 .cell .action; past = _; reads = (action-got file events nv nm (entry .pre .0) p (entry .pre .2) _ _ (ap (λ (k : ℕ). p +
-        8 + k) (at-wide .wide .ensures .0)) (ap₂ (λ (a b : ℕ). a + b) (ap (λ (k : ℕ). p + 8 + k) (at-wide .wide .ensures .0)) (c .before .before .word
-        .ensures .0))) })
+    let p = entry .args .p in (
+      (
+        omega (
+          arith,
+          (normal-fields file events nv nm (entry .pre .0) p (entry .pre .2)) .past,
+          sizes file events nv nm (entry .pre .0),
+          at-wide .wide
+              .ensures .0,
+          c .before .before .word .ensures .0,
+        ),
+        slotted file events nv nm (entry .pre .0) _ (entry .pre .1),
+        (entry .pre .1),
+      ),
+      record {
+        tree = entry .pre .2 .cell .action;
+        past = _;
+        reads = (action-got file events nv nm (entry .pre .0) p (entry .pre .2) _ _ (ap (λ (k : ℕ). p +
+            8 + k) (at-wide .wide .ensures .0)) (ap₂ (λ (a b : ℕ). a + b) (ap (λ (k : ℕ). p + 8 + k) (at-wide .wide .ensures .0)) (c .before .before .word
+            .ensures .0)));
+      },
+    )
 
 offset-requires : tie.Need-offset-requires
 offset-requires c κs =
     let entry = c .before .before .before .before .before .before .before .before .before .before .before .before in
-    omega (arith, kinds (entry .args .file .now) (entry .args .events .now) (entry .args .nv) (entry .args .nm) (entry .pre .0), sizes (entry .args .file
-        .now) (entry .args .events .now) (entry .args .nv) (entry .args .nm) (entry .pre .0))
+    omega (
+      arith,
+      kinds (entry .args .file .now) (entry .args .events .now) (entry .args .nv) (entry .args .nm) (entry .pre .0),
+      sizes (entry .args .file
+          .now) (entry .args .events .now) (entry .args .nv) (entry .args .nm) (entry .pre .0),
+    )
 
 shared-slice-read-wide-2 : tie.Need-shared-slice-read-wide-2
 shared-slice-read-wide-2 c =
@@ -118,8 +173,13 @@ shared-slice-read-wide-2 c =
     let file = entry .args .file .now in
     let nm = entry .args .nm in
     let nv = entry .args .nv in
-    omega (arith, (normal-fields file events nv nm (entry .pre .0) (entry .args .p) (entry .pre .2)) .header, (normal-fields file events nv nm (entry .pre
-        .0) (entry .args .p) (entry .pre .2)) .past, sizes file events nv nm (entry .pre .0))
+    omega (
+      arith,
+      (normal-fields file events nv nm (entry .pre .0) (entry .args .p) (entry .pre .2)) .header,
+      (normal-fields file events nv nm (entry .pre
+          .0) (entry .args .p) (entry .pre .2)) .past,
+      sizes file events nv nm (entry .pre .0),
+    )
 
 wide-requires-2 : tie.Need-wide-requires-2
 wide-requires-2 c κs = tt
@@ -133,10 +193,19 @@ add-o c =
     let file = entry .args .file .now in
     let nm = entry .args .nm in
     let nv = entry .args .nv in
-    omega (arith, status-room file nv nm (c .wide2 .result) _ (omega (arith, c .wide2 .ensures .0, (normal-fields file (entry .args .events .now) nv nm
-        (entry .pre .0) (entry .args .p) (entry .pre .2)) .matrix, (entry .pre .0) .matrices)) (ap (λ (k : ℕ). k + 4 * c .wide2 .result) (c .before
-        .before .offset .ensures)), (slotted file (entry .args .events .now) nv nm (entry .pre .0) (entry .args .bits .now) (entry .pre .1)) .bits,
-        (entry .pre .1))
+    omega (
+      arith,
+      status-room file nv nm (c .wide2 .result) _ (omega (
+        arith,
+        c .wide2 .ensures .0,
+        (normal-fields file (entry .args .events .now) nv nm
+            (entry .pre .0) (entry .args .p) (entry .pre .2)) .matrix,
+        (entry .pre .0) .matrices,
+      )) (ap (λ (k : ℕ). k + 4 * c .wide2 .result) (c .before
+          .before .offset .ensures)),
+      (slotted file (entry .args .events .now) nv nm (entry .pre .0) (entry .args .bits .now) (entry .pre .1)) .bits,
+      (entry .pre .1),
+    )
 
 add-wide-2 : tie.Need-add-wide-2
 add-wide-2 c =
@@ -145,8 +214,13 @@ add-wide-2 c =
     let file = entry .args .file .now in
     let nm = entry .args .nm in
     let nv = entry .args .nv in
-    omega (arith, (normal-fields file events nv nm (entry .pre .0) (entry .args .p) (entry .pre .2)) .header, (normal-fields file events nv nm (entry .pre
-        .0) (entry .args .p) (entry .pre .2)) .past, sizes file events nv nm (entry .pre .0))
+    omega (
+      arith,
+      (normal-fields file events nv nm (entry .pre .0) (entry .args .p) (entry .pre .2)) .header,
+      (normal-fields file events nv nm (entry .pre
+          .0) (entry .args .p) (entry .pre .2)) .past,
+      sizes file events nv nm (entry .pre .0),
+    )
 
 shared-slice-read-wide-3 : tie.Need-shared-slice-read-wide-3
 shared-slice-read-wide-3 c =
@@ -155,8 +229,13 @@ shared-slice-read-wide-3 c =
     let file = entry .args .file .now in
     let nm = entry .args .nm in
     let nv = entry .args .nv in
-    omega (arith, (normal-fields file events nv nm (entry .pre .0) (entry .args .p) (entry .pre .2)) .header, (normal-fields file events nv nm (entry .pre
-        .0) (entry .args .p) (entry .pre .2)) .past, sizes file events nv nm (entry .pre .0))
+    omega (
+      arith,
+      (normal-fields file events nv nm (entry .pre .0) (entry .args .p) (entry .pre .2)) .header,
+      (normal-fields file events nv nm (entry .pre
+          .0) (entry .args .p) (entry .pre .2)) .past,
+      sizes file events nv nm (entry .pre .0),
+    )
 
 wide-requires-3 : tie.Need-wide-requires-3
 wide-requires-3 c κs = tt
@@ -168,23 +247,31 @@ constant-requires : tie.Need-constant-requires
 constant-requires c κs = tt
 
 store-word-requires : tie.Need-store-word-requires
-store-word-requires c κs =
-    (omega (arith, status-room (c .before .before .before .before .before .before .before .before .before .before .before .before .before .before .before
+store-word-requires c κs = (
+  omega (
+    arith,
+    status-room (c .before .before .before .before .before .before .before .before .before .before .before .before .before .before .before
         .before .before .before .before .args .file .now) (c .before .before .before .before .before .before .before .before .before .before .before
         .before .before .before .before .before .before .before .before .args .nv) (c .before .before .before .before .before .before .before .before
         .before .before .before .before .before .before .before .before .before .before .before .args .nm) (c .before .before .before .before .wide2
-        .result) _ (omega (arith, c .before .before .before .before .wide2 .ensures .0, (normal-fields (c .before .before .before .before .before
-        .before .before .before .before .before .before .before .before .before .before .before .before .before .before .args .file .now) (c .before
-        .before .before .before .before .before .before .before .before .before .before .before .before .before .before .before .before .before
-        .before .args .events .now) (c .before .before .before .before .before .before .before .before .before .before .before .before .before .before
-        .before .before .before .before .before .args .nv) (c .before .before .before .before .before .before .before .before .before .before .before
-        .before .before .before .before .before .before .before .before .args .nm) (c .before .before .before .before .before .before .before .before
-        .before .before .before .before .before .before .before .before .before .before .before .pre .0) (c .before .before .before .before .before
-        .before .before .before .before .before .before .before .before .before .before .before .before .before .before .args .p) (c .before .before
-        .before .before .before .before .before .before .before .before .before .before .before .before .before .before .before .before .before .pre
-        .2)) .matrix, (c .before .before .before .before .before .before .before .before .before .before .before .before .before .before .before
-        .before .before .before .before .pre .0) .matrices)) (ap (λ (k : ℕ). k + 4 * c .before .before .before .before .wide2 .result) (c .before
-        .before .before .before .before .before .offset .ensures)), (slotted (c .before .before .before .before .before .before .before .before
+        .result) _ (omega (
+          arith,
+          c .before .before .before .before .wide2 .ensures .0,
+          (normal-fields (c .before .before .before .before .before
+              .before .before .before .before .before .before .before .before .before .before .before .before .before .before .args .file .now) (c .before
+              .before .before .before .before .before .before .before .before .before .before .before .before .before .before .before .before .before
+              .before .args .events .now) (c .before .before .before .before .before .before .before .before .before .before .before .before .before .before
+              .before .before .before .before .before .args .nv) (c .before .before .before .before .before .before .before .before .before .before .before
+              .before .before .before .before .before .before .before .before .args .nm) (c .before .before .before .before .before .before .before .before
+              .before .before .before .before .before .before .before .before .before .before .before .pre .0) (c .before .before .before .before .before
+              .before .before .before .before .before .before .before .before .before .before .before .before .before .before .args .p) (c .before .before
+              .before .before .before .before .before .before .before .before .before .before .before .before .before .before .before .before .before .pre
+              .2)) .matrix,
+          (c .before .before .before .before .before .before .before .before .before .before .before .before .before .before .before
+              .before .before .before .before .pre .0) .matrices,
+        )) (ap (λ (k : ℕ). k + 4 * c .before .before .before .before .wide2 .result) (c .before
+        .before .before .before .before .before .offset .ensures)),
+    (slotted (c .before .before .before .before .before .before .before .before
         .before .before .before .before .before .before .before .before .before .before .before .args .file .now) (c .before .before .before .before
         .before .before .before .before .before .before .before .before .before .before .before .before .before .before .before .args .events .now) (c
         .before .before .before .before .before .before .before .before .before .before .before .before .before .before .before .before .before
@@ -192,15 +279,23 @@ store-word-requires c κs =
         .before .before .before .before .before .args .nm) (c .before .before .before .before .before .before .before .before .before .before .before
         .before .before .before .before .before .before .before .before .pre .0) (c .before .before .before .before .before .before .before .before
         .before .before .before .before .before .before .before .before .before .before .before .args .bits .now) (c .before .before .before .before
-        .before .before .before .before .before .before .before .before .before .before .before .before .before .before .before .pre .1)) .bits, (c
+        .before .before .before .before .before .before .before .before .before .before .before .before .before .before .before .pre .1)) .bits,
+    (c
         .before .before .before .before .before .before .before .before .before .before .before .before .before .before .before .before .before
-        .before .before .pre .1)), omega arith, c .before .before .before .before .before .before .before .before .encode-list .ensures .1)
+        .before .before .pre .1),
+  ),
+  omega arith,
+  c .before .before .before .before .before .before .before .before .encode-list .ensures .1,
+)
 
 muxes-requires : tie.Need-muxes-requires
 muxes-requires c κs =
-    let entry = c .before .before .before .before .before .before .before .before .before .before .before .before .before .before .before .before .before .before .before .before .before .before in
-    (slotted (entry .args .file .now) (entry .args .events .now) (entry .args .nv) (entry .args .nm) (entry .pre .0) _ (c .before .before .store-word
-        .ensures .1), c .before .before .store-word .ensures .1, (entry .pre .1))
+    let entry = c .before .before .before .before .before .before .before .before .before .before .before .before .before .before .before .before .before .before .before .before .before .before in (
+      slotted (entry .args .file .now) (entry .args .events .now) (entry .args .nv) (entry .args .nm) (entry .pre .0) _ (c .before .before .store-word
+          .ensures .1),
+      c .before .before .store-word .ensures .1,
+      (entry .pre .1),
+    )
 
 same-length : tie.Need-same-length
 same-length c =
@@ -211,88 +306,93 @@ same-length c =
 returns : tie.Need-returns
 returns c =
     λ x. let i = is (c .before .before .before .before .before .before .before .before .before .before .before .before .before .before .before .before
-        .before .before .before .before .before .before .before .before .args .file .now) (c .before .before .before .before .before .before .before
-        .before .before .before .before .before .before .before .before .before .before .before .before .before .before .before .before .before .args
-        .events .now) (c .before .before .before .before .before .before .before .before .before .before .before .before .before .before .before
-        .before .before .before .before .before .before .before .before .before .args .nv) (c .before .before .before .before .before .before .before
-        .before .before .before .before .before .before .before .before .before .before .before .before .before .before .before .before .before .args
-        .nm) (c .before .before .before .before .before .before .before .before .before .before .before .before .before .before .before .before
-        .before .before .before .before .before .before .before .before .pre .0) (c .before .before .before .before .before .before .before .before
-        .before .before .before .before .before .before .before .before .before .before .before .before .before .before .before .before .args .p) x in
-        cell-emits (layoutOf (c .before .before .before .before .before .before .before .before .before .before .before .before .before .before
-        .before .before .before .before .before .before .before .before .before .before .args .nv)) (slotsOf (c .before .before .before .before
-        .before .before .before .before .before .before .before .before .before .before .before .before .before .before .before .before .before
-        .before .before .before .args .file .now) (c .before .before .before .before .before .before .before .before .before .before .before .before
-        .before .before .before .before .before .before .before .before .before .before .before .before .args .nv) (c .before .before .before .before
-        .before .before .before .before .before .before .before .before .before .before .before .before .before .before .before .before .before
-        .before .before .before .args .nm) (c .before .before .before .before .before .before .before .before .before .before .before .before .before
-        .before .before .before .before .before .before .before .before .before .before .before .args .bits .now)) (x .cell) (c .before .before
-        .before .before .before .before .before .before .before .before .before .before .before .before .before .before .before .before .before
-        .before .before .encode-enable .ensures x) (c .before .before .before .before .before .before .before .before .before .before .before .before
-        .before .encode-list .ensures .0 _ _ (action-got (c .before .before .before .before .before .before .before .before .before .before .before
-        .before .before .before .before .before .before .before .before .before .before .before .before .before .args .file .now) (c .before .before
-        .before .before .before .before .before .before .before .before .before .before .before .before .before .before .before .before .before
-        .before .before .before .before .before .args .events .now) (c .before .before .before .before .before .before .before .before .before .before
-        .before .before .before .before .before .before .before .before .before .before .before .before .before .before .args .nv) (c .before .before
-        .before .before .before .before .before .before .before .before .before .before .before .before .before .before .before .before .before
-        .before .before .before .before .before .args .nm) (c .before .before .before .before .before .before .before .before .before .before .before
-        .before .before .before .before .before .before .before .before .before .before .before .before .before .pre .0) (c .before .before .before
-        .before .before .before .before .before .before .before .before .before .before .before .before .before .before .before .before .before
-        .before .before .before .before .args .p) x _ _ (ap (λ (k : ℕ). (c .before .before .before .before .before .before .before .before .before
-        .before .before .before .before .before .before .before .before .before .before .before .before .before .before .before .args .p) + 8 + k) (c
-        .before .before .before .before .before .before .before .before .before .before .before .before .before .before .before .before .before .wide
-        .ensures .0)) (ap₂ (λ (a b : ℕ). a + b) (ap (λ (k : ℕ). (c .before .before .before .before .before .before .before .before .before .before
-        .before .before .before .before .before .before .before .before .before .before .before .before .before .before .args .p) + 8 + k) (c .before
-        .before .before .before .before .before .before .before .before .before .before .before .before .before .before .before .before .wide .ensures
-        .0)) (c .before .before .before .before .before .before .before .before .before .before .before .before .before .before .before .before .word
-        .ensures .0))) .0) (target-set (c .before .before .before .before .before .before .before .before .before .before .before .before .before
-        .before .before .before .before .before .before .before .before .before .before .before .args .file .now) (c .before .before .before .before
-        .before .before .before .before .before .before .before .before .before .before .before .before .before .before .before .before .before
-        .before .before .before .args .nv) (c .before .before .before .before .before .before .before .before .before .before .before .before .before
-        .before .before .before .before .before .before .before .before .before .before .before .args .nm) _ (few-bits (c .before .before .before
-        .before .before .before .before .before .before .before .before .before .before .before .before .before .before .before .before .before
-        .before .before .before .before .args .file .now) (c .before .before .before .before .before .before .before .before .before .before .before
-        .before .before .before .before .before .before .before .before .before .before .before .before .before .args .events .now) (c .before .before
-        .before .before .before .before .before .before .before .before .before .before .before .before .before .before .before .before .before
-        .before .before .before .before .before .args .nv) (c .before .before .before .before .before .before .before .before .before .before .before
-        .before .before .before .before .before .before .before .before .before .before .before .before .before .args .nm) (c .before .before .before
-        .before .before .before .before .before .before .before .before .before .before .before .before .before .before .before .before .before
-        .before .before .before .before .pre .0)) (c .before .before .before .before .before .before .before .before .before .before .before .before
-        .before .encode-list .ensures .1) (x .cell .matrix) (c .before .before .before .before .before .before .before .before .before .wide2 .result)
-        _ (x .cell .target) (c .before .before .before .before .before .before .wide3 .result) (c .before .before .before .before .before .constant
-        .result) _ (c .before .before .before .before .before .before .before .before .before .wide2 .ensures .0 ∙ sym (i .matrix)) (c .before .before
-        .before .before .before .before .wide3 .ensures .0 ∙ sym (i .target)) (omega (arith, i .matrix, (normal-fields (c .before .before .before
-        .before .before .before .before .before .before .before .before .before .before .before .before .before .before .before .before .before
-        .before .before .before .before .args .file .now) (c .before .before .before .before .before .before .before .before .before .before .before
-        .before .before .before .before .before .before .before .before .before .before .before .before .before .args .events .now) (c .before .before
-        .before .before .before .before .before .before .before .before .before .before .before .before .before .before .before .before .before
-        .before .before .before .before .before .args .nv) (c .before .before .before .before .before .before .before .before .before .before .before
-        .before .before .before .before .before .before .before .before .before .before .before .before .before .args .nm) (c .before .before .before
-        .before .before .before .before .before .before .before .before .before .before .before .before .before .before .before .before .before
-        .before .before .before .before .pre .0) (c .before .before .before .before .before .before .before .before .before .before .before .before
-        .before .before .before .before .before .before .before .before .before .before .before .before .args .p) (c .before .before .before .before
-        .before .before .before .before .before .before .before .before .before .before .before .before .before .before .before .before .before
-        .before .before .before .pre .2)) .matrix, (c .before .before .before .before .before .before .before .before .before .before .before .before
-        .before .before .before .before .before .before .before .before .before .before .before .before .pre .0) .matrices)) (ap (λ (k : ℕ). k + 4 * c
-        .before .before .before .before .before .before .before .before .before .wide2 .result) (c .before .before .before .before .before .before
-        .before .before .before .before .before .offset .ensures)) (c .before .before .before .before .before .constant .ensures) (let h : length (c
-        .before .before .before .before .before .constant .result) ≡ 16 = search needs in h) (c .before .before .before .before .store-word .ensures
-        .0)) (muxes-first (c .before .before .before .before .before .before .before .before .before .before .before .before .before .before .before
-        .before .before .before .before .before .before .before .before .before .args .file .now) (c .before .before .before .before .before .before
-        .before .before .before .before .before .before .before .before .before .before .before .before .before .before .before .before .before
-        .before .args .nv) (c .before .before .before .before .before .before .before .before .before .before .before .before .before .before .before
-        .before .before .before .before .before .before .before .before .before .args .nm) _ _ (c .before .before .before .before .before .before
-        .before .before .before .before .before .before .before .before .before .before .before .before .before .before .before .before .before
-        .before .args .bits .now) (few-bits (c .before .before .before .before .before .before .before .before .before .before .before .before .before
-        .before .before .before .before .before .before .before .before .before .before .before .args .file .now) (c .before .before .before .before
-        .before .before .before .before .before .before .before .before .before .before .before .before .before .before .before .before .before
-        .before .before .before .args .events .now) (c .before .before .before .before .before .before .before .before .before .before .before .before
-        .before .before .before .before .before .before .before .before .before .before .before .before .args .nv) (c .before .before .before .before
-        .before .before .before .before .before .before .before .before .before .before .before .before .before .before .before .before .before
-        .before .before .before .args .nm) (c .before .before .before .before .before .before .before .before .before .before .before .before .before
-        .before .before .before .before .before .before .before .before .before .before .before .pre .0)) (c .before .before .before .before
-        .store-word .ensures .1) (c .before .before .before .before .before .before .before .before .before .before .before .before .before .before
-        .before .before .before .before .before .before .before .before .before .before .pre .1) (c .before .muxes .ensures .0))
+    .before .before .before .before .before .before .before .before .args .file .now) (c .before .before .before .before .before .before .before
+    .before .before .before .before .before .before .before .before .before .before .before .before .before .before .before .before .before .args
+    .events .now) (c .before .before .before .before .before .before .before .before .before .before .before .before .before .before .before
+    .before .before .before .before .before .before .before .before .before .args .nv) (c .before .before .before .before .before .before .before
+    .before .before .before .before .before .before .before .before .before .before .before .before .before .before .before .before .before .args
+    .nm) (c .before .before .before .before .before .before .before .before .before .before .before .before .before .before .before .before
+    .before .before .before .before .before .before .before .before .pre .0) (c .before .before .before .before .before .before .before .before
+    .before .before .before .before .before .before .before .before .before .before .before .before .before .before .before .before .args .p) x in
+    cell-emits (layoutOf (c .before .before .before .before .before .before .before .before .before .before .before .before .before .before
+    .before .before .before .before .before .before .before .before .before .before .args .nv)) (slotsOf (c .before .before .before .before
+    .before .before .before .before .before .before .before .before .before .before .before .before .before .before .before .before .before
+    .before .before .before .args .file .now) (c .before .before .before .before .before .before .before .before .before .before .before .before
+    .before .before .before .before .before .before .before .before .before .before .before .before .args .nv) (c .before .before .before .before
+    .before .before .before .before .before .before .before .before .before .before .before .before .before .before .before .before .before
+    .before .before .before .args .nm) (c .before .before .before .before .before .before .before .before .before .before .before .before .before
+    .before .before .before .before .before .before .before .before .before .before .before .args .bits .now)) (x .cell) (c .before .before
+    .before .before .before .before .before .before .before .before .before .before .before .before .before .before .before .before .before
+    .before .before .encode-enable .ensures x) (c .before .before .before .before .before .before .before .before .before .before .before .before
+    .before .encode-list .ensures .0 _ _ (action-got (c .before .before .before .before .before .before .before .before .before .before .before
+    .before .before .before .before .before .before .before .before .before .before .before .before .before .args .file .now) (c .before .before
+    .before .before .before .before .before .before .before .before .before .before .before .before .before .before .before .before .before
+    .before .before .before .before .before .args .events .now) (c .before .before .before .before .before .before .before .before .before .before
+    .before .before .before .before .before .before .before .before .before .before .before .before .before .before .args .nv) (c .before .before
+    .before .before .before .before .before .before .before .before .before .before .before .before .before .before .before .before .before
+    .before .before .before .before .before .args .nm) (c .before .before .before .before .before .before .before .before .before .before .before
+    .before .before .before .before .before .before .before .before .before .before .before .before .before .pre .0) (c .before .before .before
+    .before .before .before .before .before .before .before .before .before .before .before .before .before .before .before .before .before
+    .before .before .before .before .args .p) x _ _ (ap (λ (k : ℕ). (c .before .before .before .before .before .before .before .before .before
+    .before .before .before .before .before .before .before .before .before .before .before .before .before .before .before .args .p) + 8 + k) (c
+    .before .before .before .before .before .before .before .before .before .before .before .before .before .before .before .before .before .wide
+    .ensures .0)) (ap₂ (λ (a b : ℕ). a + b) (ap (λ (k : ℕ). (c .before .before .before .before .before .before .before .before .before .before
+    .before .before .before .before .before .before .before .before .before .before .before .before .before .before .args .p) + 8 + k) (c .before
+    .before .before .before .before .before .before .before .before .before .before .before .before .before .before .before .before .wide .ensures
+    .0)) (c .before .before .before .before .before .before .before .before .before .before .before .before .before .before .before .before .word
+    .ensures .0))) .0) (target-set (c .before .before .before .before .before .before .before .before .before .before .before .before .before
+    .before .before .before .before .before .before .before .before .before .before .before .args .file .now) (c .before .before .before .before
+    .before .before .before .before .before .before .before .before .before .before .before .before .before .before .before .before .before
+    .before .before .before .args .nv) (c .before .before .before .before .before .before .before .before .before .before .before .before .before
+    .before .before .before .before .before .before .before .before .before .before .before .args .nm) _ (few-bits (c .before .before .before
+    .before .before .before .before .before .before .before .before .before .before .before .before .before .before .before .before .before
+    .before .before .before .before .args .file .now) (c .before .before .before .before .before .before .before .before .before .before .before
+    .before .before .before .before .before .before .before .before .before .before .before .before .before .args .events .now) (c .before .before
+    .before .before .before .before .before .before .before .before .before .before .before .before .before .before .before .before .before
+    .before .before .before .before .before .args .nv) (c .before .before .before .before .before .before .before .before .before .before .before
+    .before .before .before .before .before .before .before .before .before .before .before .before .before .args .nm) (c .before .before .before
+    .before .before .before .before .before .before .before .before .before .before .before .before .before .before .before .before .before
+    .before .before .before .before .pre .0)) (c .before .before .before .before .before .before .before .before .before .before .before .before
+    .before .encode-list .ensures .1) (x .cell .matrix) (c .before .before .before .before .before .before .before .before .before .wide2 .result)
+    _ (x .cell .target) (c .before .before .before .before .before .before .wide3 .result) (c .before .before .before .before .before .constant
+    .result) _ (c .before .before .before .before .before .before .before .before .before .wide2 .ensures .0 ∙ sym (i .matrix)) (c .before .before
+    .before .before .before .before .wide3 .ensures .0 ∙ sym (i .target)) (omega (
+      arith,
+      i .matrix,
+      (normal-fields (c .before .before .before
+          .before .before .before .before .before .before .before .before .before .before .before .before .before .before .before .before .before
+          .before .before .before .before .args .file .now) (c .before .before .before .before .before .before .before .before .before .before .before
+          .before .before .before .before .before .before .before .before .before .before .before .before .before .args .events .now) (c .before .before
+          .before .before .before .before .before .before .before .before .before .before .before .before .before .before .before .before .before
+          .before .before .before .before .before .args .nv) (c .before .before .before .before .before .before .before .before .before .before .before
+          .before .before .before .before .before .before .before .before .before .before .before .before .before .args .nm) (c .before .before .before
+          .before .before .before .before .before .before .before .before .before .before .before .before .before .before .before .before .before
+          .before .before .before .before .pre .0) (c .before .before .before .before .before .before .before .before .before .before .before .before
+          .before .before .before .before .before .before .before .before .before .before .before .before .args .p) (c .before .before .before .before
+          .before .before .before .before .before .before .before .before .before .before .before .before .before .before .before .before .before
+          .before .before .before .pre .2)) .matrix,
+      (c .before .before .before .before .before .before .before .before .before .before .before .before
+          .before .before .before .before .before .before .before .before .before .before .before .before .pre .0) .matrices,
+    )) (ap (λ (k : ℕ). k + 4 * c
+    .before .before .before .before .before .before .before .before .before .wide2 .result) (c .before .before .before .before .before .before
+    .before .before .before .before .before .offset .ensures)) (c .before .before .before .before .before .constant .ensures) (let h : length (c
+    .before .before .before .before .before .constant .result) ≡ 16 = search needs in h) (c .before .before .before .before .store-word .ensures
+    .0)) (muxes-first (c .before .before .before .before .before .before .before .before .before .before .before .before .before .before .before
+    .before .before .before .before .before .before .before .before .before .args .file .now) (c .before .before .before .before .before .before
+    .before .before .before .before .before .before .before .before .before .before .before .before .before .before .before .before .before
+    .before .args .nv) (c .before .before .before .before .before .before .before .before .before .before .before .before .before .before .before
+    .before .before .before .before .before .before .before .before .before .args .nm) _ _ (c .before .before .before .before .before .before
+    .before .before .before .before .before .before .before .before .before .before .before .before .before .before .before .before .before
+    .before .args .bits .now) (few-bits (c .before .before .before .before .before .before .before .before .before .before .before .before .before
+    .before .before .before .before .before .before .before .before .before .before .before .args .file .now) (c .before .before .before .before
+    .before .before .before .before .before .before .before .before .before .before .before .before .before .before .before .before .before
+    .before .before .before .args .events .now) (c .before .before .before .before .before .before .before .before .before .before .before .before
+    .before .before .before .before .before .before .before .before .before .before .before .before .args .nv) (c .before .before .before .before
+    .before .before .before .before .before .before .before .before .before .before .before .before .before .before .before .before .before
+    .before .before .before .args .nm) (c .before .before .before .before .before .before .before .before .before .before .before .before .before
+    .before .before .before .before .before .before .before .before .before .before .before .pre .0)) (c .before .before .before .before
+    .store-word .ensures .1) (c .before .before .before .before .before .before .before .before .before .before .before .before .before .before
+    .before .before .before .before .before .before .before .before .before .before .pre .1) (c .before .muxes .ensures .0))
 
 pub encode-cell-spec : {M : Type 1} → statement M
 encode-cell-spec =

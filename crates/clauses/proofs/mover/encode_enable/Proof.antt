@@ -12,10 +12,13 @@ use Rattle.clauses.proofs.mover.encode_guard.Reads as encode-guard-read
 use Rattle.clauses.proofs.mover.status_and_event.Reads as status-and-event-reads
 
 status-and-event-requires : tie.Need-status-and-event-requires
-status-and-event-requires c κs =
-    ((c .before .before .pre .0), (c .before .before .pre .1), (normal-fields (c .before .before .args .file .now) (c .before .before .args .events .now)
-        (c .before .before .args .nv) (c .before .before .args .nm) (c .before .before .pre .0) (c .before .before .args .p) (c .before .before .pre
-        .2)))
+status-and-event-requires c κs = (
+  (c .before .before .pre .0),
+  (c .before .before .pre .1),
+  (normal-fields (c .before .before .args .file .now) (c .before .before .args .events .now)
+      (c .before .before .args .nv) (c .before .before .args .nm) (c .before .before .pre .0) (c .before .before .args .p) (c .before .before .pre
+      .2)),
+)
 
 encode-guard-requires : tie.Need-encode-guard-requires
 encode-guard-requires c κs = c .before .before .before .before .before .pre
@@ -33,9 +36,9 @@ returns c =
     let nm = entry .args .nm in
     let nv = entry .args .nv in
     λ x. enable-emits (layoutOf nv) (slotsOf file nv nm (entry .args .bits .now)) (x .cell) _ _ _ (emits-same _ _ (cell-event file (entry .args .events
-        .now) nv nm (entry .pre .0) (entry .args .p) x (layoutOf nv) (slotsOf file nv nm (entry .args .bits .now)) _) (c .before .before .before
-        .before .before .before .before .status-and-event .ensures (x .tree) (x .parts))) (c .before .before .before .before .encode-guard .ensures x)
-        (c .before .emit-and .ensures)
+    .now) nv nm (entry .pre .0) (entry .args .p) x (layoutOf nv) (slotsOf file nv nm (entry .args .bits .now)) _) (c .before .before .before
+    .before .before .before .before .status-and-event .ensures (x .tree) (x .parts))) (c .before .before .before .before .encode-guard .ensures x)
+    (c .before .emit-and .ensures)
 
 pub encode-enable-spec : {M : Type 1} → statement M
 encode-enable-spec =

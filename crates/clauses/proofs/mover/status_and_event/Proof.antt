@@ -22,17 +22,28 @@ use Rattle.design.proofs.bytes.wide.Reads as wide-reads
 
 shared-slice-read-wide : tie.Need-shared-slice-read-wide
 shared-slice-read-wide c =
-    omega (arith, (c .before .before .pre .2) .header, sizes (c .before .before .args .file .now) (c .before .before .args .events .now) (c .before
-        .before .args .nv) (c .before .before .args .nm) (c .before .before .pre .0))
+    omega (
+      arith,
+      (c .before .before .pre .2) .header,
+      sizes (c .before .before .args .file .now) (c .before .before .args .events .now) (c .before
+          .before .args .nv) (c .before .before .args .nm) (c .before .before .pre .0),
+    )
 
 wide-requires : tie.Need-wide-requires
 wide-requires c κs = tt
 
 load-status-requires : tie.Need-load-status-requires
 load-status-requires c κs =
-    let entry = c .before .before .before .before in
-    (slotted (entry .args .file .now) (entry .args .events .now) (entry .args .nv) (entry .args .nm) (entry .pre .0) _ (entry .pre .1), omega (arith, c
-        .before .wide .ensures .0, (entry .pre .2) .matrix, (entry .pre .0) .matrices))
+    let entry = c .before .before .before .before in (
+      slotted (entry .args .file .now) (entry .args .events .now) (entry .args .nv) (entry .args .nm) (entry .pre .0) _ (entry .pre .1),
+      omega (
+        arith,
+        c
+            .before .wide .ensures .0,
+        (entry .pre .2) .matrix,
+        (entry .pre .0) .matrices,
+      ),
+    )
 
 add-wide : tie.Need-add-wide
 add-wide c =
@@ -72,10 +83,14 @@ wide-requires-3 c κs = tt
 encode-event-requires : tie.Need-encode-event-requires
 encode-event-requires c κs =
     let at-wide = c .before .before .before .before .before .before .before .before .before .before .before in
-    let entry = at-wide .before .before .before in
-    ((entry .pre .0), (entry .pre .1), omega (arith, at-wide .wide .ensures .0, (entry .pre .2) .matrix, (entry .pre .0) .matrices), subst (λ (k : ℕ). c
-        .before .wide3 .result < eventCount (entry .args .file .now) (matricesOffset (entry .args .file .now)) k) (sym (at-wide .wide .ensures .0))
-        (omega (arith, (entry .pre .2) .event, c .before .wide3 .ensures .0)))
+    let entry = at-wide .before .before .before in (
+      (entry .pre .0),
+      (entry .pre .1),
+      omega (arith, at-wide .wide .ensures .0, (entry .pre .2) .matrix, (entry .pre .0) .matrices),
+      subst (λ (k : ℕ). c
+          .before .wide3 .result < eventCount (entry .args .file .now) (matricesOffset (entry .args .file .now)) k) (sym (at-wide .wide .ensures .0))
+          (omega (arith, (entry .pre .2) .event, c .before .wide3 .ensures .0)),
+    )
 
 emit-and-requires : tie.Need-emit-and-requires
 emit-and-requires c κs = tt
@@ -97,11 +112,11 @@ returns c =
     let nv = entry .args .nv in
     let p = entry .args .p in
     λ d w. event-emits (layoutOf nv) (slotsOf file nv nm bits) (c-matrix file p) (c-status file p) (eventIn (w .rows) (c-matrix file p) (c-event file p))
-        _ _ _ _ _ (at-load-status .load-status .ensures ∙ ap (λ (m : ℕ). integerAt (slotsOf file nv nm bits) (nv + m)) (at-wide .wide .ensures .0))
-        (at-constant .constant .ensures ∙ ap (constantBits 16) (at-wide2 .wide2 .ensures .0)) (at-equal .equal .ensures) (emits-same _ _ (ap₂ (λ (a b
-        : ℕ). bool! (layoutOf nv) (slotsOf file nv nm bits) (eventIn (w .rows) a b) (at-equal .equal .result .var)) (at-wide .wide .ensures .0) (c
-        .before .before .before .before .before .before .wide3 .ensures .0)) (c .before .before .before .before .encode-event .ensures d w)) (c
-        .before .emit-and .ensures)
+    _ _ _ _ _ (at-load-status .load-status .ensures ∙ ap (λ (m : ℕ). integerAt (slotsOf file nv nm bits) (nv + m)) (at-wide .wide .ensures .0))
+    (at-constant .constant .ensures ∙ ap (constantBits 16) (at-wide2 .wide2 .ensures .0)) (at-equal .equal .ensures) (emits-same _ _ (ap₂ (λ (a b
+    : ℕ). bool! (layoutOf nv) (slotsOf file nv nm bits) (eventIn (w .rows) a b) (at-equal .equal .result .var)) (at-wide .wide .ensures .0) (c
+    .before .before .before .before .before .before .wide3 .ensures .0)) (c .before .before .before .before .encode-event .ensures d w)) (c
+    .before .emit-and .ensures)
 
 pub status-and-event-spec : {M : Type 1} → statement M
 status-and-event-spec =

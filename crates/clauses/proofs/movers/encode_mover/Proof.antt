@@ -14,37 +14,55 @@ use Rattle.step.proofs.mover.external.Reads as external-reads
 
 mul-p : tie.Need-mul-p
 mul-p c =
-    omega (arith, few-cells (c .before .before .args .file .now) (c .before .before .args .events .now) (c .before .before .args .cells .now) (c .before
-        .before .args .nv) (c .before .before .args .nm) (c .before .before .args .count) (c .before .before .pre .0) (c .before .before .pre .2))
+    omega (
+      arith,
+      few-cells (c .before .before .args .file .now) (c .before .before .args .events .now) (c .before .before .args .cells .now) (c .before
+          .before .args .nv) (c .before .before .args .nm) (c .before .before .args .count) (c .before .before .pre .0) (c .before .before .pre .2),
+    )
 
 element-copy-out-p : tie.Need-element-copy-out-p
 element-copy-out-p c =
-    omega (arith, few-cells (c .before .before .args .file .now) (c .before .before .args .events .now) (c .before .before .args .cells .now) (c .before
-        .before .args .nv) (c .before .before .args .nm) (c .before .before .args .count) (c .before .before .pre .0) (c .before .before .pre .2))
+    omega (
+      arith,
+      few-cells (c .before .before .args .file .now) (c .before .before .args .events .now) (c .before .before .args .cells .now) (c .before
+          .before .args .nv) (c .before .before .args .nm) (c .before .before .args .count) (c .before .before .pre .0) (c .before .before .pre .2),
+    )
 
 cast-p : tie.Need-cast-p
 cast-p c =
     let entry = c .before .before .before in
-    omega (arith, place-small (entry .args .file .now) (entry .args .events .now) (entry .args .cells .now) (entry .args .nv) (entry .args .nm) (entry
-        .args .count) (entry .pre .0) (entry .pre .2) (entry .args .i) (c .before .if1 .taken))
+    omega (
+      arith,
+      place-small (entry .args .file .now) (entry .args .events .now) (entry .args .cells .now) (entry .args .nv) (entry .args .nm) (entry
+          .args .count) (entry .pre .0) (entry .pre .2) (entry .args .i) (c .before .if1 .taken),
+    )
 
 encode-cell-requires : tie.Need-encode-cell-requires
 encode-cell-requires c κs =
-    let entry = c .before .before .before .before in
-    ((entry .pre .0), (entry .pre .1), cell-here (entry .args .file .now) (entry .args .events .now) (entry .args .cells .now) (entry .args .nv) (entry
-        .args .nm) (entry .args .count) (entry .pre .0) (entry .pre .2) (entry .args .i) (c .before .before .if1 .taken))
+    let entry = c .before .before .before .before in (
+      (entry .pre .0),
+      (entry .pre .1),
+      cell-here (entry .args .file .now) (entry .args .events .now) (entry .args .cells .now) (entry .args .nv) (entry
+          .args .nm) (entry .args .count) (entry .pre .0) (entry .pre .2) (entry .args .i) (c .before .before .if1 .taken),
+    )
 
 external-requires : tie.Need-external-requires
-external-requires c κs =
-    (kinds (c .before .before .args .file .now) (c .before .before .args .events .now) (c .before .before .args .nv) (c .before .before .args .nm) (c
-        .before .before .pre .0), omega (arith, c .before .before .pre .3, c .if1 .left))
+external-requires c κs = (
+  kinds (c .before .before .args .file .now) (c .before .before .args .events .now) (c .before .before .args .nv) (c .before .before .args .nm) (c
+      .before .before .pre .0),
+  omega (arith, c .before .before .pre .3, c .if1 .left),
+)
 
 encode-external-requires : tie.Need-encode-external-requires
 encode-external-requires c κs =
-    let entry = c .before .before .before .before in
-    ((entry .pre .0), (entry .pre .1), c .before .external .ensures .1, raised-kind (entry .args .file .now) (entry .args .events .now) (entry .args
-        .cells .now) (entry .args .nv) (entry .args .nm) (entry .args .count) (entry .pre .0) (entry .pre .2) (entry .args .i) _ (c .before .before
-        .if1 .left) (entry .pre .3) (c .before .external .ensures .0))
+    let entry = c .before .before .before .before in (
+      (entry .pre .0),
+      (entry .pre .1),
+      c .before .external .ensures .1,
+      raised-kind (entry .args .file .now) (entry .args .events .now) (entry .args
+          .cells .now) (entry .args .nv) (entry .args .nm) (entry .args .count) (entry .pre .0) (entry .pre .2) (entry .args .i) _ (c .before .before
+          .if1 .left) (entry .pre .3) (c .before .external .ensures .0),
+    )
 
 same-length : tie.Need-same-length
 same-length c = search needs
@@ -54,8 +72,8 @@ returns c =
     let entry = c .before .before .before .before .before .before in
     let nv = entry .args .nv in
     cell-is (entry .args .file .now) (entry .args .events .now) (entry .args .cells .now) nv (entry .args .nm) (entry .args .count) (entry .pre .0) (entry
-        .pre .2) (layoutOf nv) (slotsOf (entry .args .file .now) nv (entry .args .nm) (entry .args .bits .now)) (entry .args .i) (c .before .before
-        .before .before .if1 .taken) (c .before .encode-cell .ensures)
+    .pre .2) (layoutOf nv) (slotsOf (entry .args .file .now) nv (entry .args .nm) (entry .args .bits .now)) (entry .args .i) (c .before .before
+    .before .before .if1 .taken) (c .before .encode-cell .ensures)
 
 same-length-2 : tie.Need-same-length-2
 same-length-2 c = search needs
@@ -65,8 +83,8 @@ returns-2 c =
     let entry = c .before .before .before .before .before .before in
     let nv = entry .args .nv in
     external-is (entry .args .file .now) (entry .args .events .now) (entry .args .cells .now) nv (entry .args .nm) (entry .args .count) (entry .pre .0)
-        (entry .pre .2) (layoutOf nv) (slotsOf (entry .args .file .now) nv (entry .args .nm) (entry .args .bits .now)) (entry .args .i) (c .before
-        .before .before .before .if1 .left) _ (c .before .before .before .external .ensures .0) (entry .pre .3) (c .before .encode-external .ensures)
+    (entry .pre .2) (layoutOf nv) (slotsOf (entry .args .file .now) nv (entry .args .nm) (entry .args .bits .now)) (entry .args .i) (c .before
+    .before .before .before .if1 .left) _ (c .before .before .before .external .ensures .0) (entry .pre .3) (c .before .encode-external .ensures)
 
 pub encode-mover-spec : {M : Type 1} → statement M
 encode-mover-spec =

@@ -16,9 +16,11 @@ abbrev μ-loop : tie.MeasureT-loop
 μ-loop file events cells count all nv nm bits firsts₀ buf₀ cur var at₀ g₀ i₀ firsts buf at g i = all - i
 
 loop-holds : tie.Need-loop-holds Inv-loop μ-loop
-loop-holds c =
-    (moving-start (c .before .args .file .now) (c .before .args .nv) (c .before .args .nm) (c .before .args .all) (c .before .args .bits .now) _ _ _ _ (c
-        .before .pre .5), refl)
+loop-holds c = (
+  moving-start (c .before .args .file .now) (c .before .args .nv) (c .before .args .nm) (c .before .args .all) (c .before .args .bits .now) _ _ _ _ (c
+      .before .pre .5),
+  refl,
+)
 
 encode-mover-requires : tie.Need-encode-mover-requires Inv-loop μ-loop
 encode-mover-requires c κs =
@@ -38,26 +40,30 @@ loop-less : tie.Need-loop-less Inv-loop μ-loop
 loop-less c = omega arith
 
 loop-again : tie.Need-loop-again Inv-loop μ-loop
-loop-again c =
-    (moving-on (c .before .before .before .before .before .before .args .file .now) (c .before .before .before .before .before .before .args .nv) (c
-        .before .before .before .before .before .before .args .nm) (c .before .before .before .before .before .before .args .all) (c .before .before
-        .before .before .before .before .args .bits .now) _ (c .before .before .before .loop-test .taken) (c .before .before .before .before .before
-        .before .pre .4) (mover-total (c .before .before .before .before .before .before .args .file .now) (c .before .before .before .before .before
-        .before .args .events .now) (c .before .before .before .before .before .before .args .nv) (c .before .before .before .before .before .before
-        .args .nm) (c .before .before .before .before .before .before .pre .0) (c .before .before .before .before .before .before .args .cells .now)
-        (c .before .before .before .before .before .before .args .count) (c .before .before .before .before .before .before .args .all) (c .before
-        .before .before .before .before .before .pre .2) (c .before .before .before .before .before .before .pre .3)) (c .before .before .before
-        .before .loop .inv .0) _ (c .before .encode-mover .ensures), omega arith)
+loop-again c = (
+  moving-on (c .before .before .before .before .before .before .args .file .now) (c .before .before .before .before .before .before .args .nv) (c
+      .before .before .before .before .before .before .args .nm) (c .before .before .before .before .before .before .args .all) (c .before .before
+      .before .before .before .before .args .bits .now) _ (c .before .before .before .loop-test .taken) (c .before .before .before .before .before
+      .before .pre .4) (mover-total (c .before .before .before .before .before .before .args .file .now) (c .before .before .before .before .before
+      .before .args .events .now) (c .before .before .before .before .before .before .args .nv) (c .before .before .before .before .before .before
+      .args .nm) (c .before .before .before .before .before .before .pre .0) (c .before .before .before .before .before .before .args .cells .now)
+      (c .before .before .before .before .before .before .args .count) (c .before .before .before .before .before .before .args .all) (c .before
+      .before .before .before .before .before .pre .2) (c .before .before .before .before .before .before .pre .3)) (c .before .before .before
+      .before .loop .inv .0) _ (c .before .encode-mover .ensures),
+  omega arith,
+)
 
 same-length : tie.Need-same-length Inv-loop μ-loop
 same-length c = c .before .loop .inv .1
 
 returns : tie.Need-returns Inv-loop μ-loop
 returns c =
-    let entry = c .before .before .before in
-    (moving-end (entry .args .file .now) (entry .args .nv) (entry .args .nm) (entry .args .all) (entry .args .bits .now) _ (c .loop-test .left)
-        (mover-total (entry .args .file .now) (entry .args .events .now) (entry .args .nv) (entry .args .nm) (entry .pre .0) (entry .args .cells .now)
-        (entry .args .count) (entry .args .all) (entry .pre .2) (entry .pre .3)) (c .before .loop .inv .0), (c .before .loop .inv .0) .size)
+    let entry = c .before .before .before in (
+      moving-end (entry .args .file .now) (entry .args .nv) (entry .args .nm) (entry .args .all) (entry .args .bits .now) _ (c .loop-test .left)
+          (mover-total (entry .args .file .now) (entry .args .events .now) (entry .args .nv) (entry .args .nm) (entry .pre .0) (entry .args .cells .now)
+          (entry .args .count) (entry .args .all) (entry .pre .2) (entry .pre .3)) (c .before .loop .inv .0),
+      (c .before .loop .inv .0) .size,
+    )
 
 pub encode-step-spec : {M : Type 1} → statement M
 encode-step-spec =

@@ -20,12 +20,12 @@ add-result c = search needs
 cast-result : tie.Need-cast-result
 cast-result c =
     let z = start-is _ (c .before .before .pre .0) _ _ _ (c .before .before .pre .1) (c .before .frame-length .ensures .0) (c .times .ensures .0) in omega
-        (arith, z .1)
+    (arith, z .1)
 
 returns : tie.Need-returns
 returns c =
     let z = start-is _ (c .before .before .pre .0) _ _ _ (c .before .before .pre .1) (c .before .frame-length .ensures .0) (c .times .ensures .0) in
-        (omega (arith, z .0), omega (arith, z .1))
+    (omega (arith, z .0), omega (arith, z .1))
 
 pub frame-start-spec : {M : Type 1} → statement M
 frame-start-spec =

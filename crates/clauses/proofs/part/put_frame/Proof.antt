@@ -35,23 +35,39 @@ same-length c = search needs
 returns : tie.Need-returns
 returns c =
     λ d ok es. frame-more _ _ _ _ (property-written _ _ _ _ _ _ _ (c .before .before .before .before .before .before .before .before .before .before
-        .before .before .pre .0) _ _ _ _ (c .before .before .before .before .before .before .before .before .before .variables .result) (c .before
-        .before .before .before .before .before .before .before .before .before .frame-start .ensures .0) refl (omega (arith, c .before .before
-        .before .before .before .before .before .before .before .before .before .before .pre .1, c .before .before .before .before .before .before
-        .before .before .before .before .before .before .pre .2)) (search needs) (c .before .before .before .before .before .before .before .before
-        .before .variables .ensures) d ok es refl (c .before .before .before .before .before .before .encode-property .ensures)) (c .before .before
-        .before .before .if1 .taken) (c .before .put-step .ensures d _ _ ok es (omega (arith, c .before .before .before .before .before .before
-        .before .before .before .before .before .before .pre .2, c .before .before .before .before .if1 .taken)) (frame-at _ _ _ _ _ _ _ (c .before
-        .before .before .before .before .before .before .before .before .before .before .before .pre .0) _ _ _ _ (c .before .before .before .before
-        .before .before .before .before .before .variables .result) (c .before .before .before .before .before .before .before .before .before .before
-        .frame-start .ensures .0) refl (omega (arith, c .before .before .before .before .before .before .before .before .before .before .before
-        .before .pre .1, c .before .before .before .before .before .before .before .before .before .before .before .before .pre .2)) (search needs) (c
-        .before .before .before .before .before .before .before .before .before .variables .ensures) d ok es) (state-at _ _ _ _ _ _ _ (c .before
-        .before .before .before .before .before .before .before .before .before .before .before .pre .0) _ _ _ _ (c .before .before .before .before
-        .before .before .before .before .before .variables .result) (c .before .before .before .before .before .before .before .before .before .before
-        .frame-start .ensures .0) refl (omega (arith, c .before .before .before .before .before .before .before .before .before .before .before
-        .before .pre .1, c .before .before .before .before .before .before .before .before .before .before .before .before .pre .2)) (search needs) (c
-        .before .before .before .before .before .before .before .before .before .variables .ensures) d ok es))
+    .before .before .pre .0) _ _ _ _ (c .before .before .before .before .before .before .before .before .before .variables .result) (c .before
+    .before .before .before .before .before .before .before .before .before .frame-start .ensures .0) refl (omega (
+      arith,
+      c .before .before
+          .before .before .before .before .before .before .before .before .before .before .pre .1,
+      c .before .before .before .before .before .before
+          .before .before .before .before .before .before .pre .2,
+    )) (search needs) (c .before .before .before .before .before .before .before .before
+    .before .variables .ensures) d ok es refl (c .before .before .before .before .before .before .encode-property .ensures)) (c .before .before
+    .before .before .if1 .taken) (c .before .put-step .ensures d _ _ ok es (omega (
+      arith,
+      c .before .before .before .before .before .before
+          .before .before .before .before .before .before .pre .2,
+      c .before .before .before .before .if1 .taken,
+    )) (frame-at _ _ _ _ _ _ _ (c .before
+    .before .before .before .before .before .before .before .before .before .before .before .pre .0) _ _ _ _ (c .before .before .before .before
+    .before .before .before .before .before .variables .result) (c .before .before .before .before .before .before .before .before .before .before
+    .frame-start .ensures .0) refl (omega (
+      arith,
+      c .before .before .before .before .before .before .before .before .before .before .before
+          .before .pre .1,
+      c .before .before .before .before .before .before .before .before .before .before .before .before .pre .2,
+    )) (search needs) (c
+    .before .before .before .before .before .before .before .before .before .variables .ensures) d ok es) (state-at _ _ _ _ _ _ _ (c .before
+    .before .before .before .before .before .before .before .before .before .before .before .pre .0) _ _ _ _ (c .before .before .before .before
+    .before .before .before .before .before .variables .result) (c .before .before .before .before .before .before .before .before .before .before
+    .frame-start .ensures .0) refl (omega (
+      arith,
+      c .before .before .before .before .before .before .before .before .before .before .before
+          .before .pre .1,
+      c .before .before .before .before .before .before .before .before .before .before .before .before .pre .2,
+    )) (search needs) (c
+    .before .before .before .before .before .before .before .before .before .variables .ensures) d ok es))
 
 same-length-2 : tie.Need-same-length-2
 same-length-2 c = search needs
@@ -59,10 +75,14 @@ same-length-2 c = search needs
 returns-2 : tie.Need-returns-2
 returns-2 c =
     λ d ok es. frame-last _ _ _ _ (property-written _ _ _ _ _ _ _ (c .before .before .before .before .before .before .before .before .pre .0) _ _ _ _ (c
-        .before .before .before .before .before .variables .result) (c .before .before .before .before .before .before .frame-start .ensures .0) refl
-        (omega (arith, c .before .before .before .before .before .before .before .before .pre .1, c .before .before .before .before .before .before
-        .before .before .pre .2)) (search needs) (c .before .before .before .before .before .variables .ensures) d ok es refl (c .before .before
-        .encode-property .ensures)) (c .if1 .left)
+    .before .before .before .before .before .variables .result) (c .before .before .before .before .before .before .frame-start .ensures .0) refl
+    (omega (
+      arith,
+      c .before .before .before .before .before .before .before .before .pre .1,
+      c .before .before .before .before .before .before
+          .before .before .pre .2,
+    )) (search needs) (c .before .before .before .before .before .variables .ensures) d ok es refl (c .before .before
+    .encode-property .ensures)) (c .if1 .left)
 
 pub put-frame-spec : {M : Type 1} → statement M
 put-frame-spec =

@@ -19,7 +19,7 @@ same-length c = search needs
 returns : tie.Need-returns
 returns c =
     λ d ok es. first-part _ _ _ _ _ _ _ (c .before .before .before .before .before .pre .0) _ _ _ d ok es (c .before .before .before .if1 .taken) (c
-        .before .put-first .ensures)
+    .before .put-first .ensures)
 
 add-if2 : tie.Need-add-if2
 add-if2 c = search needs
@@ -40,7 +40,7 @@ returns-2 : tie.Need-returns-2
 returns-2 c =
     let entry = c .before .before .before .before .before .before .before in
     λ d ok es. last-part _ _ _ _ _ _ _ (entry .pre .0) _ _ _ d ok es _ (c .before .before .before .frame-length .ensures .0) (entry .pre .1) (c .before
-        .before .before .before .if2 .taken) (c .before .put-last .ensures)
+    .before .before .before .if2 .taken) (c .before .put-last .ensures)
 
 sub-put-frame : tie.Need-sub-put-frame
 sub-put-frame c = search needs
@@ -54,7 +54,7 @@ same-length-3 c = search needs
 returns-3 : tie.Need-returns-3
 returns-3 c =
     λ d ok es. frame-part _ _ _ _ _ _ _ (c .before .before .before .before .before .before .pre .0) _ _ _ d ok es (c .before .before .before .before .if1
-        .left) (omega (arith, c .before .before .before .if2 .left)) (c .before .put-frame .ensures)
+    .left) (omega (arith, c .before .before .before .if2 .left)) (c .before .put-frame .ensures)
 
 pub put-part-spec : {M : Type 1} → statement M
 put-part-spec =

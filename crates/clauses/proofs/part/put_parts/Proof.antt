@@ -33,7 +33,7 @@ loop-less c = omega arith
 loop-again : tie.Need-loop-again Inv-loop μ-loop
 loop-again c =
     parts-on _ _ _ _ _ (c .before .before .before .loop-test .taken) (c .before .before .before .before .loop .inv) (omega arith) (c .before .put-part
-        .ensures)
+    .ensures)
 
 same-length : tie.Need-same-length Inv-loop μ-loop
 same-length c = c .before .loop .inv .long

@@ -64,8 +64,8 @@ returns c =
     let at-frame-length = at-put-any .before .before in
     let entry = at-frame-length .before .before .before .before in
     step-written _ _ _ _ _ _ _ (entry .pre .0) _ _ _ _ _ _ _ _ refl refl refl (omega (arith, at-frame-length .frame-length .ensures .0)) refl
-        (at-encode-step .encode-step .ensures .1) (at-put-any .put-any .ensures) (at-put-pairs .put-pairs .ensures) (at-encode-step .encode-step
-        .ensures .0) (c .before .put-all-ties .ensures)
+    (at-encode-step .encode-step .ensures .1) (at-put-any .put-any .ensures) (at-put-pairs .put-pairs .ensures) (at-encode-step .encode-step
+    .ensures .0) (c .before .put-all-ties .ensures)
 
 pub put-step-spec : {M : Type 1} → statement M
 put-step-spec =

@@ -27,21 +27,29 @@ trailer-word-requires c κs =
 
 trailer-word-requires-2 : tie.Need-trailer-word-requires-2 Inv-loop μ-loop
 trailer-word-requires-2 c κs =
-    omega (arith, sizes (c .before .before .args .file .now) (c .before .before .args .events .now) (c .before .before .args .nv) (c .before .before .args
-        .nm) (c .before .before .pre .0))
+    omega (
+      arith,
+      sizes (c .before .before .args .file .now) (c .before .before .args .events .now) (c .before .before .args .nv) (c .before .before .args
+          .nm) (c .before .before .pre .0),
+    )
 
 loop-holds : tie.Need-loop-holds Inv-loop μ-loop
 loop-holds c =
-    let entry = c .before .before .before in
-    (scanning-start (entry .args .file .now) (entry .args .nv) (entry .args .nm) (entry .args .bits .now) _ _ _ _ _ (c .trailer-word2 .ensures .0)
-        code-yes, refl)
+    let entry = c .before .before .before in (
+      scanning-start (entry .args .file .now) (entry .args .nv) (entry .args .nm) (entry .args .bits .now) _ _ _ _ _ (c .trailer-word2 .ensures .0)
+          code-yes,
+      refl,
+    )
 
 encode-link-requires : tie.Need-encode-link-requires Inv-loop μ-loop
 encode-link-requires c κs =
-    let entry = c .before .before .before .before .before .before in
-    ((entry .pre .0), (entry .pre .1), (cell-in (entry .args .file .now) (entry .args .events .now) (entry .args .nv) (entry .args .nm) (entry .pre .0) _
-        _ (omega (arith, c .before .loop-test .taken, c .before .before .before .before .trailer-word .ensures)) ((c .before .before .loop .inv .0)
-        .place)))
+    let entry = c .before .before .before .before .before .before in (
+      (entry .pre .0),
+      (entry .pre .1),
+      (cell-in (entry .args .file .now) (entry .args .events .now) (entry .args .nv) (entry .args .nm) (entry .pre .0) _
+          _ (omega (arith, c .before .loop-test .taken, c .before .before .before .before .trailer-word .ensures)) ((c .before .before .loop .inv .0)
+          .place)),
+    )
 
 add-p : tie.Need-add-p Inv-loop μ-loop
 add-p c =
@@ -53,9 +61,17 @@ add-p c =
     let file = entry .args .file .now in
     let nm = entry .args .nm in
     let nv = entry .args .nv in
-    omega (arith, (cell-in file events nv nm (entry .pre .0) _ _ (omega (arith, at-loop-test .loop-test .taken, at-trailer-word .trailer-word .ensures))
-        ((at-loop .loop .inv .0) .place)) .header, (cell-in file events nv nm (entry .pre .0) _ _ (omega (arith, at-loop-test .loop-test .taken,
-        at-trailer-word .trailer-word .ensures)) ((at-loop .loop .inv .0) .place)) .past, sizes file events nv nm (entry .pre .0))
+    omega (
+      arith,
+      (cell-in file events nv nm (entry .pre .0) _ _ (omega (arith, at-loop-test .loop-test .taken, at-trailer-word .trailer-word .ensures))
+          ((at-loop .loop .inv .0) .place)) .header,
+      (cell-in file events nv nm (entry .pre .0) _ _ (omega (
+        arith,
+        at-loop-test .loop-test .taken,
+        at-trailer-word .trailer-word .ensures,
+      )) ((at-loop .loop .inv .0) .place)) .past,
+      sizes file events nv nm (entry .pre .0),
+    )
 
 add-wide : tie.Need-add-wide Inv-loop μ-loop
 add-wide c =
@@ -67,9 +83,17 @@ add-wide c =
     let file = entry .args .file .now in
     let nm = entry .args .nm in
     let nv = entry .args .nv in
-    omega (arith, (cell-in file events nv nm (entry .pre .0) _ _ (omega (arith, at-loop-test .loop-test .taken, at-trailer-word .trailer-word .ensures))
-        ((at-loop .loop .inv .0) .place)) .header, (cell-in file events nv nm (entry .pre .0) _ _ (omega (arith, at-loop-test .loop-test .taken,
-        at-trailer-word .trailer-word .ensures)) ((at-loop .loop .inv .0) .place)) .past, sizes file events nv nm (entry .pre .0))
+    omega (
+      arith,
+      (cell-in file events nv nm (entry .pre .0) _ _ (omega (arith, at-loop-test .loop-test .taken, at-trailer-word .trailer-word .ensures))
+          ((at-loop .loop .inv .0) .place)) .header,
+      (cell-in file events nv nm (entry .pre .0) _ _ (omega (
+        arith,
+        at-loop-test .loop-test .taken,
+        at-trailer-word .trailer-word .ensures,
+      )) ((at-loop .loop .inv .0) .place)) .past,
+      sizes file events nv nm (entry .pre .0),
+    )
 
 shared-slice-read-wide : tie.Need-shared-slice-read-wide Inv-loop μ-loop
 shared-slice-read-wide c =
@@ -81,9 +105,17 @@ shared-slice-read-wide c =
     let file = entry .args .file .now in
     let nm = entry .args .nm in
     let nv = entry .args .nv in
-    omega (arith, (cell-in file events nv nm (entry .pre .0) _ _ (omega (arith, at-loop-test .loop-test .taken, at-trailer-word .trailer-word .ensures))
-        ((at-loop .loop .inv .0) .place)) .header, (cell-in file events nv nm (entry .pre .0) _ _ (omega (arith, at-loop-test .loop-test .taken,
-        at-trailer-word .trailer-word .ensures)) ((at-loop .loop .inv .0) .place)) .past, sizes file events nv nm (entry .pre .0))
+    omega (
+      arith,
+      (cell-in file events nv nm (entry .pre .0) _ _ (omega (arith, at-loop-test .loop-test .taken, at-trailer-word .trailer-word .ensures))
+          ((at-loop .loop .inv .0) .place)) .header,
+      (cell-in file events nv nm (entry .pre .0) _ _ (omega (
+        arith,
+        at-loop-test .loop-test .taken,
+        at-trailer-word .trailer-word .ensures,
+      )) ((at-loop .loop .inv .0) .place)) .past,
+      sizes file events nv nm (entry .pre .0),
+    )
 
 wide-requires : tie.Need-wide-requires Inv-loop μ-loop
 wide-requires c κs = tt
@@ -92,10 +124,19 @@ add-p-2 : tie.Need-add-p-2 Inv-loop μ-loop
 add-p-2 c =
     let at-trailer-word = c .before .before .before .before .before .before .before .before in
     let entry = at-trailer-word .before .before in
-    omega (arith, (cell-in (entry .args .file .now) (entry .args .events .now) (entry .args .nv) (entry .args .nm) (entry .pre .0) _ _ (omega (arith, c
-        .before .before .before .before .before .loop-test .taken, at-trailer-word .trailer-word .ensures)) ((c .before .before .before .before
-        .before .before .loop .inv .0) .place)) .past, sizes (entry .args .file .now) (entry .args .events .now) (entry .args .nv) (entry .args .nm)
-        (entry .pre .0), c .wide .ensures)
+    omega (
+      arith,
+      (cell-in (entry .args .file .now) (entry .args .events .now) (entry .args .nv) (entry .args .nm) (entry .pre .0) _ _ (omega (
+        arith,
+        c
+            .before .before .before .before .before .loop-test .taken,
+        at-trailer-word .trailer-word .ensures,
+      )) ((c .before .before .before .before
+          .before .before .loop .inv .0) .place)) .past,
+      sizes (entry .args .file .now) (entry .args .events .now) (entry .args .nv) (entry .args .nm)
+          (entry .pre .0),
+      c .wide .ensures,
+    )
 
 add-word : tie.Need-add-word Inv-loop μ-loop
 add-word c =
@@ -107,9 +148,17 @@ add-word c =
     let file = entry .args .file .now in
     let nm = entry .args .nm in
     let nv = entry .args .nv in
-    omega (arith, (cell-in file events nv nm (entry .pre .0) _ _ (omega (arith, at-loop-test .loop-test .taken, at-trailer-word .trailer-word .ensures))
-        ((at-loop .loop .inv .0) .place)) .header, (cell-in file events nv nm (entry .pre .0) _ _ (omega (arith, at-loop-test .loop-test .taken,
-        at-trailer-word .trailer-word .ensures)) ((at-loop .loop .inv .0) .place)) .past, sizes file events nv nm (entry .pre .0))
+    omega (
+      arith,
+      (cell-in file events nv nm (entry .pre .0) _ _ (omega (arith, at-loop-test .loop-test .taken, at-trailer-word .trailer-word .ensures))
+          ((at-loop .loop .inv .0) .place)) .header,
+      (cell-in file events nv nm (entry .pre .0) _ _ (omega (
+        arith,
+        at-loop-test .loop-test .taken,
+        at-trailer-word .trailer-word .ensures,
+      )) ((at-loop .loop .inv .0) .place)) .past,
+      sizes file events nv nm (entry .pre .0),
+    )
 
 word-requires : tie.Need-word-requires Inv-loop μ-loop
 word-requires c κs =
@@ -121,18 +170,36 @@ word-requires c κs =
     let file = entry .args .file .now in
     let nm = entry .args .nm in
     let nv = entry .args .nv in
-    omega (arith, (cell-in file events nv nm (entry .pre .0) _ _ (omega (arith, at-loop-test .loop-test .taken, at-trailer-word .trailer-word .ensures))
-        ((at-loop .loop .inv .0) .place)) .header, (cell-in file events nv nm (entry .pre .0) _ _ (omega (arith, at-loop-test .loop-test .taken,
-        at-trailer-word .trailer-word .ensures)) ((at-loop .loop .inv .0) .place)) .past, sizes file events nv nm (entry .pre .0))
+    omega (
+      arith,
+      (cell-in file events nv nm (entry .pre .0) _ _ (omega (arith, at-loop-test .loop-test .taken, at-trailer-word .trailer-word .ensures))
+          ((at-loop .loop .inv .0) .place)) .header,
+      (cell-in file events nv nm (entry .pre .0) _ _ (omega (
+        arith,
+        at-loop-test .loop-test .taken,
+        at-trailer-word .trailer-word .ensures,
+      )) ((at-loop .loop .inv .0) .place)) .past,
+      sizes file events nv nm (entry .pre .0),
+    )
 
 add-p-3 : tie.Need-add-p-3 Inv-loop μ-loop
 add-p-3 c =
     let at-trailer-word = c .before .before .before .before .before .before .before .before .before in
     let entry = at-trailer-word .before .before in
-    omega (arith, (cell-in (entry .args .file .now) (entry .args .events .now) (entry .args .nv) (entry .args .nm) (entry .pre .0) _ _ (omega (arith, c
-        .before .before .before .before .before .before .loop-test .taken, at-trailer-word .trailer-word .ensures)) ((c .before .before .before
-        .before .before .before .before .loop .inv .0) .place)) .past, sizes (entry .args .file .now) (entry .args .events .now) (entry .args .nv)
-        (entry .args .nm) (entry .pre .0), c .before .wide .ensures, c .word .ensures)
+    omega (
+      arith,
+      (cell-in (entry .args .file .now) (entry .args .events .now) (entry .args .nv) (entry .args .nm) (entry .pre .0) _ _ (omega (
+        arith,
+        c
+            .before .before .before .before .before .before .loop-test .taken,
+        at-trailer-word .trailer-word .ensures,
+      )) ((c .before .before .before
+          .before .before .before .before .loop .inv .0) .place)) .past,
+      sizes (entry .args .file .now) (entry .args .events .now) (entry .args .nv)
+          (entry .args .nm) (entry .pre .0),
+      c .before .wide .ensures,
+      c .word .ensures,
+    )
 
 add-i : tie.Need-add-i Inv-loop μ-loop
 add-i c =
@@ -143,14 +210,20 @@ loop-less : tie.Need-loop-less Inv-loop μ-loop
 loop-less c = omega arith
 
 loop-again : tie.Need-loop-again Inv-loop μ-loop
-loop-again c =
-    (scanning-on (c .before .before .before .before .before .before .before .before .before .before .before .args .file .now) (c .before .before .before
-        .before .before .before .before .before .before .before .before .args .nv) (c .before .before .before .before .before .before .before .before
-        .before .before .before .args .nm) (c .before .before .before .before .before .before .before .before .before .before .before .args .bits
-        .now) _ (omega (arith, c .before .before .before .before .before .before .loop-test .taken, c .before .before .before .before .before .before
-        .before .before .before .trailer-word .ensures)) (c .before .before .before .before .before .before .before .loop .inv .0) _ (ap₂ (λ (a b :
-        ℕ). (c .before .before .before .before .before .before .before .loop .p) + 8 + a + b) (c .before .wide .ensures .0) (c .word .ensures .0)) _
-        (c .before .before .before .before .encode-link .ensures), omega arith)
+loop-again c = (
+  scanning-on (c .before .before .before .before .before .before .before .before .before .before .before .args .file .now) (c .before .before .before
+      .before .before .before .before .before .before .before .before .args .nv) (c .before .before .before .before .before .before .before .before
+      .before .before .before .args .nm) (c .before .before .before .before .before .before .before .before .before .before .before .args .bits
+      .now) _ (omega (
+        arith,
+        c .before .before .before .before .before .before .loop-test .taken,
+        c .before .before .before .before .before .before
+            .before .before .before .trailer-word .ensures,
+      )) (c .before .before .before .before .before .before .before .loop .inv .0) _ (ap₂ (λ (a b :
+      ℕ). (c .before .before .before .before .before .before .before .loop .p) + 8 + a + b) (c .before .wide .ensures .0) (c .word .ensures .0)) _
+      (c .before .before .before .before .encode-link .ensures),
+  omega arith,
+)
 
 same-length : tie.Need-same-length Inv-loop μ-loop
 same-length c = c .before .loop .inv .1
@@ -158,8 +231,12 @@ same-length c = c .before .loop .inv .1
 returns : tie.Need-returns Inv-loop μ-loop
 returns c =
     let entry = c .before .before .before .before .before in
-    scanning-end (entry .args .file .now) (entry .args .nv) (entry .args .nm) (entry .args .bits .now) _ (omega (arith, c .loop-test .left, c .before
-        .before .before .trailer-word .ensures)) (c .before .loop .inv .0)
+    scanning-end (entry .args .file .now) (entry .args .nv) (entry .args .nm) (entry .args .bits .now) _ (omega (
+      arith,
+      c .loop-test .left,
+      c .before
+          .before .before .trailer-word .ensures,
+    )) (c .before .loop .inv .0)
 
 pub encode-invalid-spec : {M : Type 1} → statement M
 encode-invalid-spec =

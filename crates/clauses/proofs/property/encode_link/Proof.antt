@@ -16,13 +16,21 @@ use Rattle.design.proofs.bytes.wide.Reads as wide-reads
 
 add-wide : tie.Need-add-wide
 add-wide c =
-    omega (arith, (c .before .pre .2) .header, sizes (c .before .args .file .now) (c .before .args .events .now) (c .before .args .nv) (c .before .args
-        .nm) (c .before .pre .0))
+    omega (
+      arith,
+      (c .before .pre .2) .header,
+      sizes (c .before .args .file .now) (c .before .args .events .now) (c .before .args .nv) (c .before .args
+          .nm) (c .before .pre .0),
+    )
 
 shared-slice-read-wide : tie.Need-shared-slice-read-wide
 shared-slice-read-wide c =
-    omega (arith, (c .before .before .pre .2) .header, sizes (c .before .before .args .file .now) (c .before .before .args .events .now) (c .before
-        .before .args .nv) (c .before .before .args .nm) (c .before .before .pre .0))
+    omega (
+      arith,
+      (c .before .before .pre .2) .header,
+      sizes (c .before .before .args .file .now) (c .before .before .args .events .now) (c .before
+          .before .args .nv) (c .before .before .args .nm) (c .before .before .pre .0),
+    )
 
 wide-requires : tie.Need-wide-requires
 wide-requires c κs = tt
@@ -31,7 +39,7 @@ returns : tie.Need-returns
 returns c =
     let entry = c .before .before .before .before in
     λ d w. link-pass (layoutOf (entry .args .nv)) (slotsOf (entry .args .file .now) (entry .args .nv) (entry .args .nm) (entry .args .bits .now)) _ _ _ _
-        _ _ _ _ (sym (c .before .wide .ensures .0) ∙ c .if1 .taken)
+    _ _ _ _ (sym (c .before .wide .ensures .0) ∙ c .if1 .taken)
 
 status-and-event-requires : tie.Need-status-and-event-requires
 status-and-event-requires c κs = c .before .before .before .before .before .pre
@@ -50,8 +58,8 @@ returns-2 c =
     let at-wide = c .before .before .before .before .before .before .before .before in
     let entry = at-wide .before .before .before in
     λ d w. link-emits (layoutOf (entry .args .nv)) (slotsOf (entry .args .file .now) (entry .args .nv) (entry .args .nm) (entry .args .bits .now)) _ _ _ _
-        _ _ _ (λ e. c .before .before .before .before .before .before .before .if1 .left (at-wide .wide .ensures .0 ∙ e)) (c .before .before .before
-        .negate .ensures) (c .before .before .before .before .before .status-and-event .ensures d w) (c .before .emit-and .ensures)
+    _ _ _ (λ e. c .before .before .before .before .before .before .before .if1 .left (at-wide .wide .ensures .0 ∙ e)) (c .before .before .before
+    .negate .ensures) (c .before .before .before .before .before .status-and-event .ensures d w) (c .before .emit-and .ensures)
 
 pub encode-link-spec : {M : Type 1} → statement M
 encode-link-spec =

@@ -17,8 +17,11 @@ use Rattle.design.proofs.index.trailer_word.Reads as trailer-word-reads
 
 trailer-word-requires : tie.Need-trailer-word-requires
 trailer-word-requires c κs =
-    omega (arith, sizes (c .before .before .args .file .now) (c .before .before .args .events .now) (c .before .before .args .nv) (c .before .before .args
-        .nm) (c .before .before .pre .0))
+    omega (
+      arith,
+      sizes (c .before .before .args .file .now) (c .before .before .args .events .now) (c .before .before .args .nv) (c .before .before .args
+          .nm) (c .before .before .pre .0),
+    )
 
 sub-end : tie.Need-sub-end
 sub-end c =
@@ -31,10 +34,16 @@ encode-bool-requires c κs =
     let events = entry .args .events .now in
     let file = entry .args .file .now in
     let nm = entry .args .nm in
-    let nv = entry .args .nv in
-    ((omega (arith, sizes file events nv nm (entry .pre .0)), slotted file events nv nm (entry .pre .0) _ (entry .pre .1)), record { tree = read file
-        ((entry .pre .0) .accepted) .tree .invariant; past = _; reads = (invariant-got file events nv nm (entry .pre .0) (read file ((entry .pre .0)
-        .accepted) .tree) (read file ((entry .pre .0) .accepted) .all .parts) _ _ (c .before .before .trailer-word .ensures .0) refl) })
+    let nv = entry .args .nv in (
+      (omega (arith, sizes file events nv nm (entry .pre .0)), slotted file events nv nm (entry .pre .0) _ (entry .pre .1)),
+      record {
+        tree = read file
+            ((entry .pre .0) .accepted) .tree .invariant;
+        past = _;
+        reads = (invariant-got file events nv nm (entry .pre .0) (read file ((entry .pre .0)
+            .accepted) .tree) (read file ((entry .pre .0) .accepted) .all .parts) _ _ (c .before .before .trailer-word .ensures .0) refl);
+      },
+    )
 
 encode-invalid-requires : tie.Need-encode-invalid-requires
 encode-invalid-requires c κs = c .before .before .before .pre
@@ -49,8 +58,8 @@ returns c =
     let nm = entry .args .nm in
     let nv = entry .args .nv in
     λ d w. emits-same _ _ (property-0 file (entry .args .events .now) nv nm (entry .pre .0) d w _ (slotsOf file nv nm (entry .args .bits .now)) _ (c
-        .before .before .before .before .before .if1 .taken)) (c .before .encode-bool .ensures _ _ (invariant-got file (entry .args .events .now) nv
-        nm (entry .pre .0) d w _ _ (c .before .before .before .before .trailer-word .ensures .0) refl) .0)
+    .before .before .before .before .before .if1 .taken)) (c .before .encode-bool .ensures _ _ (invariant-got file (entry .args .events .now) nv
+    nm (entry .pre .0) d w _ _ (c .before .before .before .before .trailer-word .ensures .0) refl) .0)
 
 same-length-2 : tie.Need-same-length-2
 same-length-2 c = search needs
@@ -59,8 +68,8 @@ returns-2 : tie.Need-returns-2
 returns-2 c =
     let entry = c .before .before .before .before .before in
     λ d w. emits-same _ _ (property-1 (entry .args .file .now) (entry .args .events .now) (entry .args .nv) (entry .args .nm) (entry .pre .0) d w _
-        (slotsOf (entry .args .file .now) (entry .args .nv) (entry .args .nm) (entry .args .bits .now)) _ (c .before .before .before .if1 .left)) (c
-        .before .encode-invalid .ensures d w)
+    (slotsOf (entry .args .file .now) (entry .args .nv) (entry .args .nm) (entry .args .bits .now)) _ (c .before .before .before .if1 .left)) (c
+    .before .encode-invalid .ensures d w)
 
 pub encode-property-spec : {M : Type 1} → statement M
 encode-property-spec =

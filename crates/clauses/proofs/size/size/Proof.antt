@@ -17,7 +17,7 @@ returns-2 c = size-property _ _ _ (accepted-zero _ _ (c .before .before .before 
 returns-3 : tie.Need-returns-3
 returns-3 c =
     size-bound _ _ _ (accepted-zero _ _ (c .before .before .before .before .check .ensures) (c .before .before .if1 .left)) (c .before .if2 .left) (c .if3
-        .taken)
+    .taken)
 
 sizes-requires : tie.Need-sizes-requires
 sizes-requires c κs = accepted-zero _ _ (c .before .before .before .before .check .ensures) (c .before .before .if1 .left)
@@ -28,8 +28,11 @@ formula-requires c κs = search needs
 returns-4 : tie.Need-returns-4
 returns-4 c =
     size-answer _ _ _ (accepted-zero _ _ (c .before .before .before .before .before .before .check .ensures) (c .before .before .before .before .if1
-        .left)) (c .before .before .before .if2 .left) (c .before .before .if3 .left) (λ i. omega (arith, c .before .before .before .before .before
-        .before .before .shared-slice-known .given i)) _ (c .before .sizes .ensures .1) _ (c .formula .ensures)
+    .left)) (c .before .before .before .if2 .left) (c .before .before .if3 .left) (λ i. omega (
+      arith,
+      c .before .before .before .before .before
+          .before .before .shared-slice-known .given i,
+    )) _ (c .before .sizes .ensures .1) _ (c .formula .ensures)
 
 pub size-spec : {M : Type 1} → statement M
 size-spec =

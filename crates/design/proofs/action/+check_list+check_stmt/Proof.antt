@@ -103,8 +103,11 @@ check-list-loop-less t c = omega arith
 
 check-list-loop-again : (t : ℕ) → check-list-lts.Need-loop-again (check-list-claims t) (check-list-at t) check-list.Post check-list-Inv-loop check-list-μ-loop
 check-list-loop-again t c =
-    let e = sym (c .before .m .given .1) ∙ c .before .before .before .check-stmt .ensures in let g = stmt-on _ _ _ _ _ _ e in (omega arith, seq-more _ _ _
-        _ _ _ _ (omega arith) e ∙ c .before .before .before .before .before .loop .inv .1)
+    let e = sym (c .before .m .given .1) ∙ c .before .before .before .check-stmt .ensures in let g = stmt-on _ _ _ _ _ _ e in (
+      omega arith,
+      seq-more _ _ _
+          _ _ _ _ (omega arith) e ∙ c .before .before .before .before .before .loop .inv .1,
+    )
 
 check-list-enum-told : (t : ℕ) → check-list-lts.Need-enum-told (check-list-claims t) (check-list-at t) check-list.Post check-list-Inv-loop check-list-μ-loop
 check-list-enum-told t c = c .match .keys2
@@ -112,7 +115,7 @@ check-list-enum-told t c = c .match .keys2
 check-list-returns-2 : (t : ℕ) → check-list-lts.Need-returns-2 (check-list-claims t) (check-list-at t) check-list.Post check-list-Inv-loop check-list-μ-loop
 check-list-returns-2 t c =
     seq-bad _ _ _ _ _ _ (omega arith) (sym (c .enum-told .given .1) ∙ c .before .before .check-stmt .ensures) ∙ c .before .before .before .before .loop
-        .inv .1
+    .inv .1
 
 check-list-returns-3 : (t : ℕ) → check-list-lts.Need-returns-3 (check-list-claims t) (check-list-at t) check-list.Post check-list-Inv-loop check-list-μ-loop
 check-list-returns-3 t c = seq-none _ _ _ _ _ _ (omega arith) ∙ c .before .loop .inv .1
@@ -140,7 +143,7 @@ check-stmt-returns-2 t c =
 check-stmt-returns-3 : (t : ℕ) → check-stmt-lts.Need-returns-3 (check-stmt-claims t) (check-stmt-at t) check-stmt.Post
 check-stmt-returns-3 t c =
     stmt-flat _ _ _ _ _ (c .if5 .taken) (c .before .before .before .before .before .if1 .left) (stmt-second _ (c .before .before .before .if2 .left) (c
-        .before .before .if3 .taken) (c .before .if4 .left))
+    .before .before .if3 .taken) (c .before .if4 .left))
 
 check-stmt-add-check-bool : (t : ℕ) → check-stmt-lts.Need-add-check-bool (check-stmt-claims t) (check-stmt-at t) check-stmt.Post
 check-stmt-add-check-bool t c = omega arith
@@ -167,8 +170,8 @@ check-stmt-sub-check-list-2 t c = omega arith
 check-stmt-check-list-requires-2 : (t : ℕ) → check-stmt-lts.Need-check-list-requires-2 (check-stmt-claims t) (check-stmt-at t) check-stmt.Post
 check-stmt-check-list-requires-2 t c κs =
     let g = bool-on _ _ _ _ _ _ (sym (c .before .before .before .before .before .m .given .1) ∙ c .before .before .before .before .before .before .before
-        .check-bool .ensures) in let h = list-on _ _ _ _ _ _ (sym (c .before .p .given .1) ∙ c .before .before .before .check-list .ensures) in omega
-        arith
+    .check-bool .ensures) in let h = list-on _ _ _ _ _ _ (sym (c .before .p .given .1) ∙ c .before .before .before .check-list .ensures) in omega
+    arith
 
 check-stmt-enum-told : (t : ℕ) → check-stmt-lts.Need-enum-told (check-stmt-claims t) (check-stmt-at t) check-stmt.Post
 check-stmt-enum-told t c = c .match2 .keys2
@@ -185,8 +188,8 @@ check-stmt-returns-4 t c =
     let at-if2 = at-if3 .before in
     let at-if1 = at-if2 .before .before in
     if-else _ _ _ _ _ (at-if5 .if5 .left) (at-if1 .if1 .left) (stmt-second _ (at-if2 .if2 .left) (at-if3 .if3 .taken) (at-if4 .if4 .left)) _ _ _ (sym (c
-        .before .before .before .before .before .before .m .given .1) ∙ at-check-bool .check-bool .ensures) (sym (c .before .before .p .given .1) ∙ c
-        .before .before .before .before .check-list .ensures) (c .check-list2 .ensures)
+    .before .before .before .before .before .before .m .given .1) ∙ at-check-bool .check-bool .ensures) (sym (c .before .before .p .given .1) ∙ c
+    .before .before .before .before .check-list .ensures) (c .check-list2 .ensures)
 
 check-stmt-returns-5 : (t : ℕ) → check-stmt-lts.Need-returns-5 (check-stmt-claims t) (check-stmt-at t) check-stmt.Post
 check-stmt-returns-5 t c =
@@ -195,15 +198,15 @@ check-stmt-returns-5 t c =
     let at-if2 = at-if3 .before in
     let at-if1 = at-if2 .before .before in
     if-bad-then _ _ _ _ _ (c .before .before .before .before .before .before .before .if5 .left) (at-if1 .if1 .left) (stmt-second _ (at-if2 .if2 .left)
-        (at-if3 .if3 .taken) (at-if4 .if4 .left)) _ (sym (c .before .before .before .before .m .given .1) ∙ c .before .before .before .before .before
-        .before .check-bool .ensures) (sym (c .enum-told .given .1) ∙ c .before .before .check-list .ensures)
+    (at-if3 .if3 .taken) (at-if4 .if4 .left)) _ (sym (c .before .before .before .before .m .given .1) ∙ c .before .before .before .before .before
+    .before .check-bool .ensures) (sym (c .enum-told .given .1) ∙ c .before .before .check-list .ensures)
 
 check-stmt-returns-6 : (t : ℕ) → check-stmt-lts.Need-returns-6 (check-stmt-claims t) (check-stmt-at t) check-stmt.Post
 check-stmt-returns-6 t c =
     let at-if1 = c .before .before .before .before .before .before .before .before in
     if-bad _ _ _ _ _ (c .before .before .before .if5 .left) (at-if1 .if1 .left) (stmt-second _ (c .before .before .before .before .before .before .if2
-        .left) (c .before .before .before .before .before .if3 .taken) (c .before .before .before .before .if4 .left)) (sym (c .enum-told2 .given .1)
-        ∙ c .before .before .check-bool .ensures)
+    .left) (c .before .before .before .before .before .if3 .taken) (c .before .before .before .before .if4 .left)) (sym (c .enum-told2 .given .1)
+    ∙ c .before .before .check-bool .ensures)
 
 check-stmt-returns-7 : (t : ℕ) → check-stmt-lts.Need-returns-7 (check-stmt-claims t) (check-stmt-at t) check-stmt.Post
 check-stmt-returns-7 t c = stmt-none _ _ _ _ _ (c .before .before .if1 .left) (inl (c .if2 .taken))

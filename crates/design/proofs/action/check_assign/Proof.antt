@@ -39,12 +39,12 @@ check-bool-requires c κs = search needs
 returns-3 : tie.Need-returns-3
 returns-3 c =
     c .check-int .ensures ∙ assign-int _ _ _ _ (c .before .before .before .before .before .if1 .left) (c .before .before .before .if2 .left) (c .before
-        .if3 .taken)
+    .if3 .taken)
 
 returns-4 : tie.Need-returns-4
 returns-4 c =
     c .check-bool .ensures ∙ assign-flag _ _ _ _ (c .before .before .before .before .before .if1 .left) (c .before .before .before .if2 .left) (c .before
-        .if3 .left)
+    .if3 .left)
 
 pub check-assign-spec : {M : Type 1} → statement M
 check-assign-spec =

@@ -47,7 +47,7 @@ in-order-requires c κs = search needs
 returns-3 : tie.Need-returns-3
 returns-3 c =
     λ f. cell-order _ _ _ _ f _ _ _ (omega arith) (c .before .before .before .before .if1 .left) _ _ (c .before .before .before .fields-ok .ensures)
-        (not-false _ (c .before .before .if2 .left)) (c .before .in-order .ensures) (not-true _ (c .if3 .taken))
+    (not-false _ (c .before .before .if2 .left)) (c .before .in-order .ensures) (not-true _ (c .if3 .taken))
 
 add-kind : tie.Need-add-kind
 add-kind c = search needs
@@ -58,8 +58,8 @@ shared-slice-read-kind c = search needs
 returns-4 : tie.Need-returns-4
 returns-4 c =
     λ f. cell-invalid _ _ _ _ f _ _ _ (omega arith) (c .before .before .before .before .before .before .if1 .left) _ _ (c .before .before .before .before
-        .before .fields-ok .ensures) (not-false _ (c .before .before .before .before .if2 .left)) (c .before .before .before .in-order .ensures)
-        (not-false _ (c .before .before .if3 .left)) (c .if4 .taken)
+    .before .fields-ok .ensures) (not-false _ (c .before .before .before .before .if2 .left)) (c .before .before .before .in-order .ensures)
+    (not-false _ (c .before .before .if3 .left)) (c .if4 .taken)
 
 check-guard-requires : tie.Need-check-guard-requires
 check-guard-requires c κs = search needs
@@ -76,18 +76,18 @@ enum-known-number c = search needs
 returns-5 : tie.Need-returns-5
 returns-5 c =
     λ f. cell-action _ _ _ _ f _ _ _ (omega arith) (c .before .before .before .before .before .before .before .before .before .before .if1 .left) _ _ (c
-        .before .before .before .before .before .before .before .before .before .fields-ok .ensures) (not-false _ (c .before .before .before .before
-        .before .before .before .before .if2 .left)) (c .before .before .before .before .before .before .before .in-order .ensures) (not-false _ (c
-        .before .before .before .before .before .before .if3 .left)) _ _ (c .before .before .before .before .if4 .left) (sym (c .before .enum-told
-        .given .1) ∙ c .before .before .before .check-guard .ensures) (c .check-action .ensures)
+    .before .before .before .before .before .before .before .before .before .fields-ok .ensures) (not-false _ (c .before .before .before .before
+    .before .before .before .before .if2 .left)) (c .before .before .before .before .before .before .before .in-order .ensures) (not-false _ (c
+    .before .before .before .before .before .before .if3 .left)) _ _ (c .before .before .before .before .if4 .left) (sym (c .before .enum-told
+    .given .1) ∙ c .before .before .before .check-guard .ensures) (c .check-action .ensures)
 
 returns-6 : tie.Need-returns-6
 returns-6 c =
     λ f. cell-guard _ _ _ _ f _ _ _ (omega arith) (c .before .before .before .before .before .before .before .before .before .before .if1 .left) _ _ (c
-        .before .before .before .before .before .before .before .before .before .fields-ok .ensures) (not-false _ (c .before .before .before .before
-        .before .before .before .before .if2 .left)) (c .before .before .before .before .before .before .before .in-order .ensures) (not-false _ (c
-        .before .before .before .before .before .before .if3 .left)) _ _ (c .before .before .before .before .if4 .left) (sym (c .before .number .given
-        .1) ∙ c .before .before .before .check-guard .ensures)
+    .before .before .before .before .before .before .before .before .before .fields-ok .ensures) (not-false _ (c .before .before .before .before
+    .before .before .before .before .if2 .left)) (c .before .before .before .before .before .before .before .in-order .ensures) (not-false _ (c
+    .before .before .before .before .before .before .if3 .left)) _ _ (c .before .before .before .before .if4 .left) (sym (c .before .number .given
+    .1) ∙ c .before .before .before .check-guard .ensures)
 
 pub check-cell-spec : {M : Type 1} → statement M
 check-cell-spec =

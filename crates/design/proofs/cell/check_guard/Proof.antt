@@ -39,8 +39,8 @@ fill-length-requires c κs = omega arith
 returns-2 : tie.Need-returns-2
 returns-2 c =
     guard-read _ (c .before .before .before .before .before .args .end) _ _ _ (c .before .before .if1 .left) (c .before .before .before .before .before
-        .args .at + 8 + getD (c .before .before .before .before .before .args .file .now) (c .before .before .before .before .before .args .at + 5) 0)
-        (omega arith) _ _ (c .fill-length .ensures) (c .before .check-bool .ensures)
+    .args .at + 8 + getD (c .before .before .before .before .before .args .file .now) (c .before .before .before .before .before .args .at + 5) 0)
+    (omega arith) _ _ (c .fill-length .ensures) (c .before .check-bool .ensures)
 
 pub check-guard-spec : {M : Type 1} → statement M
 check-guard-spec =

@@ -57,8 +57,12 @@ shared-slice-read-event c = search needs
 
 returns-3 : tie.Need-returns-3
 returns-3 c =
-    simp (lt-ltb _ _ (c .before .before .before .before .before .before .if1 .left), lt-ltb _ _ (c .before .before .before .if2 .left), le-ltb _ _ (c .if3
-        .taken))
+    simp (
+      lt-ltb _ _ (c .before .before .before .before .before .before .if1 .left),
+      lt-ltb _ _ (c .before .before .before .if2 .left),
+      le-ltb _ _ (c .if3
+          .taken),
+    )
 
 add-kind : tie.Need-add-kind
 add-kind c = search needs
@@ -77,15 +81,15 @@ returns-4 c =
     let at-if1 = c .before .before .before .before .before .before .before .before .before in
     let entry = at-if1 .before .before .before in
     fields-ending (entry .args .file .now) (entry .args .mats) (entry .args .nm) (entry .args .at) 0 _ (c .if4 .taken) refl (at-if1 .if1 .left) (c .before
-        .before .before .before .before .before .if2 .left) (c .before .before .before .if3 .left)
+    .before .before .before .before .before .if2 .left) (c .before .before .before .if3 .left)
 
 returns-5 : tie.Need-returns-5
 returns-5 c =
     let at-if1 = c .before .before .before .before .before .before .before .before .before .before in
     let entry = at-if1 .before .before .before in
     fields-ending (entry .args .file .now) (entry .args .mats) (entry .args .nm) (entry .args .at) _ false refl (ending-other (entry .args .file .now)
-        (entry .args .mats) (entry .args .nm) (entry .args .at) _ (c .before .if4 .left) (c .if5 .taken)) (at-if1 .if1 .left) (c .before .before
-        .before .before .before .before .before .if2 .left) (c .before .before .before .before .if3 .left)
+    (entry .args .mats) (entry .args .nm) (entry .args .at) _ (c .before .if4 .left) (c .if5 .taken)) (at-if1 .if1 .left) (c .before .before
+    .before .before .before .before .before .if2 .left) (c .before .before .before .before .if3 .left)
 
 returns-6 : tie.Need-returns-6
 returns-6 c =
@@ -93,7 +97,7 @@ returns-6 c =
     let at-if1 = at-if2 .before .before .before in
     let entry = at-if1 .before .before .before in
     fields-ending (entry .args .file .now) (entry .args .mats) (entry .args .nm) (entry .args .at) 1 false (c .before .if5 .left) (simp (ne-eqb _ _ (c
-        .if6 .taken))) (at-if1 .if1 .left) (at-if2 .if2 .left) (c .before .before .before .before .before .if3 .left)
+    .if6 .taken))) (at-if1 .if1 .left) (at-if2 .if2 .left) (c .before .before .before .before .before .if3 .left)
 
 add-guard : tie.Need-add-guard
 add-guard c = search needs
@@ -107,8 +111,8 @@ returns-7 c =
     let at-if1 = at-if2 .before .before .before in
     let entry = at-if1 .before .before .before in
     fields-ending (entry .args .file .now) (entry .args .mats) (entry .args .nm) (entry .args .at) 1 false (c .before .before .before .if5 .left) (simp
-        (eq-eqb _ _ (c .before .before .if6 .left), ne-eqb _ _ (c .if7 .taken))) (at-if1 .if1 .left) (at-if2 .if2 .left) (c .before .before .before
-        .before .before .before .before .if3 .left)
+    (eq-eqb _ _ (c .before .before .if6 .left), ne-eqb _ _ (c .if7 .taken))) (at-if1 .if1 .left) (at-if2 .if2 .left) (c .before .before .before
+    .before .before .before .before .if3 .left)
 
 add-word : tie.Need-add-word
 add-word c = search needs
@@ -123,8 +127,8 @@ returns-8 c =
     let at-if1 = at-if2 .before .before .before in
     let entry = at-if1 .before .before .before in
     fields-ending (entry .args .file .now) (entry .args .mats) (entry .args .nm) (entry .args .at) 1 _ (c .before .before .before .before .if5 .left)
-        (simp (eq-eqb _ _ (c .before .before .before .if6 .left), eq-eqb _ _ (c .before .if7 .left)) (ap (λ (x : ℕ). eqb x 0) (sym (c .word .ensures
-        .0)))) (at-if1 .if1 .left) (at-if2 .if2 .left) (at-if3 .if3 .left)
+    (simp (eq-eqb _ _ (c .before .before .before .if6 .left), eq-eqb _ _ (c .before .if7 .left)) (ap (λ (x : ℕ). eqb x 0) (sym (c .word .ensures
+    .0)))) (at-if1 .if1 .left) (at-if2 .if2 .left) (at-if3 .if3 .left)
 
 pub fields-ok-spec : {M : Type 1} → statement M
 fields-ok-spec =

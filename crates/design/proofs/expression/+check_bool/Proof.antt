@@ -106,46 +106,46 @@ check-bool-returns-3 : (t : ℕ) → check-bool-lts.Need-returns-3 (check-bool-c
 unfolding boolOp
 check-bool-returns-3 t c =
     bool-leaf _ _ _ _ _ (c .before .before .before .before .if1 .left) (c .before .before .before .if2 .left) _ _ (ap boolOp (c .before .match .keys1)) (c
-        .read-boolean-constant .ensures)
+    .read-boolean-constant .ensures)
 
 check-bool-returns-4 : (t : ℕ) → check-bool-lts.Need-returns-4 (check-bool-claims t) (check-bool-at t) check-bool.Post
 unfolding boolOp
 check-bool-returns-4 t c =
     bool-leaf _ _ _ _ _ (c .before .before .before .before .if1 .left) (c .before .before .before .if2 .left) _ _ (ap boolOp (c .before .match .keys2)) (c
-        .read-boolean-variable .ensures)
+    .read-boolean-variable .ensures)
 
 check-bool-returns-5 : (t : ℕ) → check-bool-lts.Need-returns-5 (check-bool-claims t) (check-bool-at t) check-bool.Post
 unfolding boolOp
 check-bool-returns-5 t c =
     bool-not _ _ _ _ _ (c .before .before .before .before .if1 .left) (c .before .before .before .if2 .left) _ (ap boolOp (c .before .match .keys3)) (c
-        .check-bool .ensures)
+    .check-bool .ensures)
 
 check-bool-returns-6 : (t : ℕ) → check-bool-lts.Need-returns-6 (check-bool-claims t) (check-bool-at t) check-bool.Post
 check-bool-returns-6 t c =
     bool-pair _ _ _ _ _ (c .before .before .before .before .before .before .before .before .before .before .if1 .left) (c .before .before .before .before
-        .before .before .before .before .before .if2 .left) _ _ (omega arith) (c .before .before .before .before .before .if4 .taken) (sym (c .before
-        .before .m .given .1) ∙ c .before .before .before .before .check-bool2 .ensures) (c .check-bool3 .ensures)
+    .before .before .before .before .before .if2 .left) _ _ (omega arith) (c .before .before .before .before .before .if4 .taken) (sym (c .before
+    .before .m .given .1) ∙ c .before .before .before .before .check-bool2 .ensures) (c .check-bool3 .ensures)
 
 check-bool-returns-7 : (t : ℕ) → check-bool-lts.Need-returns-7 (check-bool-claims t) (check-bool-at t) check-bool.Post
 check-bool-returns-7 t c =
     bool-pair-bad _ _ _ _ _ (c .before .before .before .before .before .before .before .before .if1 .left) (c .before .before .before .before .before
-        .before .before .if2 .left) (omega arith) (c .before .before .before .if4 .taken) (sym (c .enum-told .given .1) ∙ c .before .before
-        .check-bool2 .ensures)
+    .before .before .if2 .left) (omega arith) (c .before .before .before .if4 .taken) (sym (c .enum-told .given .1) ∙ c .before .before
+    .check-bool2 .ensures)
 
 check-bool-returns-8 : (t : ℕ) → check-bool-lts.Need-returns-8 (check-bool-claims t) (check-bool-at t) check-bool.Post
 check-bool-returns-8 t c =
     let at-if2 = c .before .before .before .before .before .before .before .before .before .before in
     let at-if1 = at-if2 .before in
     compare-pair _ _ _ _ _ (at-if1 .if1 .left) (at-if2 .if2 .left) _ _ (c .before .before .before .before .before .before .if4 .left) (c .before .before
-        .before .before .before .if5 .taken) (sym (c .before .before .m2 .given .1) ∙ c .before .before .before .before .check-int .ensures) (c
-        .check-int2 .ensures)
+    .before .before .before .if5 .taken) (sym (c .before .before .m2 .given .1) ∙ c .before .before .before .before .check-int .ensures) (c
+    .check-int2 .ensures)
 
 check-bool-returns-9 : (t : ℕ) → check-bool-lts.Need-returns-9 (check-bool-claims t) (check-bool-at t) check-bool.Post
 check-bool-returns-9 t c =
     let at-if2 = c .before .before .before .before .before .before .before .before in
     let at-if1 = at-if2 .before in
     compare-bad _ _ _ _ _ (at-if1 .if1 .left) (at-if2 .if2 .left) (c .before .before .before .before .if4 .left) (c .before .before .before .if5 .taken)
-        (sym (c .enum-told2 .given .1) ∙ c .before .before .check-int .ensures)
+    (sym (c .enum-told2 .given .1) ∙ c .before .before .check-int .ensures)
 
 check-bool-returns-10 : (t : ℕ) → check-bool-lts.Need-returns-10 (check-bool-claims t) (check-bool-at t) check-bool.Post
 check-bool-returns-10 t c =
@@ -154,7 +154,7 @@ check-bool-returns-10 t c =
 check-bool-returns-11 : (t : ℕ) → check-bool-lts.Need-returns-11 (check-bool-claims t) (check-bool-at t) check-bool.Post
 check-bool-returns-11 t c =
     bool-leaf _ _ _ _ _ (c .before .before .before .before .before .before .if1 .left) (c .before .before .before .before .before .if2 .left) _ _
-        (bool-none _ (inr (c .if5 .left))) refl
+    (bool-none _ (inr (c .if5 .left))) refl
 
 pub +check-bool-spec : {M : Type 1} → statement M
 +check-bool-spec = close μ-check-bool λ t. check-bool-lts.spec (

@@ -81,31 +81,31 @@ check-int-returns-3 : (t : ℕ) → check-int-lts.Need-returns-3 (check-int-clai
 unfolding intOp
 check-int-returns-3 t c =
     int-leaf _ _ _ _ _ (c .before .before .before .before .if1 .left) (c .before .before .before .if2 .left) _ _ (ap intOp (c .before .match .keys1)) (c
-        .read-integer-constant .ensures)
+    .read-integer-constant .ensures)
 
 check-int-returns-4 : (t : ℕ) → check-int-lts.Need-returns-4 (check-int-claims t) (check-int-at t) check-int.Post
 unfolding intOp
 check-int-returns-4 t c =
     int-leaf _ _ _ _ _ (c .before .before .before .before .if1 .left) (c .before .before .before .if2 .left) _ _ (ap intOp (c .before .match .keys2)) (c
-        .read-integer-variable .ensures)
+    .read-integer-variable .ensures)
 
 check-int-returns-5 : (t : ℕ) → check-int-lts.Need-returns-5 (check-int-claims t) (check-int-at t) check-int.Post
 unfolding intOp
 check-int-returns-5 t c =
     int-leaf _ _ _ _ _ (c .before .before .before .before .if1 .left) (c .before .before .before .if2 .left) _ _ (ap intOp (c .before .match .keys3)) (c
-        .read-status .ensures)
+    .read-status .ensures)
 
 check-int-returns-6 : (t : ℕ) → check-int-lts.Need-returns-6 (check-int-claims t) (check-int-at t) check-int.Post
 check-int-returns-6 t c =
     int-pair _ _ _ _ _ (c .before .before .before .before .before .before .before .before .before .before .if1 .left) (c .before .before .before .before
-        .before .before .before .before .before .if2 .left) _ _ (omega arith) (c .before .before .before .before .before .if4 .taken) (sym (c .before
-        .before .m .given .1) ∙ c .before .before .before .before .check-int .ensures) (c .check-int2 .ensures)
+    .before .before .before .before .before .if2 .left) _ _ (omega arith) (c .before .before .before .before .before .if4 .taken) (sym (c .before
+    .before .m .given .1) ∙ c .before .before .before .before .check-int .ensures) (c .check-int2 .ensures)
 
 check-int-returns-7 : (t : ℕ) → check-int-lts.Need-returns-7 (check-int-claims t) (check-int-at t) check-int.Post
 check-int-returns-7 t c =
     int-pair-bad _ _ _ _ _ (c .before .before .before .before .before .before .before .before .if1 .left) (c .before .before .before .before .before
-        .before .before .if2 .left) (omega arith) (c .before .before .before .if4 .taken) (sym (c .enum-told .given .1) ∙ c .before .before .check-int
-        .ensures)
+    .before .before .if2 .left) (omega arith) (c .before .before .before .if4 .taken) (sym (c .enum-told .given .1) ∙ c .before .before .check-int
+    .ensures)
 
 check-int-returns-8 : (t : ℕ) → check-int-lts.Need-returns-8 (check-int-claims t) (check-int-at t) check-int.Post
 check-int-returns-8 t c =
@@ -114,7 +114,7 @@ check-int-returns-8 t c =
 check-int-returns-9 : (t : ℕ) → check-int-lts.Need-returns-9 (check-int-claims t) (check-int-at t) check-int.Post
 check-int-returns-9 t c =
     int-leaf _ _ _ _ _ (c .before .before .before .before .before .if1 .left) (c .before .before .before .before .if2 .left) _ _ (int-none _ (inr (c .if4
-        .left))) refl
+    .left))) refl
 
 pub +check-int-spec : {M : Type 1} → statement M
 +check-int-spec = close μ-check-int λ t. check-int-lts.spec (

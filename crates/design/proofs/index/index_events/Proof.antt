@@ -23,27 +23,43 @@ trailer-word-requires-3 : tie.Need-trailer-word-requires-3 Inv-loop μ-loop
 trailer-word-requires-3 c κs = omega (arith, bounds _ (c .before .before .before .pre .0) .long)
 
 loop-holds : tie.Need-loop-holds Inv-loop μ-loop
-loop-holds c =
-    (c .before .before .trailer-word .ensures .0, c .before .trailer-word2 .ensures .0, events-start _ _ _ (c .trailer-word3 .ensures .0), c .before
-        .before .before .before .pre .1)
+loop-holds c = (
+  c .before .before .trailer-word .ensures .0,
+  c .before .trailer-word2 .ensures .0,
+  events-start _ _ _ (c .trailer-word3 .ensures .0),
+  c .before
+      .before .before .before .pre .1,
+)
 
 mul-wide : tie.Need-mul-wide Inv-loop μ-loop
 mul-wide c = omega (arith, bounds _ (c .before .before .before .before .before .before .pre .0) .matrices)
 
 add-wide : tie.Need-add-wide Inv-loop μ-loop
 add-wide c =
-    omega (arith, bounds _ (c .before .before .before .before .before .before .pre .0) .matrices, c .before .before .before .before .trailer-word .ensures
-        .1)
+    omega (
+      arith,
+      bounds _ (c .before .before .before .before .before .before .pre .0) .matrices,
+      c .before .before .before .before .trailer-word .ensures
+          .1,
+    )
 
 add-wide-2 : tie.Need-add-wide-2 Inv-loop μ-loop
 add-wide-2 c =
-    omega (arith, bounds _ (c .before .before .before .before .before .before .pre .0) .matrices, c .before .before .before .before .trailer-word .ensures
-        .1)
+    omega (
+      arith,
+      bounds _ (c .before .before .before .before .before .before .pre .0) .matrices,
+      c .before .before .before .before .trailer-word .ensures
+          .1,
+    )
 
 shared-slice-read-wide : tie.Need-shared-slice-read-wide Inv-loop μ-loop
 shared-slice-read-wide c =
-    omega (arith, bounds _ (c .before .before .before .before .before .before .before .pre .0) .long, matrix-in _ (c .before .before .before .before
-        .before .before .before .pre .0) (c .before .before .loop .m) (omega arith))
+    omega (
+      arith,
+      bounds _ (c .before .before .before .before .before .before .before .pre .0) .long,
+      matrix-in _ (c .before .before .before .before
+          .before .before .before .pre .0) (c .before .before .loop .m) (omega arith),
+    )
 
 wide-requires : tie.Need-wide-requires Inv-loop μ-loop
 wide-requires c κs = tt
@@ -51,12 +67,16 @@ wide-requires c κs = tt
 index-row-requires : tie.Need-index-row-requires Inv-loop μ-loop
 index-row-requires c κs =
     let e = c .before .wide .ensures .0 ∙ ap (λ (x : ℕ). getD (c .before .before .before .before .before .before .before .before .before .args .file .now)
-        (x + 2 * c .before .before .before .before .loop .m + 1) 0) (c .before .before .before .before .loop .inv .0) in let k = few-events _ (c
-        .before .before .before .before .before .before .before .before .before .pre .0) (c .before .before .before .before .loop .m) (omega arith) in
-        (omega arith, omega (arith, bounds _ (c .before .before .before .before .before .before .before .before .before .pre .0) .matrices), bounds _
-        (c .before .before .before .before .before .before .before .before .before .pre .0) .short, c .before .before .before .before .loop .inv .3,
-        row-inside _ (c .before .before .before .before .before .before .before .before .before .pre .0) _ _ _ _ (c .before .before .before .before
-        .loop .inv .2) (omega arith) e)
+    (x + 2 * c .before .before .before .before .loop .m + 1) 0) (c .before .before .before .before .loop .inv .0) in let k = few-events _ (c
+    .before .before .before .before .before .before .before .before .before .pre .0) (c .before .before .before .before .loop .m) (omega arith) in (
+      omega arith,
+      omega (arith, bounds _ (c .before .before .before .before .before .before .before .before .before .pre .0) .matrices),
+      bounds _
+          (c .before .before .before .before .before .before .before .before .before .pre .0) .short,
+      c .before .before .before .before .loop .inv .3,
+      row-inside _ (c .before .before .before .before .before .before .before .before .before .pre .0) _ _ _ _ (c .before .before .before .before
+          .loop .inv .2) (omega arith) e,
+    )
 
 add-m : tie.Need-add-m Inv-loop μ-loop
 add-m c =
@@ -69,11 +89,16 @@ loop-less c = omega arith
 loop-again : tie.Need-loop-again Inv-loop μ-loop
 loop-again c =
     let e = c .before .before .wide .ensures .0 ∙ ap (λ (x : ℕ). getD (c .before .before .before .before .before .before .before .before .before .before
-        .args .file .now) (x + 2 * c .before .before .before .before .before .loop .m + 1) 0) (c .before .before .before .before .before .loop .inv
-        .0) in (c .before .before .before .before .before .loop .inv .0, c .before .before .before .before .before .loop .inv .1, events-on _ (c
-        .before .before .before .before .before .before .before .before .before .before .pre .0) _ _ _ _ _ _ (c .before .before .before .before
-        .before .loop .inv .2) (omega arith) e (c .index-row .ensures .0, c .index-row .ensures .1, c .index-row .ensures .2), c .index-row .ensures
-        .3)
+    .args .file .now) (x + 2 * c .before .before .before .before .before .loop .m + 1) 0) (c .before .before .before .before .before .loop .inv
+    .0) in (
+      c .before .before .before .before .before .loop .inv .0,
+      c .before .before .before .before .before .loop .inv .1,
+      events-on _ (c
+          .before .before .before .before .before .before .before .before .before .before .pre .0) _ _ _ _ _ _ (c .before .before .before .before
+          .before .loop .inv .2) (omega arith) e (c .index-row .ensures .0, c .index-row .ensures .1, c .index-row .ensures .2),
+      c .index-row .ensures
+          .3,
+    )
 
 returns : tie.Need-returns Inv-loop μ-loop
 returns c = events-end _ _ _ _ (omega arith) (c .before .loop .inv .2)

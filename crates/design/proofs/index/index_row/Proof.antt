@@ -35,8 +35,12 @@ add-p c = omega (arith, c .before .loop .inv .1 .here, c .before .before .before
 
 shared-slice-read-wide : tie.Need-shared-slice-read-wide Inv-loop μ-loop
 shared-slice-read-wide c =
-    omega (arith, c .before .before .loop .inv .1 .here, c .before .before .before .before .pre .4 (c .before .before .loop .i) (c .before .loop-test
-        .taken))
+    omega (
+      arith,
+      c .before .before .loop .inv .1 .here,
+      c .before .before .before .before .pre .4 (c .before .before .loop .i) (c .before .loop-test
+          .taken),
+    )
 
 wide-requires : tie.Need-wide-requires Inv-loop μ-loop
 wide-requires c κs = tt
@@ -44,8 +48,13 @@ wide-requires c κs = tt
 add-p-2 : tie.Need-add-p-2 Inv-loop μ-loop
 add-p-2 c =
     let at-loop = c .before .before .before in
-    omega (arith, c .wide .ensures .1, at-loop .loop .inv .1 .here, c .before .before .before .before .before .pre .4 (at-loop .loop .i) (c .before
-        .before .loop-test .taken))
+    omega (
+      arith,
+      c .wide .ensures .1,
+      at-loop .loop .inv .1 .here,
+      c .before .before .before .before .before .pre .4 (at-loop .loop .i) (c .before
+          .before .loop-test .taken),
+    )
 
 add-i : tie.Need-add-i Inv-loop μ-loop
 add-i c = omega arith
@@ -58,9 +67,14 @@ loop-again c = (omega arith, row-on _ _ _ _ _ _ _ _ (c .before .before .before .
 
 returns : tie.Need-returns Inv-loop μ-loop
 returns c =
-    let z : c .before .loop .i ≡ c .before .before .before .args .count = omega arith in (c .before .loop .inv .1 .here ∙ ap (λ (n : ℕ). pastEvents (c
-        .before .before .before .args .file .now) n (c .before .before .before .args .at)) z, (λ j l. c .before .loop .inv .1 .filled j (omega
-        arith)), c .before .loop .inv .1 .kept, c .before .loop .inv .1 .size)
+    let z : c .before .loop .i ≡ c .before .before .before .args .count = omega arith in (
+      c .before .loop .inv .1 .here ∙ ap (λ (n : ℕ). pastEvents (c
+          .before .before .before .args .file .now) n (c .before .before .before .args .at)) z,
+      (λ j l. c .before .loop .inv .1 .filled j (omega
+          arith)),
+      c .before .loop .inv .1 .kept,
+      c .before .loop .inv .1 .size,
+    )
 
 pub index-row-spec : {M : Type 1} → statement M
 index-row-spec =

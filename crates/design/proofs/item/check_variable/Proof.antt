@@ -39,14 +39,24 @@ add-t12 c = search needs
 returns-4 : tie.Need-returns-4
 unfolding variableAt
 returns-4 c =
-    simp (le-leb _ _ (c .before .before .before .before .before .if1 .left), le-leb _ _ (c .before .before .before .if2 .left), ne-eqb _ _ (c .before
-        .before .if3 .left), lt-leb-of _ _ _ (c .before .word .ensures .0) (c .if4 .taken))
+    simp (
+      le-leb _ _ (c .before .before .before .before .before .if1 .left),
+      le-leb _ _ (c .before .before .before .if2 .left),
+      ne-eqb _ _ (c .before
+          .before .if3 .left),
+      lt-leb-of _ _ _ (c .before .word .ensures .0) (c .if4 .taken),
+    )
 
 returns-5 : tie.Need-returns-5
 unfolding variableAt
 returns-5 c =
-    simp (le-leb _ _ (c .before .before .before .before .before .if1 .left), le-leb _ _ (c .before .before .before .if2 .left), ne-eqb _ _ (c .before
-        .before .if3 .left), le-leb-of _ _ _ (c .before .word .ensures .0) (c .if4 .left))
+    simp (
+      le-leb _ _ (c .before .before .before .before .before .if1 .left),
+      le-leb _ _ (c .before .before .before .if2 .left),
+      ne-eqb _ _ (c .before
+          .before .if3 .left),
+      le-leb-of _ _ _ (c .before .word .ensures .0) (c .if4 .left),
+    )
 
 pub check-variable-spec : {M : Type 1} → statement M
 check-variable-spec =

@@ -9,13 +9,13 @@ returns c = counts-variables (c .before .args .variables) (c .before .args .matr
 returns-2 : tie.Need-returns-2
 returns-2 c =
     counts-no-matrix (c .before .before .args .variables) (c .before .before .args .matrices) (c .before .before .args .cells) (c .before .if1 .left) (c
-        .if2 .taken)
+    .if2 .taken)
 
 returns-3 : tie.Need-returns-3
 returns-3 c =
     let entry = c .before .before .before in
     counts-matrices (entry .args .variables) (entry .args .matrices) (entry .args .cells) (c .before .before .if1 .left) (c .before .if2 .left) (c .if3
-        .taken)
+    .taken)
 
 returns-4 : tie.Need-returns-4
 returns-4 c =

@@ -45,12 +45,21 @@ loop-less c = omega arith
 loop-again : tie.Need-loop-again Inv-loop μ-loop
 loop-again c =
     let g = cell-ends _ _ _ _ (λ m x. constantB true) _ _ _ (sym (c .before .before .before .n .given .1) ∙ c .before .before .before .before .before
-        .check-cell .ensures (λ m x. constantB true)) in ⊎-elim (λ w. (omega arith, g .1, omega arith, λ f. cells-more _ _ _ _ f _ _ _ _ (omega arith)
-        _ _ (sym (c .before .before .before .n .given .1) ∙ c .before .before .before .before .before .check-cell .ensures f) (λ q. omega arith) (λ q.
-        absurd (q (w .0 .taken))) ∙ c .before .before .before .before .before .before .before .loop .inv .3 f)) (λ w. (omega arith, g .1, omega arith,
-        λ f. cells-more _ _ _ _ f _ _ _ _ (omega arith) _ _ (sym (c .before .before .before .n .given .1) ∙ c .before .before .before .before .before
-        .check-cell .ensures f) (λ q. absurd (w .0 .left q)) (λ q. omega arith) ∙ c .before .before .before .before .before .before .before .loop .inv
-        .3 f)) (c .if1 .came)
+    .check-cell .ensures (λ m x. constantB true)) in ⊎-elim (λ w. (
+      omega arith,
+      g .1,
+      omega arith,
+      λ f. cells-more _ _ _ _ f _ _ _ _ (omega arith)
+          _ _ (sym (c .before .before .before .n .given .1) ∙ c .before .before .before .before .before .check-cell .ensures f) (λ q. omega arith) (λ q.
+          absurd (q (w .0 .taken))) ∙ c .before .before .before .before .before .before .before .loop .inv .3 f,
+    )) (λ w. (
+      omega arith,
+      g .1,
+      omega arith,
+      λ f. cells-more _ _ _ _ f _ _ _ _ (omega arith) _ _ (sym (c .before .before .before .n .given .1) ∙ c .before .before .before .before .before
+          .check-cell .ensures f) (λ q. absurd (w .0 .left q)) (λ q. omega arith) ∙ c .before .before .before .before .before .before .before .loop .inv
+          .3 f,
+    )) (c .if1 .came)
 
 enum-known-number : tie.Need-enum-known-number Inv-loop μ-loop
 enum-known-number c = c .match .keys2
@@ -58,7 +67,7 @@ enum-known-number c = c .match .keys2
 returns : tie.Need-returns Inv-loop μ-loop
 returns c =
     λ f. cells-refused _ _ _ _ f _ _ _ _ (omega arith) _ _ (sym (c .before .number .given .1) ∙ c .before .before .before .check-cell .ensures f) ∙ c
-        .before .before .before .before .before .loop .inv .3 f
+    .before .before .before .before .before .loop .inv .3 f
 
 returns-2 : tie.Need-returns-2 Inv-loop μ-loop
 returns-2 c = λ f. cells-none _ _ _ _ f _ _ _ _ (omega arith) ∙ c .before .loop .inv .3 f

@@ -51,9 +51,13 @@ loop-less c = omega arith
 loop-again : tie.Need-loop-again Inv-loop μ-loop
 loop-again c =
     let e = sym (c .before .n .given .1) ∙ c .before .before .before .check-matrix-events .ensures in let g = row-ends _ _ _ _ _ (c .before .before
-        .before .before .before .before .before .loop .left) (c .before .before .before .before .before .before .before .loop .p) _ (omega arith) (c
-        .before .before .before .before .wide .ensures .0) _ (omega arith) e in (g, omega arith, rows-more _ _ _ _ _ _ _ _ (omega arith) (c .before
-        .before .before .before .wide .ensures .0) _ e ∙ c .before .before .before .before .before .before .before .loop .inv .2)
+    .before .before .before .before .before .loop .left) (c .before .before .before .before .before .before .before .loop .p) _ (omega arith) (c
+    .before .before .before .before .wide .ensures .0) _ (omega arith) e in (
+      g,
+      omega arith,
+      rows-more _ _ _ _ _ _ _ _ (omega arith) (c .before
+          .before .before .before .wide .ensures .0) _ e ∙ c .before .before .before .before .before .before .before .loop .inv .2,
+    )
 
 enum-known-number : tie.Need-enum-known-number Inv-loop μ-loop
 enum-known-number c = c .match .keys2
@@ -61,7 +65,7 @@ enum-known-number c = c .match .keys2
 returns : tie.Need-returns Inv-loop μ-loop
 returns c =
     rows-refused _ _ _ _ _ _ _ _ (omega arith) (c .before .before .before .before .wide .ensures .0) _ _ (sym (c .before .number .given .1) ∙ c .before
-        .before .before .check-matrix-events .ensures) ∙ c .before .before .before .before .before .before .before .loop .inv .2
+    .before .before .check-matrix-events .ensures) ∙ c .before .before .before .before .before .before .before .loop .inv .2
 
 returns-2 : tie.Need-returns-2 Inv-loop μ-loop
 returns-2 c = rows-none _ _ _ _ _ _ _ (omega arith) ∙ c .before .loop .inv .2

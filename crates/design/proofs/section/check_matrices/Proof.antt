@@ -31,8 +31,11 @@ loop-less c = omega arith
 
 loop-again : tie.Need-loop-again Inv-loop μ-loop
 loop-again c =
-    let e = sym (c .before .n .given .1) ∙ c .before .before .before .check-matrix .ensures in let g = matrix-ends _ _ _ _ e in (g .1, items-more _ _ _ _
-        (omega arith) e ∙ c .before .before .before .before .before .loop .inv .1)
+    let e = sym (c .before .n .given .1) ∙ c .before .before .before .check-matrix .ensures in let g = matrix-ends _ _ _ _ e in (
+      g .1,
+      items-more _ _ _ _
+          (omega arith) e ∙ c .before .before .before .before .before .loop .inv .1,
+    )
 
 enum-known-number : tie.Need-enum-known-number Inv-loop μ-loop
 enum-known-number c = c .match .keys2
@@ -40,7 +43,7 @@ enum-known-number c = c .match .keys2
 returns : tie.Need-returns Inv-loop μ-loop
 returns c =
     items-refused _ _ _ _ _ (omega arith) (sym (c .before .number .given .1) ∙ c .before .before .before .check-matrix .ensures) ∙ c .before .before
-        .before .before .before .loop .inv .1
+    .before .before .before .loop .inv .1
 
 returns-2 : tie.Need-returns-2 Inv-loop μ-loop
 returns-2 c = items-none _ _ _ (omega arith) ∙ c .before .loop .inv .1

@@ -27,7 +27,7 @@ enum-known-n c = c .match .keys1
 shared-slice-read-if1 : tie.Need-shared-slice-read-if1 Inv-loop μ-loop
 shared-slice-read-if1 c =
     let e = sym (c .before .before .n .given .1) ∙ c .before .before .before .before .check-variable .ensures in let g = variable-ends _ _ _ _ e in omega
-        arith
+    arith
 
 add-externals : tie.Need-add-externals Inv-loop μ-loop
 add-externals c = omega arith
@@ -41,9 +41,17 @@ loop-less c = omega arith
 loop-again : tie.Need-loop-again Inv-loop μ-loop
 loop-again c =
     let e = sym (c .before .before .before .n .given .1) ∙ c .before .before .before .before .before .check-variable .ensures in let g = variable-ends _ _
-        _ _ e in ⊎-elim (λ w. (g .1, omega arith, variable-more _ _ _ _ _ _ (omega arith) e _ (λ q. omega arith) (λ q. absurd (q (w .0 .taken))) ∙ c
-        .before .before .before .before .before .before .before .loop .inv .2)) (λ w. (g .1, omega arith, variable-more _ _ _ _ _ _ (omega arith) e _
-        (λ q. absurd (w .0 .left q)) (λ q. omega arith) ∙ c .before .before .before .before .before .before .before .loop .inv .2)) (c .if1 .came)
+    _ _ e in ⊎-elim (λ w. (
+      g .1,
+      omega arith,
+      variable-more _ _ _ _ _ _ (omega arith) e _ (λ q. omega arith) (λ q. absurd (q (w .0 .taken))) ∙ c
+          .before .before .before .before .before .before .before .loop .inv .2,
+    )) (λ w. (
+      g .1,
+      omega arith,
+      variable-more _ _ _ _ _ _ (omega arith) e _
+          (λ q. absurd (w .0 .left q)) (λ q. omega arith) ∙ c .before .before .before .before .before .before .before .loop .inv .2,
+    )) (c .if1 .came)
 
 enum-known-number : tie.Need-enum-known-number Inv-loop μ-loop
 enum-known-number c = c .match .keys2
@@ -51,7 +59,7 @@ enum-known-number c = c .match .keys2
 returns : tie.Need-returns Inv-loop μ-loop
 returns c =
     count-refused _ _ _ _ _ _ _ (omega arith) (sym (c .before .number .given .1) ∙ c .before .before .before .check-variable .ensures) ∙ c .before .before
-        .before .before .before .loop .inv .2
+    .before .before .before .loop .inv .2
 
 returns-2 : tie.Need-returns-2 Inv-loop μ-loop
 returns-2 c = count-none _ _ _ _ _ (omega arith) ∙ c .before .loop .inv .2

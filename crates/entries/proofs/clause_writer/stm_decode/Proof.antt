@@ -24,7 +24,7 @@ returns : tie.Need-returns
 unfolding decodeEntry
 returns c =
     decode-refused _ _ _ (c .before .before .before .before .before .before .decode .ensures) _ _ _ (c .before .before .number .given .1) (c .code-of
-        .ensures)
+    .ensures)
 
 same-length-2 : tie.Need-same-length-2
 same-length-2 c = search needs

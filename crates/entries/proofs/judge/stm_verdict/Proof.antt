@@ -58,7 +58,7 @@ unfolding verdictEntry
 returns-2 c =
     let at-verdict = c .before .before .before .before .before .before .before .before .before .before .before .before .before in
     done-exit _ _ _ (at-verdict .verdict .ensures) _ _ _ _ (c .before .before .before .before .j .given .1) (c .before .before .verdict-number .ensures)
-        (c .before .verdict-step .ensures)
+    (c .before .verdict-step .ensures)
 
 pub stm-verdict-spec : {M : Type 1} → statement M
 stm-verdict-spec =

@@ -47,7 +47,7 @@ returns-2 c =
     let at-s = c .before .before .before in
     let at-solve = at-s .before .before .before .before .before .before in
     done-exit _ _ _ _ (at-solve .solve .ensures) 0 _ _ _ (at-s .s .given .1) (ap (λ (k : ℕ). k ∷ at-s .s .given .0 .0 .tries ∷ []) (c .before
-        .answer-number .ensures))
+    .answer-number .ensures))
 
 pub stm-solve-spec : {M : Type 1} → statement M
 stm-solve-spec =

@@ -22,7 +22,7 @@ returns-2 : tie.Need-returns-2
 unfolding stepEntry
 returns-2 c =
     step-told _ _ (c .before .before .before .before .before .before .before .step .ensures) _ _ _ _ (c .before .before .before .before .if1 .left) (c
-        .before .flag .ensures)
+    .before .flag .ensures)
 
 pub stm-step-spec : {M : Type 1} → statement M
 stm-step-spec = tie.close (tie.spec step-requires code-of-requires returns flag-requires returns-2)

@@ -27,8 +27,8 @@ returns c =
     let at-patterns = c .before .before .before in
     let entry = at-patterns .before .before .before .before in
     c .refuse-holds .ensures ∙ holds-11 (entry .args .file .now) (entry .args .values) (entry .args .statuses) (entry .args .property) (entry .pre)
-        (at-patterns .patterns .result) (at-patterns .patterns .ensures) (entry .good .1 .0 .1 .0 .1) (entry .good .1 .1 .0 .1 .0 .1) _ (c .before
-        .before .wrong-entry .ensures) (c .before .if1 .taken)
+    (at-patterns .patterns .result) (at-patterns .patterns .ensures) (entry .good .1 .0 .1 .0 .1) (entry .good .1 .1 .0 .1 .0 .1) _ (c .before
+    .before .wrong-entry .ensures) (c .before .if1 .taken)
 
 refuse-holds-requires-2 : tie.Need-refuse-holds-requires-2
 refuse-holds-requires-2 c κs = search needs
@@ -38,8 +38,8 @@ returns-2 c =
     let at-patterns = c .before .before .before .before in
     let entry = at-patterns .before .before .before .before in
     c .refuse-holds2 .ensures ∙ holds-13 (entry .args .file .now) (entry .args .values) (entry .args .statuses) (entry .args .property) (entry .pre)
-        (at-patterns .patterns .result) (at-patterns .patterns .ensures) (entry .good .1 .0 .1 .0 .1) (entry .good .1 .1 .0 .1 .0 .1) _ (c .before
-        .before .before .wrong-entry .ensures) (c .before .before .if1 .left) (c .before .if2 .taken)
+    (at-patterns .patterns .result) (at-patterns .patterns .ensures) (entry .good .1 .0 .1 .0 .1) (entry .good .1 .1 .0 .1 .0 .1) _ (c .before
+    .before .before .wrong-entry .ensures) (c .before .before .if1 .left) (c .before .if2 .taken)
 
 holds-right-requires : tie.Need-holds-right-requires
 holds-right-requires c κs = search needs
@@ -49,9 +49,9 @@ returns-3 c =
     let at-patterns = c .before .before .before .before in
     let entry = at-patterns .before .before .before .before in
     holds-done (entry .args .file .now) (entry .args .values) (entry .args .statuses) (entry .args .property) (entry .pre) (at-patterns .patterns .result)
-        (at-patterns .patterns .ensures) (entry .good .1 .0 .1 .0 .1) (entry .good .1 .1 .0 .1 .0 .1) _ (c .before .before .before .wrong-entry
-        .ensures) (c .before .before .if1 .left) (c .before .if2 .left) _ _ (c .before .before .before .before .before .before .trailer-word .ensures
-        .0) (c .before .before .before .before .before .trailer-word2 .ensures .0) _ (c .holds-right .ensures)
+    (at-patterns .patterns .ensures) (entry .good .1 .0 .1 .0 .1) (entry .good .1 .1 .0 .1 .0 .1) _ (c .before .before .before .wrong-entry
+    .ensures) (c .before .before .if1 .left) (c .before .if2 .left) _ _ (c .before .before .before .before .before .before .trailer-word .ensures
+    .0) (c .before .before .before .before .before .trailer-word2 .ensures .0) _ (c .holds-right .ensures)
 
 pub holds-accepted-spec : {M : Type 1} → statement M
 holds-accepted-spec =

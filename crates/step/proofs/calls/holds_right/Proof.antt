@@ -24,15 +24,32 @@ array-borrow-prefix-all c =
 slice-aggregate-holds-slots : tie.Need-slice-aggregate-holds-slots
 slice-aggregate-holds-slots c =
     let entry = c .before .before .before .before .before in
-    let b : entry .args .nv + entry .args .nm ≤ 40 = omega (arith, entry .pre .1, entry .pre .2, read _ (entry .pre .0) .all .variables, read _ (entry
-        .pre .0) .all .matrices) in sym (length-take-le _ _ b)
+    let b : entry .args .nv + entry .args .nm ≤ 40 = omega (
+      arith,
+      entry .pre .1,
+      entry .pre .2,
+      read _ (entry .pre .0) .all .variables,
+      read _ (entry
+          .pre .0) .all .matrices,
+    ) in sym (length-take-le _ _ b)
 
 holds-slots-requires : tie.Need-holds-slots-requires
 holds-slots-requires c κs =
     let entry = c .before .before .before .before .before in
-    let b : entry .args .nv + entry .args .nm ≤ 40 = omega (arith, entry .pre .1, entry .pre .2, read _ (entry .pre .0) .all .variables, read _ (entry
-        .pre .0) .all .matrices) in record { accepted = entry .pre .0; events = c .before .before .index-events .ensures; variables = entry .pre .1;
-        matrices = entry .pre .2; size = length-take-le _ _ b }
+    let b : entry .args .nv + entry .args .nm ≤ 40 = omega (
+      arith,
+      entry .pre .1,
+      entry .pre .2,
+      read _ (entry .pre .0) .all .variables,
+      read _ (entry
+          .pre .0) .all .matrices,
+    ) in record {
+      accepted = entry .pre .0;
+      events = c .before .before .index-events .ensures;
+      variables = entry .pre .1;
+      matrices = entry .pre .2;
+      size = length-take-le _ _ b;
+    }
 
 returns : tie.Need-returns
 returns c = search needs

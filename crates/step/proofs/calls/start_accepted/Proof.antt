@@ -24,21 +24,44 @@ add-n c = search needs
 array-borrow-prefix-all : tie.Need-array-borrow-prefix-all
 array-borrow-prefix-all c =
     let entry = c .before .before .before in
-    omega (arith, c .before .trailer-word .ensures .0, c .trailer-word2 .ensures .0, read _ (entry .pre) .all .variables, read _ (entry .pre) .all
-        .matrices)
+    omega (
+      arith,
+      c .before .trailer-word .ensures .0,
+      c .trailer-word2 .ensures .0,
+      read _ (entry .pre) .all .variables,
+      read _ (entry .pre) .all
+          .matrices,
+    )
 
 slice-aggregate-start-slots : tie.Need-slice-aggregate-start-slots
 slice-aggregate-start-slots c =
     let entry = c .before .before .before .before in
-    let b : c .before .before .trailer-word .result + c .before .trailer-word2 .result ≤ 40 = omega (arith, c .before .before .trailer-word .ensures .0, c
-        .before .trailer-word2 .ensures .0, read _ (entry .pre) .all .variables, read _ (entry .pre) .all .matrices) in sym (length-take-le _ _ b)
+    let b : c .before .before .trailer-word .result + c .before .trailer-word2 .result ≤ 40 = omega (
+      arith,
+      c .before .before .trailer-word .ensures .0,
+      c
+          .before .trailer-word2 .ensures .0,
+      read _ (entry .pre) .all .variables,
+      read _ (entry .pre) .all .matrices,
+    ) in sym (length-take-le _ _ b)
 
 start-slots-requires : tie.Need-start-slots-requires
 start-slots-requires c κs =
     let entry = c .before .before .before .before in
-    let b : c .before .before .trailer-word .result + c .before .trailer-word2 .result ≤ 40 = omega (arith, c .before .before .trailer-word .ensures .0, c
-        .before .trailer-word2 .ensures .0, read _ (entry .pre) .all .variables, read _ (entry .pre) .all .matrices) in (entry .pre, c .before .before
-        .trailer-word .ensures .0, c .before .trailer-word2 .ensures .0, take-replicate _ 40 0 b)
+    let b : c .before .before .trailer-word .result + c .before .trailer-word2 .result ≤ 40 = omega (
+      arith,
+      c .before .before .trailer-word .ensures .0,
+      c
+          .before .trailer-word2 .ensures .0,
+      read _ (entry .pre) .all .variables,
+      read _ (entry .pre) .all .matrices,
+    ) in (
+      entry .pre,
+      c .before .before
+          .trailer-word .ensures .0,
+      c .before .trailer-word2 .ensures .0,
+      take-replicate _ 40 0 b,
+    )
 
 returns : tie.Need-returns
 returns c = search needs

@@ -32,8 +32,8 @@ returns c =
     let at-patterns = c .before .before .before in
     let entry = at-patterns .before .before .before .before in
     c .refuse-step .ensures ∙ step-11 (entry .args .file .now) (entry .args .values) (entry .args .statuses) (entry .args .choice) (entry .pre)
-        (at-patterns .patterns .result) (at-patterns .patterns .ensures) (entry .good .1 .0 .1 .0 .1) (entry .good .1 .1 .0 .1 .0 .1) _ (c .before
-        .before .wrong-entry .ensures) (c .before .if1 .taken)
+    (at-patterns .patterns .result) (at-patterns .patterns .ensures) (entry .good .1 .0 .1 .0 .1) (entry .good .1 .1 .0 .1 .0 .1) _ (c .before
+    .before .wrong-entry .ensures) (c .before .if1 .taken)
 
 index-cells-requires : tie.Need-index-cells-requires
 index-cells-requires c κs = search needs
@@ -41,14 +41,25 @@ index-cells-requires c κs = search needs
 external-count-requires : tie.Need-external-count-requires
 external-count-requires c κs =
     let entry = c .before .before .before .before .before .before .before .before in
-    omega (arith, read _ (entry .pre) .all .long, variables-inside _ (entry .pre), c .before .before .before .before .before .before .trailer-word
-        .ensures .0)
+    omega (
+      arith,
+      read _ (entry .pre) .all .long,
+      variables-inside _ (entry .pre),
+      c .before .before .before .before .before .before .trailer-word
+          .ensures .0,
+    )
 
 add-if2 : tie.Need-add-if2
 add-if2 c =
     let entry = c .before .before .before .before .before .before .before .before .before in
-    omega (arith, few-normals _ (entry .pre), c .before .index-cells .ensures .count, c .external-count .ensures .1, c .before .before .before .before
-        .before .before .before .trailer-word .ensures .1)
+    omega (
+      arith,
+      few-normals _ (entry .pre),
+      c .before .index-cells .ensures .count,
+      c .external-count .ensures .1,
+      c .before .before .before .before
+          .before .before .before .trailer-word .ensures .1,
+    )
 
 refuse-step-requires-2 : tie.Need-refuse-step-requires-2
 refuse-step-requires-2 c κs = search needs
@@ -59,10 +70,10 @@ returns-2 c =
     let at-trailer-word = at-patterns .before .before in
     let entry = at-trailer-word .before .before in
     c .refuse-step2 .ensures ∙ step-12 (entry .args .file .now) (entry .args .values) (entry .args .statuses) (entry .args .choice) (entry .pre)
-        (at-patterns .patterns .result) (at-patterns .patterns .ensures) (entry .good .1 .0 .1 .0 .1) (entry .good .1 .1 .0 .1 .0 .1) _ (c .before
-        .before .before .before .before .before .wrong-entry .ensures) (c .before .before .before .before .before .if1 .left) _ (count-movers _ _ _ _
-        _ (entry .pre) (at-trailer-word .trailer-word .ensures .0) (c .before .before .before .index-cells .ensures) (c .before .before
-        .external-count .ensures .0)) (omega (arith, c .before .if2 .taken))
+    (at-patterns .patterns .result) (at-patterns .patterns .ensures) (entry .good .1 .0 .1 .0 .1) (entry .good .1 .1 .0 .1 .0 .1) _ (c .before
+    .before .before .before .before .before .wrong-entry .ensures) (c .before .before .before .before .before .if1 .left) _ (count-movers _ _ _ _
+    _ (entry .pre) (at-trailer-word .trailer-word .ensures .0) (c .before .before .before .index-cells .ensures) (c .before .before
+    .external-count .ensures .0)) (omega (arith, c .before .if2 .taken))
 
 index-events-requires : tie.Need-index-events-requires
 index-events-requires c κs = search needs
@@ -75,29 +86,59 @@ array-borrow-prefix-all c =
     let at-trailer-word2 = c .before .before .before .before .before .before .before .before .before .before .before in
     let at-trailer-word = at-trailer-word2 .before in
     let entry = at-trailer-word .before .before in
-    omega (arith, at-trailer-word .trailer-word .ensures .0, at-trailer-word2 .trailer-word2 .ensures .0, read _ (entry .pre) .all .variables, read _
-        (entry .pre) .all .matrices)
+    omega (
+      arith,
+      at-trailer-word .trailer-word .ensures .0,
+      at-trailer-word2 .trailer-word2 .ensures .0,
+      read _ (entry .pre) .all .variables,
+      read _
+          (entry .pre) .all .matrices,
+    )
 
 slice-aggregate-step-slots : tie.Need-slice-aggregate-step-slots
 slice-aggregate-step-slots c =
     let at-trailer-word2 = c .before .before .before .before .before .before .before .before .before .before .before .before in
     let at-trailer-word = at-trailer-word2 .before in
     let entry = at-trailer-word .before .before in
-    let b : at-trailer-word .trailer-word .result + at-trailer-word2 .trailer-word2 .result ≤ 40 = omega (arith, at-trailer-word .trailer-word .ensures
-        .0, at-trailer-word2 .trailer-word2 .ensures .0, read _ (entry .pre) .all .variables, read _ (entry .pre) .all .matrices) in sym
-        (length-take-le _ _ b)
+    let b : at-trailer-word .trailer-word .result + at-trailer-word2 .trailer-word2 .result ≤ 40 = omega (
+      arith,
+      at-trailer-word .trailer-word .ensures
+          .0,
+      at-trailer-word2 .trailer-word2 .ensures .0,
+      read _ (entry .pre) .all .variables,
+      read _ (entry .pre) .all .matrices,
+    ) in sym
+    (length-take-le _ _ b)
 
 step-slots-requires : tie.Need-step-slots-requires
 step-slots-requires c κs =
     let at-trailer-word2 = c .before .before .before .before .before .before .before .before .before .before .before .before in
     let at-trailer-word = at-trailer-word2 .before in
     let entry = at-trailer-word .before .before in
-    let b : at-trailer-word .trailer-word .result + at-trailer-word2 .trailer-word2 .result ≤ 40 = omega (arith, at-trailer-word .trailer-word .ensures
-        .0, at-trailer-word2 .trailer-word2 .ensures .0, read _ (entry .pre) .all .variables, read _ (entry .pre) .all .matrices) in (record {
-        accepted = entry .pre; events = c .before .before .before .index-events .ensures; variables = at-trailer-word .trailer-word .ensures .0;
-        matrices = at-trailer-word2 .trailer-word2 .ensures .0; size = length-take-le _ _ b }, c .before .before .before .before .before .before
-        .before .index-cells .ensures, omega (arith, c .before .before .before .before .before .if2 .left, c .before .before .before .before .before
-        .before .external-count .ensures .0))
+    let b : at-trailer-word .trailer-word .result + at-trailer-word2 .trailer-word2 .result ≤ 40 = omega (
+      arith,
+      at-trailer-word .trailer-word .ensures
+          .0,
+      at-trailer-word2 .trailer-word2 .ensures .0,
+      read _ (entry .pre) .all .variables,
+      read _ (entry .pre) .all .matrices,
+    ) in (
+      record {
+        accepted = entry .pre;
+        events = c .before .before .before .index-events .ensures;
+        variables = at-trailer-word .trailer-word .ensures .0;
+        matrices = at-trailer-word2 .trailer-word2 .ensures .0;
+        size = length-take-le _ _ b;
+      },
+      c .before .before .before .before .before .before
+          .before .index-cells .ensures,
+      omega (
+        arith,
+        c .before .before .before .before .before .if2 .left,
+        c .before .before .before .before .before
+            .before .external-count .ensures .0,
+      ),
+    )
 
 returns-3 : tie.Need-returns-3
 returns-3 c =
@@ -110,10 +151,10 @@ returns-3 c =
     let at-trailer-word = at-trailer-word2 .before in
     let entry = at-trailer-word .before .before in
     step-done (entry .args .file .now) (entry .args .values) (entry .args .statuses) (entry .args .choice) (entry .pre) (at-patterns .patterns .result)
-        (at-patterns .patterns .ensures) (entry .good .1 .0 .1 .0 .1) (entry .good .1 .1 .0 .1 .0 .1) _ (at-wrong-entry .wrong-entry .ensures) (at-if1
-        .if1 .left) _ (count-movers _ _ _ _ _ (entry .pre) (at-trailer-word .trailer-word .ensures .0) (at-index-cells .index-cells .ensures)
-        (at-external-count .external-count .ensures .0)) (omega (arith, c .before .before .before .before .before .before .before .if2 .left)) _ _
-        (at-trailer-word .trailer-word .ensures .0) (at-trailer-word2 .trailer-word2 .ensures .0) _ refl _ (c .before .step-slots .ensures)
+    (at-patterns .patterns .ensures) (entry .good .1 .0 .1 .0 .1) (entry .good .1 .1 .0 .1 .0 .1) _ (at-wrong-entry .wrong-entry .ensures) (at-if1
+    .if1 .left) _ (count-movers _ _ _ _ _ (entry .pre) (at-trailer-word .trailer-word .ensures .0) (at-index-cells .index-cells .ensures)
+    (at-external-count .external-count .ensures .0)) (omega (arith, c .before .before .before .before .before .before .before .if2 .left)) _ _
+    (at-trailer-word .trailer-word .ensures .0) (at-trailer-word2 .trailer-word2 .ensures .0) _ refl _ (c .before .step-slots .ensures)
 
 pub step-accepted-spec : {M : Type 1} → statement M
 step-accepted-spec =

@@ -28,8 +28,14 @@ move-chosen-requires c κs =
 give-values-requires : tie.Need-give-values-requires
 give-values-requires c κs =
     let entry = c .before .before .before .before .before .before .before .before .before .before .before in
-    omega (arith, sizes _ _ _ _ _ (entry .pre .0), entry .pre .0 .size, c .before .before .before .before .before .before .slots .given, c .before .before
-        .slots2 .given)
+    omega (
+      arith,
+      sizes _ _ _ _ _ (entry .pre .0),
+      entry .pre .0 .size,
+      c .before .before .before .before .before .before .slots .given,
+      c .before .before
+          .slots2 .given,
+    )
 
 give-statuses-requires : tie.Need-give-statuses-requires
 give-statuses-requires c κs =
@@ -45,10 +51,15 @@ returns c =
     let at-slots = c .before .before .before .before .before .before .before .before .before in
     let at-load-entries = at-slots .before in
     let entry = at-load-entries .before .before .before .before in
-    λ d e. step-answer _ d e _ _ (entry .pre .0 .variables) (entry .pre .0 .matrices) _ _ _ _ _ _ (omega (arith, entry .pre .0 .size, at-slots .slots
-        .given, c .before .before .before .before .before .slots2 .given)) (c .before .before .before .before .before .before .move-chosen .ensures d
-        e) (c .before .before .give-values .ensures) (c .give-statuses .ensures) ∙ ap (λ (s : State). answerStep d s (entry .args .choice))
-        (at-load-entries .load-entries .ensures)
+    λ d e. step-answer _ d e _ _ (entry .pre .0 .variables) (entry .pre .0 .matrices) _ _ _ _ _ _ (omega (
+      arith,
+      entry .pre .0 .size,
+      at-slots .slots
+          .given,
+      c .before .before .before .before .before .slots2 .given,
+    )) (c .before .before .before .before .before .before .move-chosen .ensures d
+    e) (c .before .before .give-values .ensures) (c .give-statuses .ensures) ∙ ap (λ (s : State). answerStep d s (entry .args .choice))
+    (at-load-entries .load-entries .ensures)
 
 pub step-slots-spec : {M : Type 1} → statement M
 step-slots-spec =

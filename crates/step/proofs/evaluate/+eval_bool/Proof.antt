@@ -78,9 +78,15 @@ eval-bool-sub-eval-bool : (t : ℕ) → eval-bool-lts.Need-sub-eval-bool (eval-b
 eval-bool-sub-eval-bool t c = omega (arith, bool-live _ _ _ _ _ (c .before .before .before .before .before .pre .1 .0) .deep)
 
 eval-bool-eval-bool-requires : (t : ℕ) → eval-bool-lts.Need-eval-bool-requires (eval-bool-claims t) (eval-bool-at t) eval-bool.Post
-eval-bool-eval-bool-requires t c κs =
-    (omega (arith, bool-live _ _ _ _ _ (c .before .before .before .before .before .pre .1 .0) .deep), (not-first _ _ _ _ _ (c .before .before .before
-        .before .before .pre .1 .0) (c .match .keys3), omega arith, omega arith))
+eval-bool-eval-bool-requires t c κs = (
+  omega (arith, bool-live _ _ _ _ _ (c .before .before .before .before .before .pre .1 .0) .deep),
+  (
+    not-first _ _ _ _ _ (c .before .before .before
+        .before .before .pre .1 .0) (c .match .keys3),
+    omega arith,
+    omega arith,
+  ),
+)
 
 eval-bool-bool-at-requires-3 : (t : ℕ) → eval-bool-lts.Need-bool-at-requires-3 (eval-bool-claims t) (eval-bool-at t) eval-bool.Post
 eval-bool-bool-at-requires-3 t c κs = tt
@@ -89,9 +95,15 @@ eval-bool-sub-eval-bool-2 : (t : ℕ) → eval-bool-lts.Need-sub-eval-bool-2 (ev
 eval-bool-sub-eval-bool-2 t c = omega (arith, bool-live _ _ _ _ _ (c .before .before .before .before .before .before .before .pre .1 .0) .deep)
 
 eval-bool-eval-bool-requires-2 : (t : ℕ) → eval-bool-lts.Need-eval-bool-requires-2 (eval-bool-claims t) (eval-bool-at t) eval-bool.Post
-eval-bool-eval-bool-requires-2 t c κs =
-    (omega (arith, bool-live _ _ _ _ _ (c .before .before .before .before .before .before .before .pre .1 .0) .deep), (logic-first _ _ _ _ _ (c .before
-        .before .before .before .before .before .before .pre .1 .0) (omega arith) (c .if2 .taken), omega arith, omega arith))
+eval-bool-eval-bool-requires-2 t c κs = (
+  omega (arith, bool-live _ _ _ _ _ (c .before .before .before .before .before .before .before .pre .1 .0) .deep),
+  (
+    logic-first _ _ _ _ _ (c .before
+        .before .before .before .before .before .before .pre .1 .0) (omega arith) (c .if2 .taken),
+    omega arith,
+    omega arith,
+  ),
+)
 
 eval-bool-sub-eval-bool-3 : (t : ℕ) → eval-bool-lts.Need-sub-eval-bool-3 (eval-bool-claims t) (eval-bool-at t) eval-bool.Post
 eval-bool-sub-eval-bool-3 t c =
@@ -99,10 +111,16 @@ eval-bool-sub-eval-bool-3 t c =
     omega (arith, bool-live _ _ _ _ _ (entry .pre .1 .0) .deep)
 
 eval-bool-eval-bool-requires-3 : (t : ℕ) → eval-bool-lts.Need-eval-bool-requires-3 (eval-bool-claims t) (eval-bool-at t) eval-bool.Post
-eval-bool-eval-bool-requires-3 t c κs =
-    (omega (arith, bool-live _ _ _ _ _ (c .before .before .before .before .before .before .before .before .pre .1 .0) .deep), (logic-second _ _ _ _ _ (c
+eval-bool-eval-bool-requires-3 t c κs = (
+  omega (arith, bool-live _ _ _ _ _ (c .before .before .before .before .before .before .before .before .pre .1 .0) .deep),
+  (
+    logic-second _ _ _ _ _ (c
         .before .before .before .before .before .before .before .before .pre .1 .0) (omega arith) (c .before .if2 .taken) _ (c .eval-bool2 .ensures
-        .1), omega arith, omega arith))
+        .1),
+    omega arith,
+    omega arith,
+  ),
+)
 
 eval-bool-logic-requires : (t : ℕ) → eval-bool-lts.Need-logic-requires (eval-bool-claims t) (eval-bool-at t) eval-bool.Post
 eval-bool-logic-requires t c κs = tt
@@ -116,9 +134,11 @@ eval-bool-sub-eval-int t c =
     omega (arith, bool-live _ _ _ _ _ (entry .pre .1 .0) .deep)
 
 eval-bool-eval-int-requires : (t : ℕ) → eval-bool-lts.Need-eval-int-requires (eval-bool-claims t) (eval-bool-at t) eval-bool.Post
-eval-bool-eval-int-requires t c κs =
-    (compare-first _ _ _ _ _ (c .before .before .before .before .before .before .before .before .pre .1 .0) (omega arith) (c .if3 .taken), omega arith,
-        omega arith)
+eval-bool-eval-int-requires t c κs = (
+  compare-first _ _ _ _ _ (c .before .before .before .before .before .before .before .before .pre .1 .0) (omega arith) (c .if3 .taken),
+  omega arith,
+  omega arith,
+)
 
 eval-bool-sub-eval-int-2 : (t : ℕ) → eval-bool-lts.Need-sub-eval-int-2 (eval-bool-claims t) (eval-bool-at t) eval-bool.Post
 eval-bool-sub-eval-int-2 t c =
@@ -126,9 +146,12 @@ eval-bool-sub-eval-int-2 t c =
     omega (arith, bool-live _ _ _ _ _ (entry .pre .1 .0) .deep)
 
 eval-bool-eval-int-requires-2 : (t : ℕ) → eval-bool-lts.Need-eval-int-requires-2 (eval-bool-claims t) (eval-bool-at t) eval-bool.Post
-eval-bool-eval-int-requires-2 t c κs =
-    (compare-second _ _ _ _ _ (c .before .before .before .before .before .before .before .before .before .pre .1 .0) (omega arith) (c .before .if3 .taken)
-        _ (c .eval-int .ensures .1), omega arith, omega arith)
+eval-bool-eval-int-requires-2 t c κs = (
+  compare-second _ _ _ _ _ (c .before .before .before .before .before .before .before .before .before .pre .1 .0) (omega arith) (c .before .if3 .taken)
+      _ (c .eval-int .ensures .1),
+  omega arith,
+  omega arith,
+)
 
 eval-bool-compare-requires : (t : ℕ) → eval-bool-lts.Need-compare-requires (eval-bool-claims t) (eval-bool-at t) eval-bool.Post
 eval-bool-compare-requires t c κs = tt
@@ -143,42 +166,54 @@ eval-bool-returns : (t : ℕ) → eval-bool-lts.Need-returns (eval-bool-claims t
 unfolding evalBool
 eval-bool-returns t c =
     let entry = c .before .before .before .before .before .before .before in
-    let k = bool-constant _ _ _ _ _ (entry .pre .1 .0) (c .before .before .match .keys1) in (c .bool-at .ensures .0 ∙ truth-test (getD (entry .args .text
-        .now) (entry .args .at + 1) 0) ∙ sym (ap (boolValue _ _) (k .1)), c .bool-at .ensures .1 ∙ sym (ap past (k .1)))
+    let k = bool-constant _ _ _ _ _ (entry .pre .1 .0) (c .before .before .match .keys1) in (
+      c .bool-at .ensures .0 ∙ truth-test (getD (entry .args .text
+          .now) (entry .args .at + 1) 0) ∙ sym (ap (boolValue _ _) (k .1)),
+      c .bool-at .ensures .1 ∙ sym (ap past (k .1)),
+    )
 
 eval-bool-returns-2 : (t : ℕ) → eval-bool-lts.Need-returns-2 (eval-bool-claims t) (eval-bool-at t) eval-bool.Post
 unfolding evalBool
 eval-bool-returns-2 t c =
     let entry = c .before .before .before .before .before .before .before .before .before in
-    let k = bool-variable _ _ _ _ _ (entry .pre .1 .0) (c .before .before .before .before .match .keys2) in (c .bool-at2 .ensures .0 ∙ ap (λ (v : ℕ). ltb
-        0 (getD (entry .args .slots .now) v 0)) (c .before .before .wide .ensures .0) ∙ truth-test (getD (entry .args .slots .now) (getD (entry .args
-        .text .now) (entry .args .at + 1) 0) 0) ∙ sym (ap (boolValue _ _) (k .2)), c .bool-at2 .ensures .1 ∙ sym (ap past (k .2)))
+    let k = bool-variable _ _ _ _ _ (entry .pre .1 .0) (c .before .before .before .before .match .keys2) in (
+      c .bool-at2 .ensures .0 ∙ ap (λ (v : ℕ). ltb
+          0 (getD (entry .args .slots .now) v 0)) (c .before .before .wide .ensures .0) ∙ truth-test (getD (entry .args .slots .now) (getD (entry .args
+          .text .now) (entry .args .at + 1) 0) 0) ∙ sym (ap (boolValue _ _) (k .2)),
+      c .bool-at2 .ensures .1 ∙ sym (ap past (k .2)),
+    )
 
 eval-bool-returns-3 : (t : ℕ) → eval-bool-lts.Need-returns-3 (eval-bool-claims t) (eval-bool-at t) eval-bool.Post
 eval-bool-returns-3 t c =
     let entry = c .before .before .before .before .before .before .before .before in
     let k = not-value _ _ _ _ _ (entry .pre .1 .0) (c .before .before .before .match .keys3) _ _ _ _ (c .before .before .eval-bool .ensures .0) (c .before
-        .before .eval-bool .ensures .1) in (c .bool-at3 .ensures .0 ∙ k .0, c .bool-at3 .ensures .1 ∙ k .1)
+    .before .eval-bool .ensures .1) in (c .bool-at3 .ensures .0 ∙ k .0, c .bool-at3 .ensures .1 ∙ k .1)
 
 eval-bool-returns-4 : (t : ℕ) → eval-bool-lts.Need-returns-4 (eval-bool-claims t) (eval-bool-at t) eval-bool.Post
 eval-bool-returns-4 t c =
     let k = logic-pair _ _ _ _ _ (c .before .before .before .before .before .before .before .before .before .before .before .pre .1 .0) (omega arith) (c
-        .before .before .before .before .if2 .taken) _ _ _ _ _ _ (c .before .before .before .eval-bool2 .ensures .0) (c .before .before .before
-        .eval-bool2 .ensures .1) (c .before .before .eval-bool3 .ensures .0) (c .before .before .eval-bool3 .ensures .1) in (c .bool-at4 .ensures .0 ∙
-        c .before .logic .ensures ∙ k .0, c .bool-at4 .ensures .1 ∙ k .1)
+    .before .before .before .before .if2 .taken) _ _ _ _ _ _ (c .before .before .before .eval-bool2 .ensures .0) (c .before .before .before
+    .eval-bool2 .ensures .1) (c .before .before .eval-bool3 .ensures .0) (c .before .before .eval-bool3 .ensures .1) in (
+      c .bool-at4 .ensures .0 ∙
+          c .before .logic .ensures ∙ k .0,
+      c .bool-at4 .ensures .1 ∙ k .1,
+    )
 
 eval-bool-returns-5 : (t : ℕ) → eval-bool-lts.Need-returns-5 (eval-bool-claims t) (eval-bool-at t) eval-bool.Post
 eval-bool-returns-5 t c =
     let k = compare-pair _ _ _ _ _ (c .before .before .before .before .before .before .before .before .before .before .before .before .pre .1 .0) (omega
-        arith) (c .before .before .before .before .if3 .taken) _ _ _ _ _ _ (c .before .before .before .eval-int .ensures .0) (c .before .before
-        .before .eval-int .ensures .1) (c .before .before .eval-int2 .ensures .0) (c .before .before .eval-int2 .ensures .1) in (c .bool-at5 .ensures
-        .0 ∙ c .before .compare .ensures ∙ k .0, c .bool-at5 .ensures .1 ∙ k .1)
+    arith) (c .before .before .before .before .if3 .taken) _ _ _ _ _ _ (c .before .before .before .eval-int .ensures .0) (c .before .before
+    .before .eval-int .ensures .1) (c .before .before .eval-int2 .ensures .0) (c .before .before .eval-int2 .ensures .1) in (
+      c .bool-at5 .ensures
+          .0 ∙ c .before .compare .ensures ∙ k .0,
+      c .bool-at5 .ensures .1 ∙ k .1,
+    )
 
 eval-bool-returns-6 : (t : ℕ) → eval-bool-lts.Need-returns-6 (eval-bool-claims t) (eval-bool-at t) eval-bool.Post
 eval-bool-returns-6 t c =
     let entry = c .before .before .before .before .before .before .before in
     absurd (⊎-elim (λ w. bool-unknown _ _ _ _ _ (entry .pre .1 .0) (inl (w .taken))) (λ w. bool-unknown _ _ _ _ _ (entry .pre .1 .0) (inr (w .2 .left)))
-        (c .before .if1 .came))
+    (c .before .if1 .came))
 
 pub +eval-bool-spec : {M : Type 1} → statement M
 +eval-bool-spec = close μ-eval-bool λ t. eval-bool-lts.spec (

@@ -83,13 +83,21 @@ eval-int-wide-requires-2 t c κs = tt
 
 eval-int-add-int-at-3 : (t : ℕ) → eval-int-lts.Need-add-int-at-3 (eval-int-claims t) (eval-int-at t) eval-int.Post
 eval-int-add-int-at-3 t c =
-    omega (arith, c .wide2 .ensures .0, int-status _ _ _ _ _ (c .before .before .before .before .before .before .before .pre .1 .0) (c .before .before
-        .match .keys3) .1)
+    omega (
+      arith,
+      c .wide2 .ensures .0,
+      int-status _ _ _ _ _ (c .before .before .before .before .before .before .before .pre .1 .0) (c .before .before
+          .match .keys3) .1,
+    )
 
 eval-int-mul-int-at-2 : (t : ℕ) → eval-int-lts.Need-mul-int-at-2 (eval-int-claims t) (eval-int-at t) eval-int.Post
 eval-int-mul-int-at-2 t c =
-    omega (arith, c .wide2 .ensures .0, int-status _ _ _ _ _ (c .before .before .before .before .before .before .before .pre .1 .0) (c .before .before
-        .match .keys3) .1)
+    omega (
+      arith,
+      c .wide2 .ensures .0,
+      int-status _ _ _ _ _ (c .before .before .before .before .before .before .before .pre .1 .0) (c .before .before
+          .match .keys3) .1,
+    )
 
 eval-int-shared-slice-read-int-at-2 : (t : ℕ) → eval-int-lts.Need-shared-slice-read-int-at-2 (eval-int-claims t) (eval-int-at t) eval-int.Post
 eval-int-shared-slice-read-int-at-2 t c =
@@ -108,9 +116,15 @@ eval-int-sub-eval-int : (t : ℕ) → eval-int-lts.Need-sub-eval-int (eval-int-c
 eval-int-sub-eval-int t c = omega (arith, int-live _ _ _ _ _ (c .before .before .before .before .before .before .before .pre .1 .0) .deep)
 
 eval-int-eval-int-requires : (t : ℕ) → eval-int-lts.Need-eval-int-requires (eval-int-claims t) (eval-int-at t) eval-int.Post
-eval-int-eval-int-requires t c κs =
-    (omega (arith, int-live _ _ _ _ _ (c .before .before .before .before .before .before .before .pre .1 .0) .deep), (int-first _ _ _ _ _ (c .before
-        .before .before .before .before .before .before .pre .1 .0) (omega arith) (c .if2 .taken), omega arith, omega arith))
+eval-int-eval-int-requires t c κs = (
+  omega (arith, int-live _ _ _ _ _ (c .before .before .before .before .before .before .before .pre .1 .0) .deep),
+  (
+    int-first _ _ _ _ _ (c .before
+        .before .before .before .before .before .before .pre .1 .0) (omega arith) (c .if2 .taken),
+    omega arith,
+    omega arith,
+  ),
+)
 
 eval-int-sub-eval-int-2 : (t : ℕ) → eval-int-lts.Need-sub-eval-int-2 (eval-int-claims t) (eval-int-at t) eval-int.Post
 eval-int-sub-eval-int-2 t c =
@@ -118,10 +132,15 @@ eval-int-sub-eval-int-2 t c =
     omega (arith, int-live _ _ _ _ _ (entry .pre .1 .0) .deep)
 
 eval-int-eval-int-requires-2 : (t : ℕ) → eval-int-lts.Need-eval-int-requires-2 (eval-int-claims t) (eval-int-at t) eval-int.Post
-eval-int-eval-int-requires-2 t c κs =
-    (omega (arith, int-live _ _ _ _ _ (c .before .before .before .before .before .before .before .before .pre .1 .0) .deep), (int-second _ _ _ _ _ (c
+eval-int-eval-int-requires-2 t c κs = (
+  omega (arith, int-live _ _ _ _ _ (c .before .before .before .before .before .before .before .before .pre .1 .0) .deep),
+  (
+    int-second _ _ _ _ _ (c
         .before .before .before .before .before .before .before .before .pre .1 .0) (omega arith) (c .before .if2 .taken) _ (c .eval-int .ensures .1),
-        omega arith, omega arith))
+    omega arith,
+    omega arith,
+  ),
+)
 
 eval-int-arithmetic-requires : (t : ℕ) → eval-int-lts.Need-arithmetic-requires (eval-int-claims t) (eval-int-at t) eval-int.Post
 eval-int-arithmetic-requires t c κs = tt
@@ -135,37 +154,49 @@ eval-int-int-at-requires-5 t c κs = tt
 eval-int-returns : (t : ℕ) → eval-int-lts.Need-returns (eval-int-claims t) (eval-int-at t) eval-int.Post
 unfolding evalInt
 eval-int-returns t c =
-    let k = int-constant _ _ _ _ _ (c .before .before .before .before .before .before .before .pre .1 .0) (c .before .before .match .keys1) in (c .int-at
-        .ensures .0 ∙ c .before .word .ensures .0 ∙ sym (ap (intValue _ _) (k .1)), c .int-at .ensures .1 ∙ sym (ap past (k .1)))
+    let k = int-constant _ _ _ _ _ (c .before .before .before .before .before .before .before .pre .1 .0) (c .before .before .match .keys1) in (
+      c .int-at
+          .ensures .0 ∙ c .before .word .ensures .0 ∙ sym (ap (intValue _ _) (k .1)),
+      c .int-at .ensures .1 ∙ sym (ap past (k .1)),
+    )
 
 eval-int-returns-2 : (t : ℕ) → eval-int-lts.Need-returns-2 (eval-int-claims t) (eval-int-at t) eval-int.Post
 unfolding evalInt
 eval-int-returns-2 t c =
     let entry = c .before .before .before .before .before .before .before .before .before in
-    let k = int-variable _ _ _ _ _ (entry .pre .1 .0) (c .before .before .before .before .match .keys2) in (c .int-at2 .ensures .0 ∙ ap (λ (v : ℕ). getD
-        (entry .args .slots .now) v 0) (c .before .before .wide .ensures .0) ∙ sym (ap (intValue _ _) (k .2)), c .int-at2 .ensures .1 ∙ sym (ap past
-        (k .2)))
+    let k = int-variable _ _ _ _ _ (entry .pre .1 .0) (c .before .before .before .before .match .keys2) in (
+      c .int-at2 .ensures .0 ∙ ap (λ (v : ℕ). getD
+          (entry .args .slots .now) v 0) (c .before .before .wide .ensures .0) ∙ sym (ap (intValue _ _) (k .2)),
+      c .int-at2 .ensures .1 ∙ sym (ap past
+          (k .2)),
+    )
 
 eval-int-returns-3 : (t : ℕ) → eval-int-lts.Need-returns-3 (eval-int-claims t) (eval-int-at t) eval-int.Post
 unfolding evalInt
 eval-int-returns-3 t c =
     let entry = c .before .before .before .before .before .before .before .before .before in
-    let k = int-status _ _ _ _ _ (entry .pre .1 .0) (c .before .before .before .before .match .keys3) in (c .int-at3 .ensures .0 ∙ ap (λ (v : ℕ). getD
-        (entry .args .slots .now) (entry .args .nv + v) 0) (c .before .before .wide2 .ensures .0) ∙ sym (ap (intValue _ _) (k .2)), c .int-at3
-        .ensures .1 ∙ sym (ap past (k .2)))
+    let k = int-status _ _ _ _ _ (entry .pre .1 .0) (c .before .before .before .before .match .keys3) in (
+      c .int-at3 .ensures .0 ∙ ap (λ (v : ℕ). getD
+          (entry .args .slots .now) (entry .args .nv + v) 0) (c .before .before .wide2 .ensures .0) ∙ sym (ap (intValue _ _) (k .2)),
+      c .int-at3
+          .ensures .1 ∙ sym (ap past (k .2)),
+    )
 
 eval-int-returns-4 : (t : ℕ) → eval-int-lts.Need-returns-4 (eval-int-claims t) (eval-int-at t) eval-int.Post
 eval-int-returns-4 t c =
     let k = int-pair _ _ _ _ _ (c .before .before .before .before .before .before .before .before .before .before .before .pre .1 .0) (omega arith) (c
-        .before .before .before .before .if2 .taken) _ _ _ _ _ _ (c .before .before .before .eval-int .ensures .0) (c .before .before .before
-        .eval-int .ensures .1) (c .before .before .eval-int2 .ensures .0) (c .before .before .eval-int2 .ensures .1) in (c .int-at4 .ensures .0 ∙ c
-        .before .arithmetic .ensures ∙ k .0, c .int-at4 .ensures .1 ∙ k .1)
+    .before .before .before .before .if2 .taken) _ _ _ _ _ _ (c .before .before .before .eval-int .ensures .0) (c .before .before .before
+    .eval-int .ensures .1) (c .before .before .eval-int2 .ensures .0) (c .before .before .eval-int2 .ensures .1) in (
+      c .int-at4 .ensures .0 ∙ c
+          .before .arithmetic .ensures ∙ k .0,
+      c .int-at4 .ensures .1 ∙ k .1,
+    )
 
 eval-int-returns-5 : (t : ℕ) → eval-int-lts.Need-returns-5 (eval-int-claims t) (eval-int-at t) eval-int.Post
 eval-int-returns-5 t c =
     let entry = c .before .before .before .before .before .before .before in
     absurd (⊎-elim (λ w. int-unknown _ _ _ _ _ (entry .pre .1 .0) (inl (w .taken))) (λ w. int-unknown _ _ _ _ _ (entry .pre .1 .0) (inr (w .1 .left))) (c
-        .before .if1 .came))
+    .before .if1 .came))
 
 pub +eval-int-spec : {M : Type 1} → statement M
 +eval-int-spec = close μ-eval-int λ t. eval-int-lts.spec (

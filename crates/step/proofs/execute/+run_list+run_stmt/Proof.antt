@@ -62,10 +62,21 @@ run-list-loop-holds : (t : ℕ) → run-list-lts.Need-loop-holds (run-list-claim
 run-list-loop-holds t c = going-start _ _ _ _ _ _ _ _ (c .wide .ensures .0) (c .before .before .before .before .before .pre .1 .0)
 
 run-list-run-stmt-requires : (t : ℕ) → run-list-lts.Need-run-stmt-requires (run-list-claims t) (run-list-at t) run-list.Post run-list-Inv-loop run-list-μ-loop
-run-list-run-stmt-requires t c κs =
-    (omega (arith, list-live _ _ _ _ _ (c .before .before .before .before .before .before .before .before .pre .1 .0), c .before .before .loop .inv .on,
-        stmt-live _ _ _ _ _ (seq-first _ _ _ _ _ _ (c .before .before .loop .inv .live) (c .before .loop-test .taken))), (seq-first _ _ _ _ _ _ (c
-        .before .before .loop .inv .live) (c .before .loop-test .taken), omega arith, omega arith, omega (arith, c .before .before .loop .inv .size)))
+run-list-run-stmt-requires t c κs = (
+  omega (
+    arith,
+    list-live _ _ _ _ _ (c .before .before .before .before .before .before .before .before .pre .1 .0),
+    c .before .before .loop .inv .on,
+    stmt-live _ _ _ _ _ (seq-first _ _ _ _ _ _ (c .before .before .loop .inv .live) (c .before .loop-test .taken)),
+  ),
+  (
+    seq-first _ _ _ _ _ _ (c
+        .before .before .loop .inv .live) (c .before .loop-test .taken),
+    omega arith,
+    omega arith,
+    omega (arith, c .before .before .loop .inv .size),
+  ),
+)
 
 run-list-sub-left : (t : ℕ) → run-list-lts.Need-sub-left (run-list-claims t) (run-list-at t) run-list.Post run-list-Inv-loop run-list-μ-loop
 run-list-sub-left t c = omega arith
@@ -76,7 +87,7 @@ run-list-loop-less t c = omega arith
 run-list-loop-again : (t : ℕ) → run-list-lts.Need-loop-again (run-list-claims t) (run-list-at t) run-list.Post run-list-Inv-loop run-list-μ-loop
 run-list-loop-again t c =
     going-on _ _ _ _ _ _ _ _ _ _ _ _ (c .before .before .before .before .loop-test .taken) (c .before .before .before .before .before .loop .inv) (c
-        .before .before .run-stmt .ensures)
+    .before .before .run-stmt .ensures)
 
 run-list-same-length : (t : ℕ) → run-list-lts.Need-same-length (run-list-claims t) (run-list-at t) run-list.Post run-list-Inv-loop run-list-μ-loop
 run-list-same-length t c = c .before .loop .inv .size
@@ -94,9 +105,13 @@ run-stmt-add-run-assign : (t : ℕ) → run-stmt-lts.Need-add-run-assign (run-st
 run-stmt-add-run-assign t c = omega (arith, stmt-live _ _ _ _ _ (c .before .before .before .before .before .before .before .pre .1 .0))
 
 run-stmt-run-assign-requires : (t : ℕ) → run-stmt-lts.Need-run-assign-requires (run-stmt-claims t) (run-stmt-at t) run-stmt.Post
-run-stmt-run-assign-requires t c κs =
-    (assign-live _ _ _ _ _ (c .before .before .before .before .before .before .before .before .pre .1 .0) (c .before .if3 .taken), omega arith, omega
-        arith, omega arith)
+run-stmt-run-assign-requires t c κs = (
+  assign-live _ _ _ _ _ (c .before .before .before .before .before .before .before .before .pre .1 .0) (c .before .if3 .taken),
+  omega arith,
+  omega
+      arith,
+  omega arith,
+)
 
 run-stmt-same-length : (t : ℕ) → run-stmt-lts.Need-same-length (run-stmt-claims t) (run-stmt-at t) run-stmt.Post
 run-stmt-same-length t c = omega (arith, c .before .slots .given)
@@ -119,14 +134,24 @@ run-stmt-sub-run-list t c =
     omega (arith, if-deep _ _ _ _ _ (entry .pre .1 .0) (c .before .before .before .if3 .left))
 
 run-stmt-run-list-requires : (t : ℕ) → run-stmt-lts.Need-run-list-requires (run-stmt-claims t) (run-stmt-at t) run-stmt.Post
-run-stmt-run-list-requires t c κs =
-    (omega (arith, stmt-live _ _ _ _ _ (c .before .before .before .before .before .before .before .before .before .before .before .pre .1 .0),
-        bool-forward _ _ _ _ _ (if-test _ _ _ _ _ (c .before .before .before .before .before .before .before .before .before .before .before .pre .1
-        .0) (c .before .before .before .before .if3 .left)) (c .before .before .eval-bool .ensures .1), list-live _ _ _ _ _ (if-then _ _ _ _ _ (c
+run-stmt-run-list-requires t c κs = (
+  omega (
+    arith,
+    stmt-live _ _ _ _ _ (c .before .before .before .before .before .before .before .before .before .before .before .pre .1 .0),
+    bool-forward _ _ _ _ _ (if-test _ _ _ _ _ (c .before .before .before .before .before .before .before .before .before .before .before .pre .1
+        .0) (c .before .before .before .before .if3 .left)) (c .before .before .eval-bool .ensures .1),
+    list-live _ _ _ _ _ (if-then _ _ _ _ _ (c
         .before .before .before .before .before .before .before .before .before .before .before .pre .1 .0) (c .before .before .before .before .if3
-        .left) _ (c .before .before .eval-bool .ensures .1))), (if-then _ _ _ _ _ (c .before .before .before .before .before .before .before .before
-        .before .before .before .pre .1 .0) (c .before .before .before .before .if3 .left) _ (c .before .before .eval-bool .ensures .1), omega arith,
-        omega arith, omega arith))
+        .left) _ (c .before .before .eval-bool .ensures .1)),
+  ),
+  (
+    if-then _ _ _ _ _ (c .before .before .before .before .before .before .before .before
+        .before .before .before .pre .1 .0) (c .before .before .before .before .if3 .left) _ (c .before .before .eval-bool .ensures .1),
+    omega arith,
+    omega arith,
+    omega arith,
+  ),
+)
 
 run-stmt-sub-skip-list : (t : ℕ) → run-stmt-lts.Need-sub-skip-list (run-stmt-claims t) (run-stmt-at t) run-stmt.Post
 run-stmt-sub-skip-list t c =
@@ -150,17 +175,28 @@ run-stmt-sub-run-list-2 t c =
     omega (arith, if-deep _ _ _ _ _ (entry .pre .1 .0) (c .before .before .before .before .if3 .left))
 
 run-stmt-run-list-requires-2 : (t : ℕ) → run-stmt-lts.Need-run-list-requires-2 (run-stmt-claims t) (run-stmt-at t) run-stmt.Post
-run-stmt-run-list-requires-2 t c κs =
-    (omega (arith, stmt-live _ _ _ _ _ (c .before .before .before .before .before .before .before .before .before .before .before .before .pre .1 .0),
-        bool-forward _ _ _ _ _ (if-test _ _ _ _ _ (c .before .before .before .before .before .before .before .before .before .before .before .before
-        .pre .1 .0) (c .before .before .before .before .before .if3 .left)) (c .before .before .before .eval-bool .ensures .1), list-forward _ _ _ _ _
+run-stmt-run-list-requires-2 t c κs = (
+  omega (
+    arith,
+    stmt-live _ _ _ _ _ (c .before .before .before .before .before .before .before .before .before .before .before .before .pre .1 .0),
+    bool-forward _ _ _ _ _ (if-test _ _ _ _ _ (c .before .before .before .before .before .before .before .before .before .before .before .before
+        .pre .1 .0) (c .before .before .before .before .before .if3 .left)) (c .before .before .before .eval-bool .ensures .1),
+    list-forward _ _ _ _ _
         _ (if-then _ _ _ _ _ (c .before .before .before .before .before .before .before .before .before .before .before .before .pre .1 .0) (c .before
-        .before .before .before .before .if3 .left) _ (c .before .before .before .eval-bool .ensures .1)) (c .before .skip-list2 .ensures), list-live
+        .before .before .before .before .if3 .left) _ (c .before .before .before .eval-bool .ensures .1)) (c .before .skip-list2 .ensures),
+    list-live
         _ _ _ _ _ (if-else _ _ _ _ _ (c .before .before .before .before .before .before .before .before .before .before .before .before .pre .1 .0) (c
-        .before .before .before .before .before .if3 .left) _ (c .before .before .before .eval-bool .ensures .1) _ (c .before .skip-list2 .ensures))),
-        (if-else _ _ _ _ _ (c .before .before .before .before .before .before .before .before .before .before .before .before .pre .1 .0) (c .before
-        .before .before .before .before .if3 .left) _ (c .before .before .before .eval-bool .ensures .1) _ (c .before .skip-list2 .ensures), omega
-        arith, omega arith, omega arith))
+        .before .before .before .before .before .if3 .left) _ (c .before .before .before .eval-bool .ensures .1) _ (c .before .skip-list2 .ensures)),
+  ),
+  (
+    if-else _ _ _ _ _ (c .before .before .before .before .before .before .before .before .before .before .before .before .pre .1 .0) (c .before
+        .before .before .before .before .if3 .left) _ (c .before .before .before .eval-bool .ensures .1) _ (c .before .skip-list2 .ensures),
+    omega
+        arith,
+    omega arith,
+    omega arith,
+  ),
+)
 
 run-stmt-same-length-2 : (t : ℕ) → run-stmt-lts.Need-same-length-2 (run-stmt-claims t) (run-stmt-at t) run-stmt.Post
 run-stmt-same-length-2 t c = omega (arith, c .before .before .slots2 .given)
@@ -171,7 +207,7 @@ run-stmt-returns-2 t c =
     let at-if3 = at-eval-bool .before .before in
     let entry = at-if3 .before .before .before .before .before .before .before in
     runs-then _ _ _ _ _ (entry .pre .1 .0) (at-if3 .if3 .left) _ (at-eval-bool .eval-bool .ensures .1) _ _ _ _ _ _ (at-eval-bool .eval-bool .ensures .0)
-        (c .before .before .before .before .before .if4 .taken) (c .before .before .before .run-list .ensures) (c .skip-list .ensures)
+    (c .before .before .before .before .before .if4 .taken) (c .before .before .before .run-list .ensures) (c .skip-list .ensures)
 
 run-stmt-same-length-3 : (t : ℕ) → run-stmt-lts.Need-same-length-3 (run-stmt-claims t) (run-stmt-at t) run-stmt.Post
 run-stmt-same-length-3 t c = omega (arith, c .before .slots3 .given)
@@ -182,8 +218,8 @@ run-stmt-returns-3 t c =
     let at-if3 = at-eval-bool .before .before in
     let entry = at-if3 .before .before .before .before .before .before .before in
     runs-else _ _ _ _ _ (entry .pre .1 .0) (at-if3 .if3 .left) _ (at-eval-bool .eval-bool .ensures .1) _ _ _ _ _ _ (at-eval-bool .eval-bool .ensures .0)
-        (c .before .before .before .before .before .if4 .left) (c .before .before .before .before .skip-list2 .ensures) (c .before .before .run-list2
-        .ensures)
+    (c .before .before .before .before .before .if4 .left) (c .before .before .before .before .skip-list2 .ensures) (c .before .before .run-list2
+    .ensures)
 
 run-stmt-returns-4 : (t : ℕ) → run-stmt-lts.Need-returns-4 (run-stmt-claims t) (run-stmt-at t) run-stmt.Post
 run-stmt-returns-4 t c = absurd (stmt-unknown _ _ _ _ _ (c .before .before .before .before .before .pre .1 .0) (inl (c .if1 .taken)))

@@ -24,10 +24,12 @@ add-eval-int : tie.Need-add-eval-int
 add-eval-int c = omega (arith, assign-inside _ _ _ _ (c .before .before .before .before .before .before .before .pre .0) .0)
 
 eval-int-requires : tie.Need-eval-int-requires
-eval-int-requires c κs =
-    (assign-int _ _ _ _ (c .before .before .before .before .before .before .before .before .pre .0) (sym (ap (λ (v : ℕ). getD (c .before .before .before
-        .before .before .before .before .before .args .file .now) (3 * v) 0) (c .before .before .before .wide .ensures .0)) ∙ c .before .if1 .taken),
-        omega arith, omega arith)
+eval-int-requires c κs = (
+  assign-int _ _ _ _ (c .before .before .before .before .before .before .before .before .pre .0) (sym (ap (λ (v : ℕ). getD (c .before .before .before
+      .before .before .before .before .before .args .file .now) (3 * v) 0) (c .before .before .before .wide .ensures .0)) ∙ c .before .if1 .taken),
+  omega arith,
+  omega arith,
+)
 
 mul-slots : tie.Need-mul-slots
 mul-slots c = search needs
@@ -41,10 +43,13 @@ add-eval-bool : tie.Need-add-eval-bool
 add-eval-bool c = omega (arith, assign-inside _ _ _ _ (c .before .before .before .before .before .before .before .pre .0) .0)
 
 eval-bool-requires : tie.Need-eval-bool-requires
-eval-bool-requires c κs =
-    (assign-bool _ _ _ _ (c .before .before .before .before .before .before .before .before .pre .0) (λ e. c .before .if1 .left (ap (λ (v : ℕ). getD (c
-        .before .before .before .before .before .before .before .before .args .file .now) (3 * v) 0) (c .before .before .before .wide .ensures .0) ∙
-        e)), omega arith, omega arith)
+eval-bool-requires c κs = (
+  assign-bool _ _ _ _ (c .before .before .before .before .before .before .before .before .pre .0) (λ e. c .before .if1 .left (ap (λ (v : ℕ). getD (c
+      .before .before .before .before .before .before .before .before .args .file .now) (3 * v) 0) (c .before .before .before .wide .ensures .0) ∙
+      e)),
+  omega arith,
+  omega arith,
+)
 
 bit-of-requires : tie.Need-bit-of-requires
 bit-of-requires c κs = search needs
@@ -65,7 +70,7 @@ returns c =
     let at-wide = c .before .before .before .before in
     let entry = at-wide .before .before .before .before .before in
     runs-int _ _ _ _ (entry .pre .0) (sym (ap (λ (v : ℕ). getD (entry .args .file .now) (3 * v) 0) (at-wide .wide .ensures .0)) ∙ c .before .before .if1
-        .taken) _ _ _ _ _ (at-wide .wide .ensures .0) (c .eval-int .ensures .0) (c .eval-int .ensures .1)
+    .taken) _ _ _ _ _ (at-wide .wide .ensures .0) (c .eval-int .ensures .0) (c .eval-int .ensures .1)
 
 same-length-2 : tie.Need-same-length-2
 same-length-2 c = search needs
@@ -75,8 +80,8 @@ returns-2 c =
     let at-wide = c .before .before .before .before .before in
     let entry = at-wide .before .before .before .before .before in
     runs-bool _ _ _ _ (entry .pre .0) (λ e. c .before .before .before .if1 .left (ap (λ (v : ℕ). getD (entry .args .file .now) (3 * v) 0) (at-wide .wide
-        .ensures .0) ∙ e)) _ _ _ _ _ _ (at-wide .wide .ensures .0) (c .before .eval-bool .ensures .0) (c .bit-of .ensures) (c .before .eval-bool
-        .ensures .1)
+    .ensures .0) ∙ e)) _ _ _ _ _ _ (at-wide .wide .ensures .0) (c .before .eval-bool .ensures .0) (c .bit-of .ensures) (c .before .eval-bool
+    .ensures .1)
 
 pub run-assign-spec : {M : Type 1} → statement M
 run-assign-spec =

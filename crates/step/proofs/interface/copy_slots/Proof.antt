@@ -45,7 +45,7 @@ same-length c = copying-size _ _ _ _ _ (omega arith) (omega arith) (c .before .l
 returns : tie.Need-returns Inv-loop μ-loop
 returns c =
     c .before .loop .inv .1 .same ∙ ap (paste (c .before .before .args .slots .now) (c .before .before .args .at) (c .before .before .args .from .now))
-        (let z : c .before .loop .i ≡ c .before .before .args .n = omega arith in z)
+    (let z : c .before .loop .i ≡ c .before .before .args .n = omega arith in z)
 
 pub copy-slots-spec : {M : Type 1} → statement M
 copy-slots-spec =

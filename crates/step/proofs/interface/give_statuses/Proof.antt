@@ -41,15 +41,20 @@ loop-less : tie.Need-loop-less Inv-loop μ-loop
 loop-less c = omega arith
 
 loop-again : tie.Need-loop-again Inv-loop μ-loop
-loop-again c =
-    (omega arith, copying-from 8 (c .before .before .before .args .n) (c .before .before .before .args .slots .now) (c .before .before .loop .i) (c
-        .before .before .loop .out) _ (omega arith) (omega arith) refl (c .before .before .loop .inv .1))
+loop-again c = (
+  omega arith,
+  copying-from 8 (c .before .before .before .args .n) (c .before .before .before .args .slots .now) (c .before .before .loop .i) (c
+      .before .before .loop .out) _ (omega arith) (omega arith) refl (c .before .before .loop .inv .1),
+)
 
 returns : tie.Need-returns Inv-loop μ-loop
 returns c =
-    copied-rest 8 0 _ (drop (c .before .before .args .n) (c .before .before .args .slots .now)) _ (omega (arith, rest-length (c .before .before .args .n)
-        (c .before .before .args .slots .now))) (omega arith) (c .before .loop .inv .1) ∙ ap (λ (k : ℕ). drop (c .before .before .args .n) (c .before
-        .before .args .slots .now) ++ replicate (8 - k) 0) (rest-length (c .before .before .args .n) (c .before .before .args .slots .now))
+    copied-rest 8 0 _ (drop (c .before .before .args .n) (c .before .before .args .slots .now)) _ (omega (
+      arith,
+      rest-length (c .before .before .args .n)
+          (c .before .before .args .slots .now),
+    )) (omega arith) (c .before .loop .inv .1) ∙ ap (λ (k : ℕ). drop (c .before .before .args .n) (c .before
+    .before .args .slots .now) ++ replicate (8 - k) 0) (rest-length (c .before .before .args .n) (c .before .before .args .slots .now))
 
 pub give-statuses-spec : {M : Type 1} → statement M
 give-statuses-spec =

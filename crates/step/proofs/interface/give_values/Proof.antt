@@ -41,16 +41,21 @@ loop-less : tie.Need-loop-less Inv-loop μ-loop
 loop-less c = omega arith
 
 loop-again : tie.Need-loop-again Inv-loop μ-loop
-loop-again c =
-    (omega arith, copying-mapped 32 signed (pos 0) 0 (c .before .before .before .before .before .args .slots .now) (c .before .before .before .loop .i) (c
-        .before .before .before .loop .out) _ (omega arith) (omega arith) (stored _ _ (omega (arith, c .before .shared-slice-known2 .given (c .before
-        .before .before .loop .i))) (c .integer .ensures)) (c .before .before .before .loop .inv .1))
+loop-again c = (
+  omega arith,
+  copying-mapped 32 signed (pos 0) 0 (c .before .before .before .before .before .args .slots .now) (c .before .before .before .loop .i) (c
+      .before .before .before .loop .out) _ (omega arith) (omega arith) (stored _ _ (omega (
+        arith,
+        c .before .shared-slice-known2 .given (c .before
+            .before .before .loop .i),
+      )) (c .integer .ensures)) (c .before .before .before .loop .inv .1),
+)
 
 returns : tie.Need-returns Inv-loop μ-loop
 returns c =
     copied 32 _ (pos 0) (map signed (c .before .before .before .args .slots .now)) _ (omega arith) (c .before .loop .inv .1) ∙ ap (λ (k : ℕ). take k (map
-        signed (c .before .before .before .args .slots .now)) ++ replicate (32 - k) (pos 0)) (let z : c .before .loop .i ≡ c .before .before .before
-        .args .n = omega arith in z)
+    signed (c .before .before .before .args .slots .now)) ++ replicate (32 - k) (pos 0)) (let z : c .before .loop .i ≡ c .before .before .before
+    .args .n = omega arith in z)
 
 pub give-values-spec : {M : Type 1} → statement M
 give-values-spec =

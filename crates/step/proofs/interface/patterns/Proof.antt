@@ -41,15 +41,19 @@ loop-less : tie.Need-loop-less Inv-loop μ-loop
 loop-less c = omega arith
 
 loop-again : tie.Need-loop-again Inv-loop μ-loop
-loop-again c =
-    (omega arith, copying-mapped 32 wrap 0 (pos 0) (c .before .before .before .before .args .t1) (c .before .before .before .loop .i) (c .before .before
-        .before .loop .out) _ (omega arith) (omega (arith, c .before .before .before .before .good .0 .1 .0 .1)) (loaded _ (record { sfits = c .before
-        .pattern-arg .given }) _ (c .pattern .ensures)) (c .before .before .before .loop .inv .1))
+loop-again c = (
+  omega arith,
+  copying-mapped 32 wrap 0 (pos 0) (c .before .before .before .before .args .t1) (c .before .before .before .loop .i) (c .before .before
+      .before .loop .out) _ (omega arith) (omega (arith, c .before .before .before .before .good .0 .1 .0 .1)) (loaded _ (record {
+        sfits = c .before
+            .pattern-arg .given;
+      }) _ (c .pattern .ensures)) (c .before .before .before .loop .inv .1),
+)
 
 returns : tie.Need-returns Inv-loop μ-loop
 returns c =
     copied-all 32 _ 0 (map wrap (c .before .before .args .t1)) _ (omega arith) (length-map (c .before .before .args .t1) wrap ∙ c .before .before .good .0
-        .1 .0 .1) (c .before .loop .inv .1)
+    .1 .0 .1) (c .before .loop .inv .1)
 
 pub patterns-spec : {M : Type 1} → statement M
 patterns-spec =

@@ -20,9 +20,11 @@ trailer-word-requires : tie.Need-trailer-word-requires Inv-loop μ-loop
 trailer-word-requires c κs = omega (arith, read _ (c .before .pre .0) .all .long)
 
 loop-holds : tie.Need-loop-holds Inv-loop μ-loop
-loop-holds c =
-    (c .trailer-word .ensures .0, statuses-start _ _ _ (c .trailer-word .ensures .0) (c .before .before .pre .1) (c .before .before .args .t3) (c .before
-        .before .good .1 .1 .0 .1 .0 .1))
+loop-holds c = (
+  c .trailer-word .ensures .0,
+  statuses-start _ _ _ (c .trailer-word .ensures .0) (c .before .before .pre .1) (c .before .before .args .t3) (c .before
+      .before .good .1 .1 .0 .1 .0 .1),
+)
 
 mul-status-right : tie.Need-mul-status-right Inv-loop μ-loop
 mul-status-right c = omega arith
@@ -32,16 +34,22 @@ array-read-status-right c = omega arith
 
 status-right-requires : tie.Need-status-right-requires Inv-loop μ-loop
 status-right-requires c κs =
-    let entry = c .before .before .before .before in
-    (omega (arith, matrices-inside _ (entry .pre .0), c .before .loop .inv .0, entry .pre .1, read _ (entry .pre .0) .all .long), omega (arith, entry .pre
-        .1, read _ (entry .pre .0) .all .matrices))
+    let entry = c .before .before .before .before in (
+      omega (arith, matrices-inside _ (entry .pre .0), c .before .loop .inv .0, entry .pre .1, read _ (entry .pre .0) .all .long),
+      omega (
+        arith,
+        entry .pre
+            .1,
+        read _ (entry .pre .0) .all .matrices,
+      ),
+    )
 
 returns : tie.Need-returns Inv-loop μ-loop
 returns c =
     let at-loop = c .before .before .before in
     let entry = at-loop .before .before .before in
     statuses-wrong _ _ _ (at-loop .loop .inv .0) (entry .pre .1) (entry .args .t3) (entry .good .1 .1 .0 .1 .0 .1) _ (at-loop .loop .inv .1) (c .before
-        .before .loop-test .taken) _ (c .before .status-right .ensures) (not-true _ (c .if1 .taken))
+    .before .loop-test .taken) _ (c .before .status-right .ensures) (not-true _ (c .if1 .taken))
 
 add-m : tie.Need-add-m Inv-loop μ-loop
 add-m c = omega arith
@@ -52,15 +60,17 @@ loop-less c = omega arith
 loop-again : tie.Need-loop-again Inv-loop μ-loop
 loop-again c =
     let at-loop = c .before .before .before in
-    let entry = at-loop .before .before .before in
-    (at-loop .loop .inv .0, statuses-right _ _ _ (at-loop .loop .inv .0) (entry .pre .1) (entry .args .t3) (entry .good .1 .1 .0 .1 .0 .1) _ (at-loop
-        .loop .inv .1) (c .before .before .loop-test .taken) _ (c .before .status-right .ensures) (not-false _ (c .if1 .left)))
+    let entry = at-loop .before .before .before in (
+      at-loop .loop .inv .0,
+      statuses-right _ _ _ (at-loop .loop .inv .0) (entry .pre .1) (entry .args .t3) (entry .good .1 .1 .0 .1 .0 .1) _ (at-loop
+          .loop .inv .1) (c .before .before .loop-test .taken) _ (c .before .status-right .ensures) (not-false _ (c .if1 .left)),
+    )
 
 returns-2 : tie.Need-returns-2 Inv-loop μ-loop
 returns-2 c =
     let entry = c .before .before .before .before in
     statuses-end _ _ _ (c .before .loop .inv .0) (entry .pre .1) (entry .args .t3) (entry .good .1 .1 .0 .1 .0 .1) _ (c .loop-test .left) (c .before .loop
-        .inv .1)
+    .inv .1)
 
 pub wrong-status-spec : {M : Type 1} → statement M
 wrong-status-spec =

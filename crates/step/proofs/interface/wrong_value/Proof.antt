@@ -26,15 +26,21 @@ array-read-value-right c = omega arith
 
 value-right-requires : tie.Need-value-right-requires Inv-loop μ-loop
 value-right-requires c κs =
-    let entry = c .before .before .before in
-    (omega (arith, variables-inside _ (entry .pre .0), entry .pre .1, read _ (entry .pre .0) .all .long), omega (arith, entry .pre .1, read _ (entry .pre
-        .0) .all .variables))
+    let entry = c .before .before .before in (
+      omega (arith, variables-inside _ (entry .pre .0), entry .pre .1, read _ (entry .pre .0) .all .long),
+      omega (
+        arith,
+        entry .pre .1,
+        read _ (entry .pre
+            .0) .all .variables,
+      ),
+    )
 
 returns : tie.Need-returns Inv-loop μ-loop
 returns c =
     let entry = c .before .before .before .before .before in
     values-wrong _ _ (entry .pre .1) (entry .args .t3) (entry .good .1 .1 .0 .1 .0 .1) _ (c .before .before .before .loop .inv) (c .before .before
-        .loop-test .taken) _ (c .before .value-right .ensures) (not-true _ (c .if1 .taken))
+    .loop-test .taken) _ (c .before .value-right .ensures) (not-true _ (c .if1 .taken))
 
 add-i : tie.Need-add-i Inv-loop μ-loop
 add-i c = omega arith
@@ -46,7 +52,7 @@ loop-again : tie.Need-loop-again Inv-loop μ-loop
 loop-again c =
     let entry = c .before .before .before .before .before in
     values-right _ _ (entry .pre .1) (entry .args .t3) (entry .good .1 .1 .0 .1 .0 .1) _ (c .before .before .before .loop .inv) (c .before .before
-        .loop-test .taken) _ (c .before .value-right .ensures) (not-false _ (c .if1 .left))
+    .loop-test .taken) _ (c .before .value-right .ensures) (not-false _ (c .if1 .left))
 
 returns-2 : tie.Need-returns-2 Inv-loop μ-loop
 returns-2 c =

@@ -22,9 +22,11 @@ shared-slice-read-if1 : tie.Need-shared-slice-read-if1 Inv-loop μ-loop
 shared-slice-read-if1 c = omega arith
 
 returns : tie.Need-returns Inv-loop μ-loop
-returns c =
-    (finding-here _ _ _ _ _ (c .before .before .before .loop-test .taken) (c .before .if1 .taken) (c .if2 .taken) (c .before .before .before .before .loop
-        .inv), omega arith)
+returns c = (
+  finding-here _ _ _ _ _ (c .before .before .before .loop-test .taken) (c .before .if1 .taken) (c .if2 .taken) (c .before .before .before .before .loop
+      .inv),
+  omega arith,
+)
 
 sub-left : tie.Need-sub-left Inv-loop μ-loop
 sub-left c = omega arith
@@ -39,8 +41,8 @@ loop-again : tie.Need-loop-again Inv-loop μ-loop
 loop-again c =
     let at-loop = c .before .before .before in
     ⊎-elim (λ w. subst (Finding _ _ _ _) (sym (w .2)) (finding-yes _ _ _ _ _ (c .before .before .loop-test .taken) (w .0 .taken) (w .1 .left) (at-loop
-        .loop .inv))) (λ w. subst (Finding _ _ _ _) (sym (w .1)) (finding-no _ _ _ _ _ (c .before .before .loop-test .taken) (w .0 .left) (at-loop
-        .loop .inv))) (c .if1 .came)
+    .loop .inv))) (λ w. subst (Finding _ _ _ _) (sym (w .1)) (finding-no _ _ _ _ _ (c .before .before .loop-test .taken) (w .0 .left) (at-loop
+    .loop .inv))) (c .if1 .came)
 
 returns-2 : tie.Need-returns-2 Inv-loop μ-loop
 returns-2 c = absurd (finding-end _ _ _ _ _ (c .loop-test .left) (c .before .loop .inv))

@@ -33,7 +33,7 @@ loop-again : tie.Need-loop-again Inv-loop μ-loop
 loop-again c =
     let at-loop = c .before .before .before in
     ⊎-elim (λ w. counting-yes _ _ _ _ _ (c .before .before .loop-test .taken) (w .0 .taken) (w .1) (at-loop .loop .inv)) (λ w. counting-no _ _ _ _ _ (c
-        .before .before .loop-test .taken) (w .0 .left) (w .1) (at-loop .loop .inv)) (c .if1 .came)
+    .before .before .loop-test .taken) (w .0 .left) (w .1) (at-loop .loop .inv)) (c .if1 .came)
 
 returns : tie.Need-returns Inv-loop μ-loop
 returns c = counting-end _ _ _ _ (c .loop-test .left) (c .before .loop .inv)

@@ -28,14 +28,21 @@ add-eval-bool-3 c = search needs
 
 eval-bool-requires : tie.Need-eval-bool-requires
 eval-bool-requires c κs =
-    let entry = c .before .before .before .before .before in
-    (guard-reads _ _ _ _ _ (entry .pre .0) _ (entry .pre .1) _ (c .before .wide .ensures .0) (c .if1 .left), omega (arith, c .before .wide .ensures .0,
-        normal-fields _ _ _ _ _ (entry .pre .0) _ (entry .pre .1) .past, sizes _ _ _ _ _ (entry .pre .0)), omega (arith, entry .pre .0 .size))
+    let entry = c .before .before .before .before .before in (
+      guard-reads _ _ _ _ _ (entry .pre .0) _ (entry .pre .1) _ (c .before .wide .ensures .0) (c .if1 .left),
+      omega (
+        arith,
+        c .before .wide .ensures .0,
+        normal-fields _ _ _ _ _ (entry .pre .0) _ (entry .pre .1) .past,
+        sizes _ _ _ _ _ (entry .pre .0),
+      ),
+      omega (arith, entry .pre .0 .size),
+    )
 
 returns-2 : tie.Need-returns-2
 returns-2 c =
     λ x. guard-value _ _ _ _ _ (c .before .before .before .before .before .before .pre .0) _ x _ (c .before .before .wide .ensures .0) (c .before .if1
-        .left) _ (c .eval-bool .ensures .0)
+    .left) _ (c .eval-bool .ensures .0)
 
 pub guard-true-spec : {M : Type 1} → statement M
 guard-true-spec =

@@ -32,7 +32,7 @@ returns : tie.Need-returns
 returns c =
     let entry = c .before .before .before .before .before .before .before .before in
     λ d e. step-cell _ _ (entry .pre .0 .variables) _ _ _ d e _ _ (entry .pre .1) _ (c .before .before .before .before .before .if1 .taken) (c .before
-        .before .move-cell .ensures)
+    .before .move-cell .ensures)
 
 external-requires : tie.Need-external-requires
 external-requires c κs = (kinds _ _ _ _ _ (c .before .before .before .pre .0), omega arith)
@@ -46,8 +46,8 @@ same-length-2 c = search needs
 returns-2 : tie.Need-returns-2
 returns-2 c =
     λ d e. step-external _ _ (c .before .before .before .before .before .before .before .before .pre .0 .variables) _ _ _ d e _ _ (c .before .before
-        .before .before .before .before .before .before .pre .1) _ _ (c .before .before .before .before .before .if1 .left) (omega arith) (c .before
-        .before .before .before .external .ensures .0) (c .before .before .move-external .ensures)
+    .before .before .before .before .before .before .pre .1) _ _ (c .before .before .before .before .before .if1 .left) (omega arith) (c .before
+    .before .before .before .external .ensures .0) (c .before .before .move-external .ensures)
 
 pub move-chosen-spec : {M : Type 1} → statement M
 move-chosen-spec =

@@ -13,9 +13,15 @@ trailer-word-requires c κs = omega (arith, sizes _ _ _ _ _ (c .before .before .
 
 eval-bool-requires : tie.Need-eval-bool-requires
 eval-bool-requires c κs =
-    let entry = c .before .before .before in
-    (invariant-reads _ _ _ _ _ (entry .pre) _ _ (c .trailer-word .ensures .0) refl, omega (arith, sizes _ _ _ _ _ (entry .pre)), omega (arith, entry .pre
-        .size))
+    let entry = c .before .before .before in (
+      invariant-reads _ _ _ _ _ (entry .pre) _ _ (c .trailer-word .ensures .0) refl,
+      omega (arith, sizes _ _ _ _ _ (entry .pre)),
+      omega (
+        arith,
+        entry .pre
+            .size,
+      ),
+    )
 
 returns : tie.Need-returns
 returns c =

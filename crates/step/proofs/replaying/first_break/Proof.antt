@@ -29,7 +29,7 @@ same-length c = c .before .before .before .before .before .loop .inv .size
 returns : tie.Need-returns Inv-loop μ-loop
 returns c =
     λ d e. c .broken-at .ensures ∙ ap breaksAnswer (replaying-broken _ _ _ _ _ _ (c .before .before .before .before .before .loop .inv) _ (c .before
-        .before .property-true .ensures) (not-true _ (c .before .if1 .taken)) d e)
+    .before .property-true .ensures) (not-true _ (c .before .if1 .taken)) d e)
 
 shared-slice-read-wide : tie.Need-shared-slice-read-wide Inv-loop μ-loop
 shared-slice-read-wide c = omega arith
@@ -40,9 +40,16 @@ wide-requires c κs = tt
 move-chosen-requires : tie.Need-move-chosen-requires Inv-loop μ-loop
 move-chosen-requires c κs =
     let at-loop = c .before .before .before .before .before .before .before in
-    let entry = at-loop .before .before .before .before in
-    (ready-same _ _ _ _ _ _ (at-loop .loop .inv .size) (entry .pre .0), entry .pre .1, omega (arith, c .before .wide .ensures .0, entry .pre .3 (at-loop
-        .loop .i) (c .before .before .before .before .before .before .loop-test .taken)))
+    let entry = at-loop .before .before .before .before in (
+      ready-same _ _ _ _ _ _ (at-loop .loop .inv .size) (entry .pre .0),
+      entry .pre .1,
+      omega (
+        arith,
+        c .before .wide .ensures .0,
+        entry .pre .3 (at-loop
+            .loop .i) (c .before .before .before .before .before .before .loop-test .taken),
+      ),
+    )
 
 add-i : tie.Need-add-i Inv-loop μ-loop
 add-i c = omega arith
@@ -55,8 +62,8 @@ loop-again c =
     let at-loop-test = c .before .before .before .before .before .before .before .before .before in
     let at-loop = at-loop-test .before in
     replaying-on _ _ _ _ _ _ (at-loop .loop .inv) _ (c .before .before .before .before .before .before .before .property-true .ensures) (not-false _ (c
-        .before .before .before .before .before .before .if1 .left)) (at-loop-test .loop-test .taken) _ (c .before .before .before .before .wide
-        .ensures .0) _ _ _ (omega (arith, c .before .slots .given)) (c .before .before .move-chosen .ensures)
+    .before .before .before .before .before .before .if1 .left)) (at-loop-test .loop-test .taken) _ (c .before .before .before .before .wide
+    .ensures .0) _ _ _ (omega (arith, c .before .slots .given)) (c .before .before .move-chosen .ensures)
 
 property-true-requires-2 : tie.Need-property-true-requires-2 Inv-loop μ-loop
 property-true-requires-2 c κs =
@@ -71,7 +78,7 @@ same-length-2 c = c .before .before .before .before .before .loop .inv .size
 returns-2 : tie.Need-returns-2 Inv-loop μ-loop
 returns-2 c =
     λ d e. c .never .ensures ∙ ap breaksAnswer (replaying-never _ _ _ _ _ _ (c .before .before .before .before .before .loop .inv) _ (c .before .before
-        .property-true2 .ensures) (c .before .if2 .taken) (c .before .before .before .before .loop-test .left) d e)
+    .property-true2 .ensures) (c .before .if2 .taken) (c .before .before .before .before .loop-test .left) d e)
 
 broken-at-requires-2 : tie.Need-broken-at-requires-2 Inv-loop μ-loop
 broken-at-requires-2 c κs = tt
@@ -82,7 +89,7 @@ same-length-3 c = c .before .before .before .before .before .loop .inv .size
 returns-3 : tie.Need-returns-3 Inv-loop μ-loop
 returns-3 c =
     λ d e. c .broken-at2 .ensures ∙ ap breaksAnswer (replaying-broken _ _ _ _ _ _ (c .before .before .before .before .before .loop .inv) _ (c .before
-        .before .property-true2 .ensures) (c .before .if2 .left) d e)
+    .before .property-true2 .ensures) (c .before .if2 .left) d e)
 
 pub first-break-spec : {M : Type 1} → statement M
 first-break-spec =

@@ -24,7 +24,7 @@ returns : tie.Need-returns Inv-loop μ-loop
 returns c =
     let entry = c .before .before .before .before .before .before in
     choice-over (entry .args .choices .now) (entry .args .w) _ _ (c .before .before .before .before .loop .inv) (c .before .before .before .loop-test
-        .taken) (c .before .wide .ensures .0) (c .if1 .taken)
+    .taken) (c .before .wide .ensures .0) (c .if1 .taken)
 
 add-i : tie.Need-add-i Inv-loop μ-loop
 add-i c = omega arith
@@ -36,7 +36,7 @@ loop-again : tie.Need-loop-again Inv-loop μ-loop
 loop-again c =
     let entry = c .before .before .before .before .before .before in
     choice-below (entry .args .choices .now) (entry .args .w) _ _ (c .before .before .before .before .loop .inv) (c .before .before .before .loop-test
-        .taken) (c .before .wide .ensures .0) (c .if1 .left)
+    .taken) (c .before .wide .ensures .0) (c .if1 .left)
 
 returns-2 : tie.Need-returns-2 Inv-loop μ-loop
 returns-2 c =

@@ -53,7 +53,7 @@ loop-again : tie.Need-loop-again Inv-loop μ-loop
 loop-again c =
     let entry = c .before .before .before .before .before in
     loading-on _ (entry .pre .0) _ _ (entry .pre .1) (entry .pre .2) _ _ _ (c .before .loop-test .taken) (c .word .ensures .0) (c .before .before .loop
-        .inv)
+    .inv)
 
 same-length : tie.Need-same-length Inv-loop μ-loop
 same-length c = c .before .loop .inv .size ∙ sym (ap length (c .before .before .before .before .pre .3) ∙ length-replicate _ _)

@@ -22,7 +22,7 @@ returns : tie.Need-returns
 returns c =
     let entry = c .before .before .before .before .before .before .before .before .before .before .before in
     λ d e. c .before .before .first-break .ensures d e ∙ ap (λ (s : State). breaksAnswer (firstBreak d (entry .args .property) s (entry .args .choices
-        .now) 0)) (c .before .before .before .before .before .before .load-start .ensures d e)
+    .now) 0)) (c .before .before .before .before .before .before .load-start .ensures d e)
 
 pub replay-slots-spec : {M : Type 1} → statement M
 replay-slots-spec =

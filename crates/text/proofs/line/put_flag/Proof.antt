@@ -24,10 +24,16 @@ same-length c = search needs
 returns : tie.Need-returns
 returns c =
     let at-put-byte = c .before .before .before .before .before .before .before in
-    let entry = at-put-byte .before .before .before in
-    (flag-written (entry .args .flag) 49 (sym (ap (λ (b : Bool). 48 + bit b) (c .before .before .before .before .if1 .taken))) (at-put-byte .put-byte
-        .ensures) (c .before .before .put-byte2 .ensures), omega (arith, at-put-byte .put-byte .ensures .past, c .before .before .put-byte2 .ensures
-        .past))
+    let entry = at-put-byte .before .before .before in (
+      flag-written (entry .args .flag) 49 (sym (ap (λ (b : Bool). 48 + bit b) (c .before .before .before .before .if1 .taken))) (at-put-byte .put-byte
+          .ensures) (c .before .before .put-byte2 .ensures),
+      omega (
+        arith,
+        at-put-byte .put-byte .ensures .past,
+        c .before .before .put-byte2 .ensures
+            .past,
+      ),
+    )
 
 same-length-2 : tie.Need-same-length-2
 same-length-2 c = search needs
@@ -35,10 +41,16 @@ same-length-2 c = search needs
 returns-2 : tie.Need-returns-2
 returns-2 c =
     let at-put-byte = c .before .before .before .before .before .before .before in
-    let entry = at-put-byte .before .before .before in
-    (flag-written (entry .args .flag) 48 (sym (ap (λ (b : Bool). 48 + bit b) (c .before .before .before .before .if1 .left))) (at-put-byte .put-byte
-        .ensures) (c .before .before .put-byte3 .ensures), omega (arith, at-put-byte .put-byte .ensures .past, c .before .before .put-byte3 .ensures
-        .past))
+    let entry = at-put-byte .before .before .before in (
+      flag-written (entry .args .flag) 48 (sym (ap (λ (b : Bool). 48 + bit b) (c .before .before .before .before .if1 .left))) (at-put-byte .put-byte
+          .ensures) (c .before .before .put-byte3 .ensures),
+      omega (
+        arith,
+        at-put-byte .put-byte .ensures .past,
+        c .before .before .put-byte3 .ensures
+            .past,
+      ),
+    )
 
 pub put-flag-spec : {M : Type 1} → statement M
 put-flag-spec =

@@ -30,11 +30,20 @@ returns c =
     let at-put-flag = c .before .before .before .before .before .before in
     let at-put-mover = at-put-flag .before .before .before .before in
     let at-put-byte = at-put-mover .before .before .before .before in
-    let at-put-decimal = at-put-byte .before .before .before .before in
-    (written-then (at-put-decimal .put-decimal .ensures .0) (written-then (at-put-byte .put-byte .ensures) (written-then (at-put-mover .put-mover .ensures
-        .0) (written-then (at-put-flag .put-flag .ensures .0) (c .before .before .put-flag2 .ensures .0)))), omega (arith, at-put-decimal .put-decimal
-        .ensures .1, at-put-byte .put-byte .ensures .past, at-put-mover .put-mover .ensures .1, at-put-flag .put-flag .ensures .1, c .before .before
-        .put-flag2 .ensures .1))
+    let at-put-decimal = at-put-byte .before .before .before .before in (
+      written-then (at-put-decimal .put-decimal .ensures .0) (written-then (at-put-byte .put-byte .ensures) (written-then (at-put-mover .put-mover .ensures
+          .0) (written-then (at-put-flag .put-flag .ensures .0) (c .before .before .put-flag2 .ensures .0)))),
+      omega (
+        arith,
+        at-put-decimal .put-decimal
+            .ensures .1,
+        at-put-byte .put-byte .ensures .past,
+        at-put-mover .put-mover .ensures .1,
+        at-put-flag .put-flag .ensures .1,
+        c .before .before
+            .put-flag2 .ensures .1,
+      ),
+    )
 
 pub put-head-spec : {M : Type 1} → statement M
 put-head-spec =

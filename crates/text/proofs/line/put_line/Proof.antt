@@ -34,11 +34,20 @@ returns c =
     let at-put-byte2 = at-put-statuses .before .before .before .before in
     let at-put-byte = at-put-byte2 .before .before .before .before in
     let at-put-values = at-put-byte .before .before .before .before in
-    let at-put-head = at-put-values .before .before .before .before in
-    (written-then (at-put-head .put-head .ensures .0) (written-then (at-put-values .put-values .ensures .0) (written-then (at-put-byte .put-byte .ensures)
-        (written-then (at-put-byte2 .put-byte2 .ensures) (written-then (at-put-statuses .put-statuses .ensures .0) (c .before .before .put-byte3
-        .ensures))))), omega (arith, at-put-head .put-head .ensures .1, at-put-values .put-values .ensures .1, at-put-byte .put-byte .ensures .past,
-        at-put-byte2 .put-byte2 .ensures .past, at-put-statuses .put-statuses .ensures .1, c .before .before .put-byte3 .ensures .past))
+    let at-put-head = at-put-values .before .before .before .before in (
+      written-then (at-put-head .put-head .ensures .0) (written-then (at-put-values .put-values .ensures .0) (written-then (at-put-byte .put-byte .ensures)
+          (written-then (at-put-byte2 .put-byte2 .ensures) (written-then (at-put-statuses .put-statuses .ensures .0) (c .before .before .put-byte3
+          .ensures))))),
+      omega (
+        arith,
+        at-put-head .put-head .ensures .1,
+        at-put-values .put-values .ensures .1,
+        at-put-byte .put-byte .ensures .past,
+        at-put-byte2 .put-byte2 .ensures .past,
+        at-put-statuses .put-statuses .ensures .1,
+        c .before .before .put-byte3 .ensures .past,
+      ),
+    )
 
 pub put-line-spec : {M : Type 1} → statement M
 put-line-spec =

@@ -15,17 +15,27 @@ same-length : tie.Need-same-length
 same-length c = search needs
 
 returns : tie.Need-returns
-returns c =
-    (mover-none _ _ (c .before .before .before .before .if1 .taken) (c .before .before .put-byte .ensures), omega (arith, c .before .before .put-byte
-        .ensures .past))
+returns c = (
+  mover-none _ _ (c .before .before .before .before .if1 .taken) (c .before .before .put-byte .ensures),
+  omega (
+    arith,
+    c .before .before .put-byte
+        .ensures .past,
+  ),
+)
 
 same-length-2 : tie.Need-same-length-2
 same-length-2 c = search needs
 
 returns-2 : tie.Need-returns-2
-returns-2 c =
-    (mover-some _ _ (c .before .before .before .before .if1 .left) (c .before .before .put-decimal .ensures .0), omega (arith, c .before .before
-        .put-decimal .ensures .1))
+returns-2 c = (
+  mover-some _ _ (c .before .before .before .before .if1 .left) (c .before .before .put-decimal .ensures .0),
+  omega (
+    arith,
+    c .before .before
+        .put-decimal .ensures .1,
+  ),
+)
 
 pub put-mover-spec : {M : Type 1} → statement M
 put-mover-spec =

@@ -42,8 +42,14 @@ put-decimal-requires : tie.Need-put-decimal-requires Inv-loop μ-loop
 put-decimal-requires c κs =
     let at-put-byte = c .before .before .before .before in
     let at-loop = at-put-byte .before .before .before in
-    omega (arith, at-loop .loop .inv .0 .near, at-loop .loop .inv .0 .rest .size, at-put-byte .put-byte .ensures .past, written-length (at-put-byte
-        .put-byte .ensures))
+    omega (
+      arith,
+      at-loop .loop .inv .0 .near,
+      at-loop .loop .inv .0 .rest .size,
+      at-put-byte .put-byte .ensures .past,
+      written-length (at-put-byte
+          .put-byte .ensures),
+    )
 
 add-i : tie.Need-add-i Inv-loop μ-loop
 add-i c = omega arith
@@ -52,20 +58,24 @@ loop-less : tie.Need-loop-less Inv-loop μ-loop
 loop-less c = omega arith
 
 loop-again : tie.Need-loop-again Inv-loop μ-loop
-loop-again c =
-    (statuses-next (c .before .before .before .before .before .before .before .before .before .before .before .before .before .args .n) (c .before .before
-        .before .before .before .before .before .before .before .before .before .before .before .args .slots .now) (c .before .before .before .before
-        .before .before .before .before .before .before .before .before .before .pre .0) _ (c .before .before .before .before .before .before .before
-        .before .before .loop-test .taken) (c .before .before .before .before .before .before .before .before .before .before .loop .inv .0) (c
-        .before .before .before .before .before .before .before .put-byte .ensures) (c .before .before .put-decimal .ensures .0), omega arith)
+loop-again c = (
+  statuses-next (c .before .before .before .before .before .before .before .before .before .before .before .before .before .args .n) (c .before .before
+      .before .before .before .before .before .before .before .before .before .before .before .args .slots .now) (c .before .before .before .before
+      .before .before .before .before .before .before .before .before .before .pre .0) _ (c .before .before .before .before .before .before .before
+      .before .before .loop-test .taken) (c .before .before .before .before .before .before .before .before .before .before .loop .inv .0) (c
+      .before .before .before .before .before .before .before .put-byte .ensures) (c .before .before .put-decimal .ensures .0),
+  omega arith,
+)
 
 same-length : tie.Need-same-length Inv-loop μ-loop
 same-length c = c .before .loop .inv .0 .rest .size
 
 returns : tie.Need-returns Inv-loop μ-loop
-returns c =
-    (statuses-end (c .before .before .before .before .args .n) (c .before .before .before .before .args .slots .now) (c .before .before .before .before
-        .pre .0) (c .before .loop .i) (omega arith) (c .before .loop .inv .0), omega (arith, c .before .loop .inv .0 .near))
+returns c = (
+  statuses-end (c .before .before .before .before .args .n) (c .before .before .before .before .args .slots .now) (c .before .before .before .before
+      .pre .0) (c .before .loop .i) (omega arith) (c .before .loop .inv .0),
+  omega (arith, c .before .loop .inv .0 .near),
+)
 
 pub put-statuses-spec : {M : Type 1} → statement M
 put-statuses-spec =

@@ -35,7 +35,7 @@ same-length c = search needs
 returns-2 : tie.Need-returns-2
 returns-2 c =
     text-joined (c .before .before .before .before .before .before .before .before .before .args .input .now) _ _ _ (omega arith) (c .before .before
-        .before .before .before .before .design-end .ensures .2) (c .before .printed-parts .ensures)
+    .before .before .before .before .design-end .ensures .2) (c .before .printed-parts .ensures)
 
 pub parts-of-spec : {M : Type 1} → statement M
 parts-of-spec =

@@ -32,7 +32,7 @@ same-length c = omega (arith, c .before .before .before .before .before .loop .i
 returns : tie.Need-returns Inv-loop μ-loop
 returns c =
     parts-refused _ _ _ _ _ (c .before .before .before .before .loop-test .taken) (omega (arith, c .before .before .before .before .before .loop .inv .1))
-        (sym (c .if1 .taken) ∙ c .before .before .refuses .ensures)
+    (sym (c .if1 .taken) ∙ c .before .before .refuses .ensures)
 
 add-i : tie.Need-add-i Inv-loop μ-loop
 add-i c = omega arith
@@ -42,9 +42,11 @@ loop-less c = omega arith
 
 loop-again : tie.Need-loop-again Inv-loop μ-loop
 loop-again c =
-    let at-loop = c .before .before .before .before .before in
-    (fine-on _ _ _ _ _ (at-loop .loop .inv .0) (c .before .before .before .before .loop-test .taken) (omega (arith, at-loop .loop .inv .1)) (sym (c .if1
-        .left) ∙ c .before .before .refuses .ensures), omega (arith, at-loop .loop .inv .1))
+    let at-loop = c .before .before .before .before .before in (
+      fine-on _ _ _ _ _ (at-loop .loop .inv .0) (c .before .before .before .before .loop-test .taken) (omega (arith, at-loop .loop .inv .1)) (sym (c .if1
+          .left) ∙ c .before .before .refuses .ensures),
+      omega (arith, at-loop .loop .inv .1),
+    )
 
 same-length-2 : tie.Need-same-length-2 Inv-loop μ-loop
 same-length-2 c = c .before .loop .inv .1

@@ -28,7 +28,7 @@ slice-aggregate-put-words c =
 put-words-requires : tie.Need-put-words-requires
 put-words-requires c κs =
     let t = is-encoded _ _ _ _ _ _ _ (c .before .before .before .before .before .before .encode .ensures) _ (c .before .before .before .count .given .1)
-        in omega (arith, t .room, t .size)
+    in omega (arith, t .room, t .size)
 
 same-length : tie.Need-same-length
 same-length c = search needs
@@ -39,9 +39,11 @@ same-length-2 c = search needs
 returns : tie.Need-returns
 returns c =
     let at-encode = c .before .before .before .before .before .before .before .before in
-    let entry = at-encode .before .before .before .before in
-    (part-refused _ _ _ _ _ _ _ (at-encode .encode .ensures) (entry .pre .0) _ _ (c .before .before .before .before .before .number .given .1) (c .before
-        .before .put-refusal .ensures .0), omega (arith, c .before .before .put-refusal .ensures .1))
+    let entry = at-encode .before .before .before .before in (
+      part-refused _ _ _ _ _ _ _ (at-encode .encode .ensures) (entry .pre .0) _ _ (c .before .before .before .before .before .number .given .1) (c .before
+          .before .put-refusal .ensures .0),
+      omega (arith, c .before .before .put-refusal .ensures .1),
+    )
 
 same-length-3 : tie.Need-same-length-3
 same-length-3 c = search needs
@@ -54,9 +56,17 @@ returns-2 c =
     let at-count = c .before .before .before .before .before .before in
     let at-encode = at-count .before .before .before in
     let entry = at-encode .before .before .before .before in
-    let t = is-encoded _ _ _ _ _ _ _ (at-encode .encode .ensures) _ (at-count .count .given .1) in (part-written _ _ _ _ _ _ _ (at-encode .encode
-        .ensures) (entry .pre .0) _ (at-count .count .given .1) (c .before .before .put-words .ensures .0), omega (arith, c .before .before .put-words
-        .ensures .1, t .room, t .size))
+    let t = is-encoded _ _ _ _ _ _ _ (at-encode .encode .ensures) _ (at-count .count .given .1) in (
+      part-written _ _ _ _ _ _ _ (at-encode .encode
+          .ensures) (entry .pre .0) _ (at-count .count .given .1) (c .before .before .put-words .ensures .0),
+      omega (
+        arith,
+        c .before .before .put-words
+            .ensures .1,
+        t .room,
+        t .size,
+      ),
+    )
 
 pub put-part-spec : {M : Type 1} → statement M
 put-part-spec =

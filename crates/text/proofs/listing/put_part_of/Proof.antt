@@ -13,9 +13,11 @@ same-length c = search needs
 
 returns : tie.Need-returns
 returns c =
-    let entry = c .before .before .before .before .before .before .before in
-    (input-refused (entry .args .input .now) (entry .args .part) (c .before .before .before .before .if1 .taken) (c .before .before .put-refusal .ensures
-        .0), omega (arith, c .before .before .put-refusal .ensures .1))
+    let entry = c .before .before .before .before .before .before .before in (
+      input-refused (entry .args .input .now) (entry .args .part) (c .before .before .before .before .if1 .taken) (c .before .before .put-refusal .ensures
+          .0),
+      omega (arith, c .before .before .put-refusal .ensures .1),
+    )
 
 design-end-requires : tie.Need-design-end-requires
 design-end-requires c κs = search needs
@@ -45,11 +47,13 @@ same-length-3 : tie.Need-same-length-3
 same-length-3 c = search needs
 
 returns-2 : tie.Need-returns-2
-returns-2 c =
-    (input-part (c .before .before .before .before .before .before .before .before .before .before .before .before .before .args .input .now) (c .before
-        .before .before .before .before .before .before .before .before .before .before .before .before .args .part) _ (omega arith) (c .before
-        .before .before .before .before .before .before .before .before .design-end .ensures .2) (c .before .before .before .put-part .ensures .0), c
-        .before .before .before .put-part .ensures .1)
+returns-2 c = (
+  input-part (c .before .before .before .before .before .before .before .before .before .before .before .before .before .args .input .now) (c .before
+      .before .before .before .before .before .before .before .before .before .before .before .before .args .part) _ (omega arith) (c .before
+      .before .before .before .before .before .before .before .before .design-end .ensures .2) (c .before .before .before .put-part .ensures .0),
+  c
+      .before .before .before .put-part .ensures .1,
+)
 
 pub put-part-of-spec : {M : Type 1} → statement M
 put-part-of-spec =

@@ -23,10 +23,15 @@ same-length c = search needs
 returns : tie.Need-returns
 returns c =
     let at-put-signed = c .before .before .before .before .before .before .before .before in
-    let entry = at-put-signed .before .before .before in
-    (word-ends (getD (entry .args .words .now) (entry .args .i) (pos 0)) (sym (c .before .before .before .before .before .ends .ensures) ∙ c .before
-        .before .before .before .if1 .taken) (at-put-signed .put-signed .ensures .0) (c .before .before .put-byte .ensures), omega (arith,
-        at-put-signed .put-signed .ensures .1, c .before .before .put-byte .ensures .past))
+    let entry = at-put-signed .before .before .before in (
+      word-ends (getD (entry .args .words .now) (entry .args .i) (pos 0)) (sym (c .before .before .before .before .before .ends .ensures) ∙ c .before
+          .before .before .before .if1 .taken) (at-put-signed .put-signed .ensures .0) (c .before .before .put-byte .ensures),
+      omega (
+        arith,
+        at-put-signed .put-signed .ensures .1,
+        c .before .before .put-byte .ensures .past,
+      ),
+    )
 
 put-byte-requires-2 : tie.Need-put-byte-requires-2
 put-byte-requires-2 c κs = search needs
@@ -37,10 +42,15 @@ same-length-2 c = search needs
 returns-2 : tie.Need-returns-2
 returns-2 c =
     let at-put-signed = c .before .before .before .before .before .before .before .before in
-    let entry = at-put-signed .before .before .before in
-    (word-goes (getD (entry .args .words .now) (entry .args .i) (pos 0)) (sym (c .before .before .before .before .before .ends .ensures) ∙ c .before
-        .before .before .before .if1 .left) (at-put-signed .put-signed .ensures .0) (c .before .before .put-byte2 .ensures), omega (arith,
-        at-put-signed .put-signed .ensures .1, c .before .before .put-byte2 .ensures .past))
+    let entry = at-put-signed .before .before .before in (
+      word-goes (getD (entry .args .words .now) (entry .args .i) (pos 0)) (sym (c .before .before .before .before .before .ends .ensures) ∙ c .before
+          .before .before .before .if1 .left) (at-put-signed .put-signed .ensures .0) (c .before .before .put-byte2 .ensures),
+      omega (
+        arith,
+        at-put-signed .put-signed .ensures .1,
+        c .before .before .put-byte2 .ensures .past,
+      ),
+    )
 
 pub put-word-spec : {M : Type 1} → statement M
 put-word-spec =

@@ -26,18 +26,24 @@ loop-less : tie.Need-loop-less Inv-loop μ-loop
 loop-less c = omega arith
 
 loop-again : tie.Need-loop-again Inv-loop μ-loop
-loop-again c =
-    (words-next (c .before .before .before .before .before .before .before .args .words .now) _ (c .before .before .before .before .loop-test .taken) (c
-        .before .before .before .before .before .loop .inv .0) (c .before .before .put-word .ensures .0) (c .before .before .put-word .ensures .1),
-        omega arith)
+loop-again c = (
+  words-next (c .before .before .before .before .before .before .before .args .words .now) _ (c .before .before .before .before .loop-test .taken) (c
+      .before .before .before .before .before .loop .inv .0) (c .before .before .put-word .ensures .0) (c .before .before .put-word .ensures .1),
+  omega arith,
+)
 
 same-length : tie.Need-same-length Inv-loop μ-loop
 same-length c = c .before .loop .inv .0 .rest .size
 
 returns : tie.Need-returns Inv-loop μ-loop
-returns c =
-    (words-end (c .before .before .before .args .words .now) (c .before .loop .i) (omega arith) (c .before .loop .inv .0), omega (arith, c .before .loop
-        .inv .0 .near))
+returns c = (
+  words-end (c .before .before .before .args .words .now) (c .before .loop .i) (omega arith) (c .before .loop .inv .0),
+  omega (
+    arith,
+    c .before .loop
+        .inv .0 .near,
+  ),
+)
 
 pub put-words-spec : {M : Type 1} → statement M
 put-words-spec =

@@ -46,7 +46,7 @@ put-digits-same-length t c = written-length (c .before .before .put-byte .ensure
 put-digits-returns-2 : (t : ℕ) → put-digits-lts.Need-returns-2 (put-digits-claims t) (put-digits-at t) put-digits.Post
 put-digits-returns-2 t c =
     digits-last _ _ (c .before .before .before .before .before .if1 .left) (c .before .before .before .before .if2 .taken) (c .before .before .put-byte
-        .ensures)
+    .ensures)
 
 put-digits-sub-put-digits : (t : ℕ) → put-digits-lts.Need-sub-put-digits (put-digits-claims t) (put-digits-at t) put-digits.Post
 put-digits-sub-put-digits t c = omega arith
@@ -64,8 +64,13 @@ put-digits-put-byte-requires-2 : (t : ℕ) → put-digits-lts.Need-put-byte-requ
 put-digits-put-byte-requires-2 t c κs =
     let at-put-digits = c .before .before .before in
     let entry = at-put-digits .before .before .before .before .before in
-    omega (arith, at-put-digits .put-digits .ensures .past, written-length (at-put-digits .put-digits .ensures), digits-length (entry .args .left - 1)
-        (entry .args .n / 10))
+    omega (
+      arith,
+      at-put-digits .put-digits .ensures .past,
+      written-length (at-put-digits .put-digits .ensures),
+      digits-length (entry .args .left - 1)
+          (entry .args .n / 10),
+    )
 
 put-digits-same-length-2 : (t : ℕ) → put-digits-lts.Need-same-length-2 (put-digits-claims t) (put-digits-at t) put-digits.Post
 put-digits-same-length-2 t c =
@@ -76,7 +81,7 @@ put-digits-returns-3 t c =
     let at-if2 = c .before .before .before .before .before .before .before .before in
     let at-if1 = at-if2 .before in
     digits-more _ _ (at-if1 .if1 .left) (at-if2 .if2 .left) (c .before .before .before .before .before .before .put-digits .ensures) (c .before .before
-        .put-byte2 .ensures)
+    .put-byte2 .ensures)
 
 pub +put-digits-spec : {M : Type 1} → statement M
 +put-digits-spec = close μ-put-digits λ t. put-digits-lts.spec (

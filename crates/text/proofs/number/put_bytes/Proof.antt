@@ -21,8 +21,13 @@ shared-slice-read-put-byte c = omega arith
 put-byte-requires : tie.Need-put-byte-requires Inv-loop μ-loop
 put-byte-requires c κs =
     let at-loop = c .before .before .before in
-    omega (arith, at-loop .loop .inv .0 .past, at-loop .loop .inv .0 .size, length-drop (at-loop .loop .i) (c .before .before .before .before .before
-        .before .args .bytes .now))
+    omega (
+      arith,
+      at-loop .loop .inv .0 .past,
+      at-loop .loop .inv .0 .size,
+      length-drop (at-loop .loop .i) (c .before .before .before .before .before
+          .before .args .bytes .now),
+    )
 
 add-i : tie.Need-add-i Inv-loop μ-loop
 add-i c = omega arith
@@ -31,10 +36,12 @@ loop-less : tie.Need-loop-less Inv-loop μ-loop
 loop-less c = omega arith
 
 loop-again : tie.Need-loop-again Inv-loop μ-loop
-loop-again c =
-    (bytes-next (c .before .before .before .before .before .before .before .before .before .args .bytes .now) (c .before .before .before .before .before
-        .before .loop .i) (c .before .before .before .before .before .loop-test .taken) (c .before .before .before .before .before .before .loop .inv
-        .0) (c .before .before .put-byte .ensures), omega arith)
+loop-again c = (
+  bytes-next (c .before .before .before .before .before .before .before .before .before .args .bytes .now) (c .before .before .before .before .before
+      .before .loop .i) (c .before .before .before .before .before .loop-test .taken) (c .before .before .before .before .before .before .loop .inv
+      .0) (c .before .before .put-byte .ensures),
+  omega arith,
+)
 
 same-length : tie.Need-same-length Inv-loop μ-loop
 same-length c = c .before .loop .inv .0 .size

@@ -12,9 +12,14 @@ same-length : tie.Need-same-length
 same-length c = written-length (c .before .before .put-decimal .ensures .0)
 
 returns : tie.Need-returns
-returns c =
-    (pattern-plain _ (c .before .before .before .before .if1 .taken) (c .before .before .put-decimal .ensures .0), omega (arith, c .before .before
-        .put-decimal .ensures .1))
+returns c = (
+  pattern-plain _ (c .before .before .before .before .if1 .taken) (c .before .before .put-decimal .ensures .0),
+  omega (
+    arith,
+    c .before .before
+        .put-decimal .ensures .1,
+  ),
+)
 
 put-byte-requires : tie.Need-put-byte-requires
 put-byte-requires c κs = search needs
@@ -31,10 +36,16 @@ same-length-2 : tie.Need-same-length-2
 same-length-2 c = search needs
 
 returns-2 : tie.Need-returns-2
-returns-2 c =
-    (pattern-minus _ (c .before .before .before .before .before .before .before .before .if1 .left) (omega arith) (c .before .before .before .before
-        .before .before .put-byte .ensures) (c .before .before .put-decimal2 .ensures .0), omega (arith, c .before .before .before .before .before
-        .before .put-byte .ensures .past, c .before .before .put-decimal2 .ensures .1))
+returns-2 c = (
+  pattern-minus _ (c .before .before .before .before .before .before .before .before .if1 .left) (omega arith) (c .before .before .before .before
+      .before .before .put-byte .ensures) (c .before .before .put-decimal2 .ensures .0),
+  omega (
+    arith,
+    c .before .before .before .before .before
+        .before .put-byte .ensures .past,
+    c .before .before .put-decimal2 .ensures .1,
+  ),
+)
 
 pub put-pattern-spec : {M : Type 1} → statement M
 put-pattern-spec =

@@ -25,8 +25,8 @@ returns c =
     let at-variable = c .before .before .before .before .before .before in
     let entry = at-variable .before .before in
     let z = getD (entry .args .words .now) (entry .args .i) (pos 0) in let h = signed-plain z (at-variable .variable .result) (at-variable .variable
-        .ensures) (sym (c .before .before .before .before .before .sign .ensures) ∙ c .before .before .before .before .if1 .taken) (c .before .before
-        .put-decimal .ensures .0) in (h, signed-past z h)
+    .ensures) (sym (c .before .before .before .before .before .sign .ensures) ∙ c .before .before .before .before .if1 .taken) (c .before .before
+    .put-decimal .ensures .0) in (h, signed-past z h)
 
 put-byte-requires : tie.Need-put-byte-requires
 put-byte-requires c κs = search needs
@@ -47,8 +47,8 @@ returns-2 c =
     let at-variable = at-sign .before in
     let entry = at-variable .before .before in
     let z = getD (entry .args .words .now) (entry .args .i) (pos 0) in let h = signed-minus z (at-variable .variable .result) (at-variable .variable
-        .ensures) (λ e. at-if1 .if1 .left (at-sign .sign .ensures ∙ e)) (c .before .before .before .before .before .before .put-byte .ensures) (c
-        .before .before .put-decimal2 .ensures .0) in (h, signed-past z h)
+    .ensures) (λ e. at-if1 .if1 .left (at-sign .sign .ensures ∙ e)) (c .before .before .before .before .before .before .put-byte .ensures) (c
+    .before .before .put-decimal2 .ensures .0) in (h, signed-past z h)
 
 pub put-signed-spec : {M : Type 1} → statement M
 put-signed-spec =

@@ -25,9 +25,16 @@ wide-requires c κs = omega arith
 move-chosen-requires : tie.Need-move-chosen-requires Inv-loop μ-loop
 move-chosen-requires c κs =
     let at-loop = c .before .before .before .before in
-    let entry = at-loop .before .before .before .before .before in
-    (ready-same _ _ _ _ _ _ (at-loop .loop .inv .state) (entry .pre .0), entry .pre .1, omega (arith, c .before .wide .ensures .0, entry .pre .3 (at-loop
-        .loop .i) (c .before .before .before .loop-test .taken)))
+    let entry = at-loop .before .before .before .before .before in (
+      ready-same _ _ _ _ _ _ (at-loop .loop .inv .state) (entry .pre .0),
+      entry .pre .1,
+      omega (
+        arith,
+        c .before .wide .ensures .0,
+        entry .pre .3 (at-loop
+            .loop .i) (c .before .before .before .loop-test .taken),
+      ),
+    )
 
 add-i : tie.Need-add-i Inv-loop μ-loop
 add-i c = omega arith
@@ -35,9 +42,15 @@ add-i c = omega arith
 put-state-requires : tie.Need-put-state-requires Inv-loop μ-loop
 put-state-requires c κs =
     let at-loop = c .before .before .before .before .before .before .before .before .before in
-    let entry = at-loop .before .before .before .before .before in
-    (ready-same _ _ _ _ _ _ (omega (arith, c .before .before .before .slots .given, at-loop .loop .inv .state)) (entry .pre .0), omega (arith, at-loop
-        .loop .inv .near, at-loop .loop .inv .size))
+    let entry = at-loop .before .before .before .before .before in (
+      ready-same _ _ _ _ _ _ (omega (arith, c .before .before .before .slots .given, at-loop .loop .inv .state)) (entry .pre .0),
+      omega (
+        arith,
+        at-loop
+            .loop .inv .near,
+        at-loop .loop .inv .size,
+      ),
+    )
 
 loop-less : tie.Need-loop-less Inv-loop μ-loop
 loop-less c = omega arith
@@ -47,9 +60,12 @@ loop-again c =
     let at-wide = c .before .before .before .before .before .before .before .before .before in
     let at-loop-test = at-wide .before .before in
     let at-loop = at-loop-test .before in
-    printing-on _ _ _ _ _ _ _ _ _ _ (at-loop .loop .inv) (at-loop-test .loop-test .taken) _ (at-wide .wide .ensures .0) _ _ (omega (arith, c .before
-        .before .before .before .before .before .slots .given)) (c .before .before .before .before .before .before .before .move-chosen .ensures) _ _
-        (c .before .before .put-state .ensures .0) (c .before .before .put-state .ensures .1) (c .before .before .put-state .ensures .2)
+    printing-on _ _ _ _ _ _ _ _ _ _ (at-loop .loop .inv) (at-loop-test .loop-test .taken) _ (at-wide .wide .ensures .0) _ _ (omega (
+      arith,
+      c .before
+          .before .before .before .before .before .slots .given,
+    )) (c .before .before .before .before .before .before .before .move-chosen .ensures) _ _
+    (c .before .before .put-state .ensures .0) (c .before .before .put-state .ensures .1) (c .before .before .put-state .ensures .2)
 
 same-length : tie.Need-same-length Inv-loop μ-loop
 same-length c = c .before .loop .inv .state
@@ -58,9 +74,16 @@ same-length-2 : tie.Need-same-length-2 Inv-loop μ-loop
 same-length-2 c = c .before .loop .inv .size
 
 returns : tie.Need-returns Inv-loop μ-loop
-returns c =
-    ((λ d e. printing-end _ _ _ _ _ _ _ _ _ _ (c .before .loop .inv) (omega arith) d e), omega (arith, c .before .loop .inv .near, c .before .loop .inv
-        .inside), c .before .loop .inv .size)
+returns c = (
+  (λ d e. printing-end _ _ _ _ _ _ _ _ _ _ (c .before .loop .inv) (omega arith) d e),
+  omega (
+    arith,
+    c .before .loop .inv .near,
+    c .before .loop .inv
+        .inside,
+  ),
+  c .before .loop .inv .size,
+)
 
 pub put-next-spec : {M : Type 1} → statement M
 put-next-spec =

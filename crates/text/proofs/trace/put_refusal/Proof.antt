@@ -41,11 +41,20 @@ returns c =
     let at-put-bytes2 = at-put-decimal2 .before .before .before .before in
     let at-put-decimal = at-put-bytes2 .before .before .before .before .before in
     let at-wide = at-put-decimal .before in
-    let at-put-bytes = at-wide .before .before .before .before in
-    (refusal-as _ _ _ (at-wide .wide .ensures .0) (written-then (at-put-bytes .put-bytes .ensures) (written-then (at-put-decimal .put-decimal .ensures .0)
-        (written-then (at-put-bytes2 .put-bytes2 .ensures) (written-then (at-put-decimal2 .put-decimal2 .ensures .0) (c .before .before .put-byte
-        .ensures))))), omega (arith, at-put-bytes .put-bytes .ensures .past, at-put-decimal .put-decimal .ensures .1, at-put-bytes2 .put-bytes2
-        .ensures .past, at-put-decimal2 .put-decimal2 .ensures .1, c .before .before .put-byte .ensures .past))
+    let at-put-bytes = at-wide .before .before .before .before in (
+      refusal-as _ _ _ (at-wide .wide .ensures .0) (written-then (at-put-bytes .put-bytes .ensures) (written-then (at-put-decimal .put-decimal .ensures .0)
+          (written-then (at-put-bytes2 .put-bytes2 .ensures) (written-then (at-put-decimal2 .put-decimal2 .ensures .0) (c .before .before .put-byte
+          .ensures))))),
+      omega (
+        arith,
+        at-put-bytes .put-bytes .ensures .past,
+        at-put-decimal .put-decimal .ensures .1,
+        at-put-bytes2 .put-bytes2
+            .ensures .past,
+        at-put-decimal2 .put-decimal2 .ensures .1,
+        c .before .before .put-byte .ensures .past,
+      ),
+    )
 
 pub put-refusal-spec : {M : Type 1} → statement M
 put-refusal-spec =

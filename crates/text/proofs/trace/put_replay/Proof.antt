@@ -31,9 +31,11 @@ same-length-2 : tie.Need-same-length-2
 same-length-2 c = search needs
 
 returns-2 : tie.Need-returns-2
-returns-2 c =
-    (text-short _ (omega (arith, c .before .before .before .before .if2 .taken, c .before .before .before .before .before .wide .ensures .0)) (c .before
-        .before .put-refusal2 .ensures .0), omega (arith, c .before .before .put-refusal2 .ensures .1))
+returns-2 c = (
+  text-short _ (omega (arith, c .before .before .before .before .if2 .taken, c .before .before .before .before .before .wide .ensures .0)) (c .before
+      .before .put-refusal2 .ensures .0),
+  omega (arith, c .before .before .put-refusal2 .ensures .1),
+)
 
 design-end-requires : tie.Need-design-end-requires
 design-end-requires c κs = search needs
@@ -70,10 +72,12 @@ returns-3 c =
     let at-design-end = c .before .before .before .before .before .before .before in
     let at-if2 = at-design-end .before in
     let at-wide = at-if2 .before in
-    let entry = at-wide .before .before .before .before .before in
-    (text-whole (entry .args .input .now) (2 + at-wide .wide .result) (at-design-end .design-end .result) (omega (arith, at-wide .wide .ensures .0))
-        (omega (arith, at-if2 .if2 .left)) (at-design-end .design-end .ensures .2) (c .before .before .put-trace .ensures .0), c .before .before
-        .put-trace .ensures .1)
+    let entry = at-wide .before .before .before .before .before in (
+      text-whole (entry .args .input .now) (2 + at-wide .wide .result) (at-design-end .design-end .result) (omega (arith, at-wide .wide .ensures .0))
+          (omega (arith, at-if2 .if2 .left)) (at-design-end .design-end .ensures .2) (c .before .before .put-trace .ensures .0),
+      c .before .before
+          .put-trace .ensures .1,
+    )
 
 pub put-replay-spec : {M : Type 1} → statement M
 put-replay-spec =

@@ -28,10 +28,17 @@ unfolding resultText
 returns c =
     let at-put-decimal = c .before .before .before .before .before .before in
     let at-put-bytes = at-put-decimal .before .before .before .before in
-    let at-if1 = at-put-bytes .before .before .before in
-    (result-as _ true _ (at-if1 .if1 .taken) (written-then (at-put-bytes .put-bytes .ensures) (written-then (at-put-decimal .put-decimal .ensures .0) (c
-        .before .before .put-byte .ensures))), omega (arith, at-put-bytes .put-bytes .ensures .past, at-put-decimal .put-decimal .ensures .1, c
-        .before .before .put-byte .ensures .past))
+    let at-if1 = at-put-bytes .before .before .before in (
+      result-as _ true _ (at-if1 .if1 .taken) (written-then (at-put-bytes .put-bytes .ensures) (written-then (at-put-decimal .put-decimal .ensures .0) (c
+          .before .before .put-byte .ensures))),
+      omega (
+        arith,
+        at-put-bytes .put-bytes .ensures .past,
+        at-put-decimal .put-decimal .ensures .1,
+        c
+            .before .before .put-byte .ensures .past,
+      ),
+    )
 
 slice-aggregate-put-bytes-2 : tie.Need-slice-aggregate-put-bytes-2
 slice-aggregate-put-bytes-2 c = search needs
@@ -44,9 +51,11 @@ same-length-2 c = search needs
 
 returns-2 : tie.Need-returns-2
 unfolding resultText
-returns-2 c =
-    (result-as _ false (c .before .before .before .before .before .before .before .args .step) (c .before .before .before .before .before .if1 .left) (c
-        .before .before .put-bytes2 .ensures), omega (arith, c .before .before .put-bytes2 .ensures .past))
+returns-2 c = (
+  result-as _ false (c .before .before .before .before .before .before .before .args .step) (c .before .before .before .before .before .if1 .left) (c
+      .before .before .put-bytes2 .ensures),
+  omega (arith, c .before .before .put-bytes2 .ensures .past),
+)
 
 pub put-result-spec : {M : Type 1} → statement M
 put-result-spec =

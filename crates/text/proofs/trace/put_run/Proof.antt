@@ -28,17 +28,29 @@ add-n c = search needs
 array-borrow-prefix-all : tie.Need-array-borrow-prefix-all
 array-borrow-prefix-all c =
     let entry = c .before .before .before .before .before .before .before .before .before .before .before in
-    omega (arith, c .before .before .before .before .before .before .before .trailer-word .ensures .0, c .before .before .before .before .before .before
-        .trailer-word2 .ensures .0, read _ (entry .pre .0 .design) .all .variables, read _ (entry .pre .0 .design) .all .matrices)
+    omega (
+      arith,
+      c .before .before .before .before .before .before .before .trailer-word .ensures .0,
+      c .before .before .before .before .before .before
+          .trailer-word2 .ensures .0,
+      read _ (entry .pre .0 .design) .all .variables,
+      read _ (entry .pre .0 .design) .all .matrices,
+    )
 
 slice-aggregate-put-states : tie.Need-slice-aggregate-put-states
 slice-aggregate-put-states c =
     let at-trailer-word2 = c .before .before .before .before .before .before .before in
     let at-trailer-word = at-trailer-word2 .before in
     let entry = at-trailer-word .before .before .before .before in
-    let b : at-trailer-word .trailer-word .result + at-trailer-word2 .trailer-word2 .result ≤ 40 = omega (arith, at-trailer-word .trailer-word .ensures
-        .0, at-trailer-word2 .trailer-word2 .ensures .0, read _ (entry .pre .0 .design) .all .variables, read _ (entry .pre .0 .design) .all
-        .matrices) in sym (length-take-le _ _ b)
+    let b : at-trailer-word .trailer-word .result + at-trailer-word2 .trailer-word2 .result ≤ 40 = omega (
+      arith,
+      at-trailer-word .trailer-word .ensures
+          .0,
+      at-trailer-word2 .trailer-word2 .ensures .0,
+      read _ (entry .pre .0 .design) .all .variables,
+      read _ (entry .pre .0 .design) .all
+          .matrices,
+    ) in sym (length-take-le _ _ b)
 
 put-states-requires : tie.Need-put-states-requires
 put-states-requires c κs =
@@ -46,12 +58,29 @@ put-states-requires c κs =
     let at-trailer-word2 = at-index-cells .before .before in
     let at-trailer-word = at-trailer-word2 .before in
     let entry = at-trailer-word .before .before .before .before in
-    let b : at-trailer-word .trailer-word .result + at-trailer-word2 .trailer-word2 .result ≤ 40 = omega (arith, at-trailer-word .trailer-word .ensures
-        .0, at-trailer-word2 .trailer-word2 .ensures .0, read _ (entry .pre .0 .design) .all .variables, read _ (entry .pre .0 .design) .all
-        .matrices) in (record { accepted = entry .pre .0 .design; events = c .before .before .before .before .index-events .ensures; variables =
-        at-trailer-word .trailer-word .ensures .0; matrices = at-trailer-word2 .trailer-word2 .ensures .0; size = length-take-le _ _ b },
-        at-index-cells .index-cells .ensures, entry .pre .1, choices-below _ _ (entry .pre .0) _ _ _ (at-trailer-word .trailer-word .ensures .0)
-        (at-index-cells .index-cells .ensures), take-replicate _ 40 0 b)
+    let b : at-trailer-word .trailer-word .result + at-trailer-word2 .trailer-word2 .result ≤ 40 = omega (
+      arith,
+      at-trailer-word .trailer-word .ensures
+          .0,
+      at-trailer-word2 .trailer-word2 .ensures .0,
+      read _ (entry .pre .0 .design) .all .variables,
+      read _ (entry .pre .0 .design) .all
+          .matrices,
+    ) in (
+      record {
+        accepted = entry .pre .0 .design;
+        events = c .before .before .before .before .index-events .ensures;
+        variables =
+            at-trailer-word .trailer-word .ensures .0;
+        matrices = at-trailer-word2 .trailer-word2 .ensures .0;
+        size = length-take-le _ _ b;
+      },
+      at-index-cells .index-cells .ensures,
+      entry .pre .1,
+      choices-below _ _ (entry .pre .0) _ _ _ (at-trailer-word .trailer-word .ensures .0)
+          (at-index-cells .index-cells .ensures),
+      take-replicate _ 40 0 b,
+    )
 
 same-length : tie.Need-same-length
 same-length c = search needs

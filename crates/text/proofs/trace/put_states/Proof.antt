@@ -19,9 +19,18 @@ put-next-requires : tie.Need-put-next-requires
 put-next-requires c κs =
     let at-put-state = c .before .before .before .before in
     let at-slots = at-put-state .before .before .before .before in
-    let entry = at-slots .before .before .before .before .before .before .before in
-    (ready-same _ _ _ _ _ _ (omega (arith, at-slots .slots .given)) (entry .pre .0), entry .pre .1, omega (arith, entry .pre .2, at-put-state .put-state
-        .ensures .1, at-put-state .put-state .ensures .2), entry .pre .3)
+    let entry = at-slots .before .before .before .before .before .before .before in (
+      ready-same _ _ _ _ _ _ (omega (arith, at-slots .slots .given)) (entry .pre .0),
+      entry .pre .1,
+      omega (
+        arith,
+        entry .pre .2,
+        at-put-state .put-state
+            .ensures .1,
+        at-put-state .put-state .ensures .2,
+      ),
+      entry .pre .3,
+    )
 
 same-length : tie.Need-same-length
 same-length c = search needs
@@ -33,10 +42,17 @@ returns : tie.Need-returns
 returns c =
     let at-put-next = c .before .before .before .before in
     let at-put-state = at-put-next .before .before .before .before .before in
-    let at-load-start = at-put-state .before .before .before .before .before in
-    ((λ d e. states-written d _ _ _ (at-load-start .load-start .ensures d e) (at-put-state .put-state .ensures .0 d (whole _ d e .parts)) (at-put-next
-        .put-next .ensures .0 d e)), omega (arith, at-put-state .put-state .ensures .1, at-put-next .put-next .ensures .1), omega (arith, at-put-state
-        .put-state .ensures .2, at-put-next .put-next .ensures .2))
+    let at-load-start = at-put-state .before .before .before .before .before in (
+      (λ d e. states-written d _ _ _ (at-load-start .load-start .ensures d e) (at-put-state .put-state .ensures .0 d (whole _ d e .parts)) (at-put-next
+          .put-next .ensures .0 d e)),
+      omega (arith, at-put-state .put-state .ensures .1, at-put-next .put-next .ensures .1),
+      omega (
+        arith,
+        at-put-state
+            .put-state .ensures .2,
+        at-put-next .put-next .ensures .2,
+      ),
+    )
 
 pub put-states-spec : {M : Type 1} → statement M
 put-states-spec =

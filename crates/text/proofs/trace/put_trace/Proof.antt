@@ -15,22 +15,34 @@ same-length : tie.Need-same-length
 same-length c = search needs
 
 returns : tie.Need-returns
-returns c =
-    (trace-refused _ _ _ _ (c .before .before .before .before .before .before .before .replay .ensures) (c .before .before .before .before .if1 .taken) (c
-        .before .before .put-refusal .ensures .0), omega (arith, c .before .before .put-refusal .ensures .1))
+returns c = (
+  trace-refused _ _ _ _ (c .before .before .before .before .before .before .before .replay .ensures) (c .before .before .before .before .if1 .taken) (c
+      .before .before .put-refusal .ensures .0),
+  omega (arith, c .before .before .put-refusal .ensures .1),
+)
 
 put-run-requires : tie.Need-put-run-requires
 put-run-requires c κs =
-    let at-replay = c .before .before .before .before in
-    (replayable _ _ _ _ (at-replay .replay .ensures) (c .before .if1 .left), omega (arith, replayable _ _ _ _ (at-replay .replay .ensures) (c .before .if1
-        .left) .few))
+    let at-replay = c .before .before .before .before in (
+      replayable _ _ _ _ (at-replay .replay .ensures) (c .before .if1 .left),
+      omega (
+        arith,
+        replayable _ _ _ _ (at-replay .replay .ensures) (c .before .if1
+            .left) .few,
+      ),
+    )
 
 put-result-requires : tie.Need-put-result-requires
 put-result-requires c κs =
     let at-put-run = c .before .before .before in
     let at-replay = at-put-run .before .before .before .before .before in
-    omega (arith, at-put-run .put-run .ensures .1, at-put-run .put-run .ensures .2, replayable _ _ _ _ (at-replay .replay .ensures) (c .before .before
-        .before .before .before .if1 .left) .few)
+    omega (
+      arith,
+      at-put-run .put-run .ensures .1,
+      at-put-run .put-run .ensures .2,
+      replayable _ _ _ _ (at-replay .replay .ensures) (c .before .before
+          .before .before .before .if1 .left) .few,
+    )
 
 same-length-2 : tie.Need-same-length-2
 same-length-2 c = search needs
@@ -39,10 +51,16 @@ returns-2 : tie.Need-returns-2
 returns-2 c =
     let at-put-run = c .before .before .before .before .before .before in
     let at-if1 = at-put-run .before .before in
-    let at-replay = at-if1 .before .before .before in
-    (trace-done _ _ _ _ (at-replay .replay .ensures) (at-if1 .if1 .left) (at-put-run .put-run .ensures .0) (c .before .before .put-result .ensures .0),
-        omega (arith, at-put-run .put-run .ensures .1, c .before .before .put-result .ensures .1, replayable _ _ _ _ (at-replay .replay .ensures)
-        (at-if1 .if1 .left) .few))
+    let at-replay = at-if1 .before .before .before in (
+      trace-done _ _ _ _ (at-replay .replay .ensures) (at-if1 .if1 .left) (at-put-run .put-run .ensures .0) (c .before .before .put-result .ensures .0),
+      omega (
+        arith,
+        at-put-run .put-run .ensures .1,
+        c .before .before .put-result .ensures .1,
+        replayable _ _ _ _ (at-replay .replay .ensures)
+            (at-if1 .if1 .left) .few,
+      ),
+    )
 
 pub put-trace-spec : {M : Type 1} → statement M
 put-trace-spec =

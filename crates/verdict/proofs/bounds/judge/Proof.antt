@@ -26,21 +26,27 @@ loop-holds c = standing-start _ (c .before .before .before .before .pre)
 
 write-formula-requires : tie.Need-write-formula-requires Inv-loop μ-loop
 write-formula-requires c κs =
-    record { design = c .before .loop .inv .ready .design; accepted = c .before .loop .inv .ready .accepted; property = c .before .loop .inv .ready
-        .property; bound = omega (arith, bound-low (c .before .loop .inv), c .before .loop .inv .ready .bound); room = bound-room (c .before .loop
-        .inv) }
+    record {
+      design = c .before .loop .inv .ready .design;
+      accepted = c .before .loop .inv .ready .accepted;
+      property = c .before .loop .inv .ready
+          .property;
+      bound = omega (arith, bound-low (c .before .loop .inv), c .before .loop .inv .ready .bound);
+      room = bound-room (c .before .loop
+          .inv);
+    }
 
 slice-reshare-prefix-search : tie.Need-slice-reshare-prefix-search Inv-loop μ-loop
 slice-reshare-prefix-search c =
     let at-loop = c .before .before .before in
     words-in (at-loop .loop .inv) (c .before .write-formula .ensures (at-loop .loop .inv .ready .design) (at-loop .loop .inv .ready .accepted)) (c .before
-        .write-formula .kept .1 .1 .1 .0)
+    .write-formula .kept .1 .1 .1 .0)
 
 slice-aggregate-search : tie.Need-slice-aggregate-search Inv-loop μ-loop
 slice-aggregate-search c =
     let at-loop = c .before .before .before .before in
     sym (length-take-le _ _ (words-in (at-loop .loop .inv) (c .before .before .write-formula .ensures (at-loop .loop .inv .ready .design) (at-loop .loop
-        .inv .ready .accepted)) (c .before .before .write-formula .kept .1 .1 .1 .0)))
+    .inv .ready .accepted)) (c .before .before .write-formula .kept .1 .1 .1 .0)))
 
 slice-relend-prefix-search : tie.Need-slice-relend-prefix-search Inv-loop μ-loop
 slice-relend-prefix-search c =
@@ -51,19 +57,19 @@ slice-aggregate-search-2 : tie.Need-slice-aggregate-search-2 Inv-loop μ-loop
 slice-aggregate-search-2 c =
     let at-loop = c .before .before .before .before .before in
     sym (length-take-le _ _ (values-in (at-loop .loop .inv) (c .before .before .before .write-formula .ensures (at-loop .loop .inv .ready .design)
-        (at-loop .loop .inv .ready .accepted))))
+    (at-loop .loop .inv .ready .accepted))))
 
 slice-relend-prefix-search-2 : tie.Need-slice-relend-prefix-search-2 Inv-loop μ-loop
 slice-relend-prefix-search-2 c =
     let at-loop = c .before .before .before .before .before in
     trail-in (at-loop .loop .inv) (c .before .before .before .write-formula .ensures (at-loop .loop .inv .ready .design) (at-loop .loop .inv .ready
-        .accepted))
+    .accepted))
 
 slice-aggregate-search-3 : tie.Need-slice-aggregate-search-3 Inv-loop μ-loop
 slice-aggregate-search-3 c =
     let at-loop = c .before .before .before .before .before .before in
     sym (length-take-le _ _ (trail-in (at-loop .loop .inv) (c .before .before .before .before .write-formula .ensures (at-loop .loop .inv .ready .design)
-        (at-loop .loop .inv .ready .accepted))))
+    (at-loop .loop .inv .ready .accepted))))
 
 sub-search : tie.Need-sub-search Inv-loop μ-loop
 sub-search c = c .before .before .before .before .before .before .loop .inv .judging .paid
@@ -72,7 +78,7 @@ search-requires : tie.Need-search-requires Inv-loop μ-loop
 search-requires c κs =
     let at-loop = c .before .before .before .before .before .before in
     search-may (at-loop .loop .inv) (c .before .before .before .before .write-formula .ensures (at-loop .loop .inv .ready .design) (at-loop .loop .inv
-        .ready .accepted))
+    .ready .accepted))
 
 add-tries : tie.Need-add-tries Inv-loop μ-loop
 add-tries c =
@@ -80,7 +86,7 @@ add-tries c =
     let at-loop = at-write-formula .before .before in
     let at-fits = at-loop .before .before .before .before .before in
     let f = tries-in (at-loop .loop .inv) (at-write-formula .write-formula .ensures (at-loop .loop .inv .ready .design) (at-loop .loop .inv .ready
-        .accepted)) (c .before .before .before .before .before .search .ensures) in let g = at-fits .fits .budget in omega (arith, f, g .fits)
+    .accepted)) (c .before .before .before .before .before .search .ensures) in let g = at-fits .fits .budget in omega (arith, f, g .fits)
 
 enum-told : tie.Need-enum-told Inv-loop μ-loop
 enum-told c = search needs
@@ -94,7 +100,7 @@ same-length c =
     let at-write-formula = at-search .before .before .before .before .before in
     let at-loop = at-write-formula .before .before in
     kept (at-loop .loop .inv) (at-write-formula .write-formula .ensures (at-loop .loop .inv .ready .design) (at-loop .loop .inv .ready .accepted))
-        (at-search .search .ensures) .0
+    (at-search .search .ensures) .0
 
 same-length-2 : tie.Need-same-length-2 Inv-loop μ-loop
 same-length-2 c =
@@ -102,7 +108,7 @@ same-length-2 c =
     let at-write-formula = at-search .before .before .before .before .before in
     let at-loop = at-write-formula .before .before in
     kept (at-loop .loop .inv) (at-write-formula .write-formula .ensures (at-loop .loop .inv .ready .design) (at-loop .loop .inv .ready .accepted))
-        (at-search .search .ensures) .1
+    (at-search .search .ensures) .1
 
 same-length-3 : tie.Need-same-length-3 Inv-loop μ-loop
 same-length-3 c =
@@ -110,7 +116,7 @@ same-length-3 c =
     let at-write-formula = at-search .before .before .before .before .before in
     let at-loop = at-write-formula .before .before in
     kept (at-loop .loop .inv) (at-write-formula .write-formula .ensures (at-loop .loop .inv .ready .design) (at-loop .loop .inv .ready .accepted))
-        (at-search .search .ensures) .2
+    (at-search .search .ensures) .2
 
 same-length-4 : tie.Need-same-length-4 Inv-loop μ-loop
 same-length-4 c =
@@ -123,8 +129,8 @@ returns c =
     let at-write-formula = at-search .before .before .before .before .before in
     let at-loop = at-write-formula .before .before in
     standing-sat (at-loop .loop .inv) (at-write-formula .write-formula .ensures (at-loop .loop .inv .ready .design) (at-loop .loop .inv .ready .accepted))
-        (at-search .search .ensures) (c .before .before .before .before .before .enum-told .given .1) (ap (λ (x : DecodeExit). x .choices) (c .before
-        .before .decode .ensures))
+    (at-search .search .ensures) (c .before .before .before .before .before .enum-told .given .1) (ap (λ (x : DecodeExit). x .choices) (c .before
+    .before .decode .ensures))
 
 enum-told-2 : tie.Need-enum-told-2 Inv-loop μ-loop
 enum-told-2 c = search needs
@@ -134,21 +140,21 @@ same-length-5 c =
     let at-write-formula = c .before .before .before .before .before .before .before .before .before .before .before .before in
     let at-loop = at-write-formula .before .before in
     kept (at-loop .loop .inv) (at-write-formula .write-formula .ensures (at-loop .loop .inv .ready .design) (at-loop .loop .inv .ready .accepted)) (c
-        .before .before .before .before .before .before .before .search .ensures) .0
+    .before .before .before .before .before .before .before .search .ensures) .0
 
 same-length-6 : tie.Need-same-length-6 Inv-loop μ-loop
 same-length-6 c =
     let at-write-formula = c .before .before .before .before .before .before .before .before .before .before .before .before in
     let at-loop = at-write-formula .before .before in
     kept (at-loop .loop .inv) (at-write-formula .write-formula .ensures (at-loop .loop .inv .ready .design) (at-loop .loop .inv .ready .accepted)) (c
-        .before .before .before .before .before .before .before .search .ensures) .1
+    .before .before .before .before .before .before .before .search .ensures) .1
 
 same-length-7 : tie.Need-same-length-7 Inv-loop μ-loop
 same-length-7 c =
     let at-write-formula = c .before .before .before .before .before .before .before .before .before .before .before .before in
     let at-loop = at-write-formula .before .before in
     kept (at-loop .loop .inv) (at-write-formula .write-formula .ensures (at-loop .loop .inv .ready .design) (at-loop .loop .inv .ready .accepted)) (c
-        .before .before .before .before .before .before .before .search .ensures) .2
+    .before .before .before .before .before .before .before .search .ensures) .2
 
 same-length-8 : tie.Need-same-length-8 Inv-loop μ-loop
 same-length-8 c =
@@ -160,7 +166,7 @@ returns-2 c =
     let at-write-formula = c .before .before .before .before .before .before .before .before .before .before .before .before in
     let at-loop = at-write-formula .before .before in
     standing-spent (at-loop .loop .inv) (at-write-formula .write-formula .ensures (at-loop .loop .inv .ready .design) (at-loop .loop .inv .ready
-        .accepted)) (c .before .before .before .before .before .before .before .search .ensures) (c .enum-told2 .given .1)
+    .accepted)) (c .before .before .before .before .before .before .before .search .ensures) (c .enum-told2 .given .1)
 
 enum-told-3 : tie.Need-enum-told-3 Inv-loop μ-loop
 enum-told-3 c = search needs
@@ -171,7 +177,7 @@ same-length-9 c =
     let at-write-formula = at-search .before .before .before .before .before in
     let at-loop = at-write-formula .before .before in
     kept (at-loop .loop .inv) (at-write-formula .write-formula .ensures (at-loop .loop .inv .ready .design) (at-loop .loop .inv .ready .accepted))
-        (at-search .search .ensures) .0
+    (at-search .search .ensures) .0
 
 same-length-10 : tie.Need-same-length-10 Inv-loop μ-loop
 same-length-10 c =
@@ -179,7 +185,7 @@ same-length-10 c =
     let at-write-formula = at-search .before .before .before .before .before in
     let at-loop = at-write-formula .before .before in
     kept (at-loop .loop .inv) (at-write-formula .write-formula .ensures (at-loop .loop .inv .ready .design) (at-loop .loop .inv .ready .accepted))
-        (at-search .search .ensures) .1
+    (at-search .search .ensures) .1
 
 same-length-11 : tie.Need-same-length-11 Inv-loop μ-loop
 same-length-11 c =
@@ -187,7 +193,7 @@ same-length-11 c =
     let at-write-formula = at-search .before .before .before .before .before in
     let at-loop = at-write-formula .before .before in
     kept (at-loop .loop .inv) (at-write-formula .write-formula .ensures (at-loop .loop .inv .ready .design) (at-loop .loop .inv .ready .accepted))
-        (at-search .search .ensures) .2
+    (at-search .search .ensures) .2
 
 same-length-12 : tie.Need-same-length-12 Inv-loop μ-loop
 same-length-12 c =
@@ -200,7 +206,7 @@ returns-3 c =
     let at-write-formula = at-search .before .before .before .before .before in
     let at-loop = at-write-formula .before .before in
     standing-clean (at-loop .loop .inv) (at-write-formula .write-formula .ensures (at-loop .loop .inv .ready .design) (at-loop .loop .inv .ready
-        .accepted)) (at-search .search .ensures) (c .before .enum-told3 .given .1) (c .if1 .taken)
+    .accepted)) (at-search .search .ensures) (c .before .enum-told3 .given .1) (c .if1 .taken)
 
 add-i : tie.Need-add-i Inv-loop μ-loop
 add-i c = omega arith
@@ -214,7 +220,7 @@ loop-again c =
     let at-write-formula = at-search .before .before .before .before .before in
     let at-loop = at-write-formula .before .before in
     standing-next (at-loop .loop .inv) (at-write-formula .write-formula .ensures (at-loop .loop .inv .ready .design) (at-loop .loop .inv .ready
-        .accepted)) (at-search .search .ensures) (c .before .enum-told3 .given .1) (c .if1 .left)
+    .accepted)) (at-search .search .ensures) (c .before .enum-told3 .given .1) (c .if1 .left)
 
 pub judge-spec : {M : Type 1} → statement M
 judge-spec =
