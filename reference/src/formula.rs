@@ -3,9 +3,8 @@
 use crate::design::{
     refusal, Boolean, Cell, CellKind, Design, Integer, Kind, Mover, Refusal, Statement,
 };
-use crate::step::check_property;
+use crate::query::Query;
 
-pub const MAX_BOUND: u8 = 100;
 const TRUE: i32 = 1;
 const FALSE: i32 = -1;
 
@@ -81,21 +80,20 @@ impl Sink for Writer<'_> {
 }
 
 /// SIZE: 13, 14.
-pub fn size(design: &Design, property: u8, bound: u8) -> Result<Size, Refusal> {
-    check_bound(property, bound)?;
-    Ok(Formula::new(design, property, bound).size())
+pub fn size(query: Query<Design>, bound: u8) -> Result<Size, Refusal> {
+    query.check_bound(bound as u64)?;
+    Ok(Formula::new(query, bound).size())
 }
 
 /// ENCODE: 13, 14, 15, 16. It answers the number of words written.
 pub fn encode(
-    design: &Design,
-    property: u8,
+    query: Query<Design>,
     bound: u8,
     part: u64,
     clauses: &mut [i32],
 ) -> Result<u64, Refusal> {
-    check_bound(property, bound)?;
-    let formula = Formula::new(design, property, bound);
+    query.check_bound(bound as u64)?;
+    let formula = Formula::new(query, bound);
     if part > formula.last_part() {
         return Err(refusal(15, 0));
     }
@@ -108,14 +106,13 @@ pub fn encode(
 
 /// DECODE: 13, 14, 16, 18. It writes the one mover flagged in each frame.
 pub fn decode(
-    design: &Design,
-    property: u8,
+    query: Query<Design>,
     bound: u8,
     values: &[u8],
     choices: &mut [u8],
 ) -> Result<(), Refusal> {
-    check_bound(property, bound)?;
-    let formula = Formula::new(design, property, bound);
+    query.check_bound(bound as u64)?;
+    let formula = Formula::new(query, bound);
     if (values.len() as u64) < formula.variables() || choices.len() < bound as usize {
         return Err(refusal(16, 0));
     }
@@ -124,20 +121,10 @@ pub fn decode(
     Ok(())
 }
 
-pub fn check_bound(property: u8, bound: u8) -> Result<(), Refusal> {
-    check_property(property)?;
-    if bound > MAX_BOUND {
-        Err(refusal(14, 0))
-    } else {
-        Ok(())
-    }
-}
-
-/// The formula of one design, property and bound. Every frame has the same
+/// The formula of one query and bound. Every frame has the same
 /// shape, so the gates of one frame are counted once.
 pub struct Formula<'a> {
-    design: &'a Design,
-    property: u8,
+    query: Query<'a, Design>,
     bound: u64,
     bits: BitPlaces,
     movers: Vec<Mover>,
@@ -148,13 +135,12 @@ pub struct Formula<'a> {
 }
 
 impl<'a> Formula<'a> {
-    pub fn new(design: &'a Design, property: u8, bound: u8) -> Formula<'a> {
+    pub fn new(query: Query<'a, Design>, bound: u8) -> Formula<'a> {
         let mut formula = Formula {
-            design,
-            property,
+            query,
             bound: bound as u64,
-            bits: BitPlaces::new(design),
-            movers: design.movers(),
+            bits: BitPlaces::new(query.design),
+            movers: query.design.movers(),
             property_gates: 0,
             property_count: Count::default(),
             step_gates: 0,
@@ -264,7 +250,7 @@ impl<'a> Formula<'a> {
 
     fn initial_bits(&self) -> Vec<bool> {
         let mut bits = Vec::new();
-        for variable in &self.design.variables {
+        for variable in &self.query.design.variables {
             let width = if variable.kind == Kind::Integer { 16 } else { 1 };
             bits.extend((0..width).map(|i| variable.initial >> i & 1 == 1));
         }
@@ -329,8 +315,8 @@ impl<'a> Formula<'a> {
         let first = self.frame_start(frame) + self.bits.total as i32;
         let state = self.frame_state(frame);
         let mut circuit = Circuit { bits: &self.bits, next: first, sink };
-        let literal = match self.property {
-            0 => circuit.boolean(&state, &self.design.invariant),
+        let literal = match self.query.property {
+            0 => circuit.boolean(&state, &self.query.design.invariant),
             _ => self.write_unreached(&mut circuit, &state),
         };
         (literal, (circuit.next - first) as u64)
@@ -338,8 +324,8 @@ impl<'a> Formula<'a> {
 
     fn write_unreached<S: Sink>(&self, circuit: &mut Circuit<S>, state: &[i32]) -> i32 {
         let mut chain = TRUE;
-        for cell in self.design.cells.iter().filter(|c| c.kind == CellKind::Invalid) {
-            let reached = circuit.at_place(self.design, state, cell);
+        for cell in self.query.design.cells.iter().filter(|c| c.kind == CellKind::Invalid) {
+            let reached = circuit.at_place(self.query.design, state, cell);
             chain = circuit.and(chain, -reached);
         }
         chain
@@ -350,8 +336,11 @@ impl<'a> Formula<'a> {
         let first = self.first_flag(frame) + self.movers.len() as i32;
         let state = self.frame_state(frame);
         let mut circuit = Circuit { bits: &self.bits, next: first, sink };
-        let results =
-            self.movers.iter().map(|mover| circuit.mover(self.design, &state, *mover)).collect();
+        let results = self
+            .movers
+            .iter()
+            .map(|mover| circuit.mover(self.query.design, &state, *mover))
+            .collect();
         (results, (circuit.next - first) as u64)
     }
 

@@ -4,9 +4,10 @@
 use crate::design::{self, Refusal};
 use crate::formula::{self, Size};
 use crate::programs;
+use crate::query::Query;
 use crate::search::{self, Solved};
 use crate::step::{self, State, Stepped};
-use crate::verdict::{self, Verdict};
+use crate::verdict::{self, Lent, Verdict};
 
 /// What a call answers.
 #[derive(Clone, Debug, PartialEq, Eq)]
@@ -28,7 +29,7 @@ impl<T> From<Result<T, Refusal>> for Answer<T> {
 
 /// One method for each operation; a set that lacks one keeps its default.
 /// Mutable slices are lent memory: afterwards they hold what the call left.
-#[allow(unused_variables, clippy::too_many_arguments)]
+#[allow(unused_variables)]
 pub trait Operations {
     fn check(&mut self, design: &[u8]) -> Answer<()> {
         Answer::Missing
@@ -42,24 +43,23 @@ pub trait Operations {
         Answer::Missing
     }
 
-    fn holds(&mut self, design: &[u8], state: &State, property: u8) -> Answer<bool> {
+    fn holds(&mut self, query: Query<[u8]>, state: &State) -> Answer<bool> {
         Answer::Missing
     }
 
     /// The first breaking step, or none.
-    fn replay(&mut self, design: &[u8], property: u8, choices: &[u8]) -> Answer<Option<u64>> {
+    fn replay(&mut self, query: Query<[u8]>, choices: &[u8]) -> Answer<Option<u64>> {
         Answer::Missing
     }
 
-    fn size(&mut self, design: &[u8], property: u8, bound: u8) -> Answer<Size> {
+    fn size(&mut self, query: Query<[u8]>, bound: u8) -> Answer<Size> {
         Answer::Missing
     }
 
     /// The number of words written.
     fn encode(
         &mut self,
-        design: &[u8],
-        property: u8,
+        query: Query<[u8]>,
         bound: u8,
         part: u64,
         clauses: &mut [i32],
@@ -81,8 +81,7 @@ pub trait Operations {
     /// Writes `bound` choices.
     fn decode(
         &mut self,
-        design: &[u8],
-        property: u8,
+        query: Query<[u8]>,
         bound: u8,
         values: &[u8],
         choices: &mut [u8],
@@ -92,14 +91,10 @@ pub trait Operations {
 
     fn verdict(
         &mut self,
-        design: &[u8],
-        property: u8,
+        query: Query<[u8]>,
         bound: u8,
         budget: u64,
-        clauses: &mut [i32],
-        values: &mut [u8],
-        trail: &mut [u32],
-        choices: &mut [u8],
+        lent: Lent,
     ) -> Answer<Verdict> {
         Answer::Missing
     }
@@ -127,28 +122,26 @@ impl Operations for Reference {
         design::check(design).and_then(|d| step::step(&d, state, choice)).into()
     }
 
-    fn holds(&mut self, design: &[u8], state: &State, property: u8) -> Answer<bool> {
-        design::check(design).and_then(|d| step::holds(&d, state, property)).into()
+    fn holds(&mut self, query: Query<[u8]>, state: &State) -> Answer<bool> {
+        query.checked(|q| step::holds(q, state)).into()
     }
 
-    fn replay(&mut self, design: &[u8], property: u8, choices: &[u8]) -> Answer<Option<u64>> {
-        design::check(design).and_then(|d| step::replay(&d, property, choices)).into()
+    fn replay(&mut self, query: Query<[u8]>, choices: &[u8]) -> Answer<Option<u64>> {
+        query.checked(|q| step::replay(q, choices)).into()
     }
 
-    fn size(&mut self, design: &[u8], property: u8, bound: u8) -> Answer<Size> {
-        design::check(design).and_then(|d| formula::size(&d, property, bound)).into()
+    fn size(&mut self, query: Query<[u8]>, bound: u8) -> Answer<Size> {
+        query.checked(|q| formula::size(q, bound)).into()
     }
 
     fn encode(
         &mut self,
-        design: &[u8],
-        property: u8,
+        query: Query<[u8]>,
         bound: u8,
         part: u64,
         clauses: &mut [i32],
     ) -> Answer<u64> {
-        let encode = |d| formula::encode(&d, property, bound, part, clauses);
-        design::check(design).and_then(encode).into()
+        query.checked(|q| formula::encode(q, bound, part, clauses)).into()
     }
 
     fn solve(
@@ -164,30 +157,22 @@ impl Operations for Reference {
 
     fn decode(
         &mut self,
-        design: &[u8],
-        property: u8,
+        query: Query<[u8]>,
         bound: u8,
         values: &[u8],
         choices: &mut [u8],
     ) -> Answer<()> {
-        let decode = |d| formula::decode(&d, property, bound, values, choices);
-        design::check(design).and_then(decode).into()
+        query.checked(|q| formula::decode(q, bound, values, choices)).into()
     }
 
     fn verdict(
         &mut self,
-        design: &[u8],
-        property: u8,
+        query: Query<[u8]>,
         bound: u8,
         budget: u64,
-        clauses: &mut [i32],
-        values: &mut [u8],
-        trail: &mut [u32],
-        choices: &mut [u8],
+        lent: Lent,
     ) -> Answer<Verdict> {
-        let lent = verdict::Lent { clauses, values, trail, choices };
-        let solve = |d| verdict::verdict(&d, property, bound, budget, lent);
-        design::check(design).and_then(solve).into()
+        query.checked(|q| verdict::verdict(q, bound, budget, lent)).into()
     }
 
     fn trace(&mut self, input: &[u8]) -> Answer<Vec<u8>> {

@@ -1,7 +1,8 @@
 //! What the two printing programs of document 01 write, as bytes.
 
-use crate::design::{check, Design, Refusal};
-use crate::formula::{check_bound, Formula, Sink};
+use crate::design::{Design, Refusal};
+use crate::formula::{Formula, Sink};
+use crate::query::Query;
 use crate::step::{check_replay, property_holds, run, Stepped};
 
 const MAX_PART_WORDS: u64 = 16_384;
@@ -10,10 +11,10 @@ const DESIGN_BYTES_READ: usize = 16_385;
 
 /// The Replay program. Input: property byte, count byte, choices, design.
 pub fn replay_output(input: &[u8]) -> Vec<u8> {
-    let Some((property, choices, design)) = split_replay(input) else {
+    let Some((query, choices)) = split_replay(input) else {
         return refused(Refusal { number: 1, place: 0 });
     };
-    print_replay(property, choices, design).unwrap_or_else(refused)
+    query.checked(|query| print_replay(query, choices)).unwrap_or_else(refused)
 }
 
 /// The clause-printing program. Input: property byte, bound byte, design.
@@ -21,7 +22,8 @@ pub fn clauses_output(input: &[u8]) -> Vec<u8> {
     let [property, bound, design @ ..] = input else {
         return refused(Refusal { number: 1, place: 0 });
     };
-    print_clauses(*property, *bound, read_design(design)).unwrap_or_else(refused)
+    let query = Query::new(read_design(design), *property);
+    query.checked(|query| print_clauses(query, *bound)).unwrap_or_else(refused)
 }
 
 fn refused(refusal: Refusal) -> Vec<u8> {
@@ -32,26 +34,25 @@ fn read_design(bytes: &[u8]) -> &[u8] {
     &bytes[..bytes.len().min(DESIGN_BYTES_READ)]
 }
 
-fn split_replay(input: &[u8]) -> Option<(u8, &[u8], &[u8])> {
+fn split_replay(input: &[u8]) -> Option<(Query<'_, [u8]>, &[u8])> {
     let [property, count, rest @ ..] = input else {
         return None;
     };
     let (choices, design) = rest.split_at_checked(*count as usize)?;
-    Some((*property, choices, read_design(design)))
+    Some((Query::new(read_design(design), *property), choices))
 }
 
-fn print_replay(property: u8, choices: &[u8], file: &[u8]) -> Result<Vec<u8>, Refusal> {
-    let design = check(file)?;
-    check_replay(&design, property, choices)?;
+fn print_replay(query: Query<Design>, choices: &[u8]) -> Result<Vec<u8>, Refusal> {
+    check_replay(query, choices)?;
     let mut out = String::new();
     let mut broken = None;
-    for (i, stepped) in run(&design, choices).iter().enumerate() {
-        let holds = property_holds(&design, &stepped.state, property);
+    for (i, stepped) in run(query.design, choices).iter().enumerate() {
+        let holds = property_holds(query, &stepped.state);
         if !holds && broken.is_none() {
             broken = Some(i);
         }
         let mover = i.checked_sub(1).map(|before| choices[before]);
-        out += &state_line(&design, i, mover, stepped, holds);
+        out += &state_line(query.design, i, mover, stepped, holds);
     }
     match broken {
         Some(i) => out += &format!("broken at {i}\n"),
@@ -91,10 +92,9 @@ impl Sink for Lines {
     }
 }
 
-fn print_clauses(property: u8, bound: u8, file: &[u8]) -> Result<Vec<u8>, Refusal> {
-    let design = check(file)?;
-    check_bound(property, bound)?;
-    let formula = Formula::new(&design, property, bound);
+fn print_clauses(query: Query<Design>, bound: u8) -> Result<Vec<u8>, Refusal> {
+    query.check_bound(bound as u64)?;
+    let formula = Formula::new(query, bound);
     let too_long = |part| formula.part_count(part).words > MAX_PART_WORDS;
     if (0..=formula.last_part()).any(too_long) {
         return Err(Refusal { number: 16, place: 0 });

@@ -4,9 +4,10 @@
 use crate::design::Refusal;
 use crate::formula::Size;
 use crate::operations::{Answer, Operations};
+use crate::query::Query;
 use crate::search::Outcome;
 use crate::step::State;
-use crate::verdict::Finding;
+use crate::verdict::{Finding, Lent};
 use std::fmt::Display;
 use std::io::{self, BufRead, Write};
 use std::str::FromStr;
@@ -81,7 +82,7 @@ fn holds(
     s: &str,
     property: &str,
 ) -> Option<String> {
-    let answer = operations.holds(&bytes(d)?, &state(v, s)?, number(property)?);
+    let answer = operations.holds(query(&bytes(d)?, property)?, &state(v, s)?);
     finish(answer, |holds| format!("ok {}", holds as u8))
 }
 
@@ -91,7 +92,7 @@ fn replay(
     property: &str,
     choices: &str,
 ) -> Option<String> {
-    let answer = operations.replay(&bytes(d)?, number(property)?, &list(choices)?);
+    let answer = operations.replay(query(&bytes(d)?, property)?, &list(choices)?);
     finish(answer, |step| match step {
         Some(i) => format!("ok {i}"),
         None => "ok none".to_string(),
@@ -99,7 +100,7 @@ fn replay(
 }
 
 fn size(operations: &mut impl Operations, d: &str, property: &str, bound: &str) -> Option<String> {
-    let answer = operations.size(&bytes(d)?, number(property)?, number(bound)?);
+    let answer = operations.size(query(&bytes(d)?, property)?, number(bound)?);
     finish(answer, |size| size_text(&size))
 }
 
@@ -112,13 +113,9 @@ fn encode(operations: &mut impl Operations, d: &str, rest: &[&str]) -> Option<St
         return None;
     };
     let mut clauses: Vec<i32> = lent(length)?;
-    let answer = operations.encode(
-        &bytes(d)?,
-        number(property)?,
-        number(bound)?,
-        number(part)?,
-        &mut clauses,
-    );
+    let design = bytes(d)?;
+    let query = query(&design, property)?;
+    let answer = operations.encode(query, number(bound)?, number(part)?, &mut clauses);
     let memory = memory_text(&[hash(&clauses)]);
     finish_with(answer, &memory, |count| {
         format!("ok {count} {}", list_text(front(&clauses, count)))
@@ -150,8 +147,9 @@ fn decode(operations: &mut impl Operations, d: &str, rest: &[&str]) -> Option<St
     };
     let bound: u8 = number(bound)?;
     let mut choices: Vec<u8> = lent(length)?;
-    let property = number(property)?;
-    let answer = operations.decode(&bytes(d)?, property, bound, &list(values)?, &mut choices);
+    let design = bytes(d)?;
+    let query = query(&design, property)?;
+    let answer = operations.decode(query, bound, &list(values)?, &mut choices);
     let memory = memory_text(&[hash(&choices)]);
     finish_with(answer, &memory, |()| format!("ok {}", list_text(front(&choices, bound as u64))))
 }
@@ -167,16 +165,15 @@ fn verdict(operations: &mut impl Operations, d: &str, rest: &[&str]) -> Option<S
     let mut values: Vec<u8> = lent(values)?;
     let mut trail: Vec<u32> = lent(trail)?;
     let mut choices: Vec<u8> = lent(choices)?;
-    let answer = operations.verdict(
-        &bytes(d)?,
-        number(property)?,
-        number(bound)?,
-        number(budget)?,
-        &mut clauses,
-        &mut values,
-        &mut trail,
-        &mut choices,
-    );
+    let design = bytes(d)?;
+    let query = query(&design, property)?;
+    let lent = Lent {
+        clauses: &mut clauses,
+        values: &mut values,
+        trail: &mut trail,
+        choices: &mut choices,
+    };
+    let answer = operations.verdict(query, number(bound)?, number(budget)?, lent);
     let hashes = [hash(&clauses), hash(&values), hash(&trail), hash(&choices)];
     finish_with(answer, &memory_text(&hashes), |verdict| match verdict.finding {
         Finding::Violated(step) => {
@@ -286,6 +283,10 @@ fn list<T: FromStr>(text: &str) -> Option<Vec<T>> {
         return Some(Vec::new());
     }
     text.split(',').map(number).collect()
+}
+
+fn query<'a>(design: &'a [u8], property: &str) -> Option<Query<'a, [u8]>> {
+    Some(Query::new(design, number(property)?))
 }
 
 fn state(values: &str, statuses: &str) -> Option<State> {

@@ -3,8 +3,7 @@
 use crate::design::{
     refusal, Boolean, Cell, CellKind, Design, Integer, Kind, Mover, Refusal, Statement,
 };
-
-pub const MAX_CHOICES: usize = 100;
+use crate::query::Query;
 
 /// The lent form of a state; entries that the design does not use are 0.
 #[derive(Clone, Copy, Debug, PartialEq, Eq, Hash)]
@@ -39,27 +38,24 @@ pub fn step(design: &Design, state: &State, choice: u64) -> Result<Stepped, Refu
 }
 
 /// HOLDS: 11 for the state, then 13 for the property.
-pub fn holds(design: &Design, state: &State, property: u8) -> Result<bool, Refusal> {
-    check_state(design, state)?;
-    check_property(property)?;
-    Ok(property_holds(design, state, property))
+pub fn holds(query: Query<Design>, state: &State) -> Result<bool, Refusal> {
+    check_state(query.design, state)?;
+    query.check_property()?;
+    Ok(property_holds(query, state))
 }
 
 /// REPLAY: the first breaking step, or none.
-pub fn replay(design: &Design, property: u8, choices: &[u8]) -> Result<Option<u64>, Refusal> {
-    check_replay(design, property, choices)?;
-    let states = run(design, choices);
-    let broken = states.iter().position(|s| !property_holds(design, &s.state, property));
+pub fn replay(query: Query<Design>, choices: &[u8]) -> Result<Option<u64>, Refusal> {
+    check_replay(query, choices)?;
+    let states = run(query.design, choices);
+    let broken = states.iter().position(|s| !property_holds(query, &s.state));
     Ok(broken.map(|i| i as u64))
 }
 
 /// The refusals of REPLAY, in its order: 13, 14, 12.
-pub fn check_replay(design: &Design, property: u8, choices: &[u8]) -> Result<(), Refusal> {
-    check_property(property)?;
-    if choices.len() > MAX_CHOICES {
-        return Err(refusal(14, 0));
-    }
-    let movers = design.movers().len();
+pub fn check_replay(query: Query<Design>, choices: &[u8]) -> Result<(), Refusal> {
+    query.check_bound(choices.len() as u64)?;
+    let movers = query.design.movers().len();
     match choices.iter().position(|&c| c as usize >= movers) {
         Some(i) => Err(refusal(12, i)),
         None => Ok(()),
@@ -75,14 +71,6 @@ pub fn run(design: &Design, choices: &[u8]) -> Vec<Stepped> {
         states.push(moved(design, &last, movers[choice as usize]));
     }
     states
-}
-
-pub fn check_property(property: u8) -> Result<(), Refusal> {
-    if property > 1 {
-        Err(refusal(13, 0))
-    } else {
-        Ok(())
-    }
 }
 
 fn check_state(design: &Design, state: &State) -> Result<(), Refusal> {
@@ -108,8 +96,9 @@ fn status_fits(design: &Design, index: usize, status: u8) -> bool {
     }
 }
 
-pub fn property_holds(design: &Design, state: &State, property: u8) -> bool {
-    if property == 0 {
+pub fn property_holds(query: Query<Design>, state: &State) -> bool {
+    let design = query.design;
+    if query.property == 0 {
         return boolean(state, &design.invariant);
     }
     let reached = |cell: &Cell| cell.kind == CellKind::Invalid && at_place(design, state, cell);

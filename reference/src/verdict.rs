@@ -1,7 +1,8 @@
 //! VERDICT of document 01: bounds in order with one budget, to the first SAT.
 
 use crate::design::{refusal, Design, Refusal};
-use crate::formula::{self, check_bound, Formula};
+use crate::formula::{self, Formula};
+use crate::query::Query;
 use crate::search::{solve, Outcome, Solved};
 
 #[derive(Clone, Copy, Debug, PartialEq, Eq)]
@@ -29,24 +30,23 @@ pub struct Lent<'a> {
 
 /// VERDICT: 13, 14, 16, then the bounds from 0.
 pub fn verdict(
-    design: &Design,
-    property: u8,
+    query: Query<Design>,
     bound: u8,
     budget: u64,
     mut lent: Lent,
 ) -> Result<Verdict, Refusal> {
-    check_bound(property, bound)?;
-    check_memory(&Formula::new(design, property, bound), &lent, bound)?;
+    query.check_bound(bound as u64)?;
+    check_memory(&Formula::new(query, bound), &lent, bound)?;
     let mut tries = 0;
     for k in 0..=bound {
-        let formula = Formula::new(design, property, k);
+        let formula = Formula::new(query, k);
         let solved = solve_bound(&formula, budget - tries, &mut lent)?;
         tries += solved.tries;
         match solved.outcome {
             Outcome::Unsat => {}
             Outcome::Spent => return Ok(Verdict { finding: Finding::Spent(k as u64), tries }),
             Outcome::Sat => {
-                formula::decode(design, property, k, lent.values, lent.choices)?;
+                formula::decode(query, k, lent.values, lent.choices)?;
                 return Ok(Verdict { finding: Finding::Violated(k as u64), tries });
             }
         }

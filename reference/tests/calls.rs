@@ -7,6 +7,7 @@ use reference::design::{Design, Kind, Refusal};
 use reference::designs::design_a;
 use reference::formula::{decode, encode, size};
 use reference::operations::{Answer, Operations, Reference};
+use reference::query::Query;
 use reference::search::solve;
 use reference::step::{holds, replay, start, step, State};
 use reference::verdict::{verdict, Lent};
@@ -52,14 +53,14 @@ fn state_11_then_choice_12() {
     ] {
         assert_eq!(step(&design, &state(changes), 0), refused(11, place));
         assert_eq!(step(&design, &state(changes), 9), refused(11, place));
-        assert_eq!(holds(&design, &state(changes), 2), refused(11, place));
+        assert_eq!(holds(Query::new(&design, 2), &state(changes)), refused(11, place));
     }
     assert!(step(&design, &state(&[(0, 1), (1, -32_768), (32, 1)]), 2).is_ok());
     for choice in [3, 64, 256, u64::MAX] {
         assert_eq!(step(&design, &state(&[]), choice), refused(12, 0));
     }
-    assert_eq!(holds(&design, &state(&[]), 2), refused(13, 0));
-    assert_eq!(holds(&design, &state(&[]), 1), Ok(true));
+    assert_eq!(holds(Query::new(&design, 2), &state(&[])), refused(13, 0));
+    assert_eq!(holds(Query::new(&design, 1), &state(&[])), Ok(true));
 }
 
 #[test]
@@ -95,21 +96,21 @@ fn self_loop_is_not_idle() {
 #[test]
 fn replay_13_14_12() {
     let design = design_a();
-    assert_eq!(replay(&design, 2, &[9; 101]), refused(13, 0));
-    assert_eq!(replay(&design, 1, &[9; 101]), refused(14, 0));
-    assert_eq!(replay(&design, 0, &[0, 3, 9]), refused(12, 1));
-    assert_eq!(replay(&design, 0, &[0; 100]), Ok(None));
-    assert_eq!(replay(&design, 0, &[]), Ok(None));
+    assert_eq!(replay(Query::new(&design, 2), &[9; 101]), refused(13, 0));
+    assert_eq!(replay(Query::new(&design, 1), &[9; 101]), refused(14, 0));
+    assert_eq!(replay(Query::new(&design, 0), &[0, 3, 9]), refused(12, 1));
+    assert_eq!(replay(Query::new(&design, 0), &[0; 100]), Ok(None));
+    assert_eq!(replay(Query::new(&design, 0), &[]), Ok(None));
 }
 
 #[test]
 fn size_and_encode_13_14_15_16() {
     let design = design_a();
-    assert_eq!(size(&design, 2, 101), refused(13, 0));
-    assert_eq!(size(&design, 0, 101), refused(14, 0));
+    assert_eq!(size(Query::new(&design, 2), 101), refused(13, 0));
+    assert_eq!(size(Query::new(&design, 0), 101), refused(14, 0));
     let mut words = [5; 45];
     let mut call = |property, bound, part, length| {
-        let answer = encode(&design, property, bound, part, &mut words[..length]);
+        let answer = encode(Query::new(&design, property), bound, part, &mut words[..length]);
         assert!(answer.is_ok() || words == [5; 45]);
         answer
     };
@@ -163,7 +164,8 @@ fn decode_13_14_16_18() {
         }
         let mut choices = [9; 4];
         let (length, lent) = lengths;
-        let answer = decode(&design, property, bound, &values[..length], &mut choices[..lent]);
+        let answer =
+            decode(Query::new(&design, property), bound, &values[..length], &mut choices[..lent]);
         assert!(answer.is_ok() || choices == [9; 4]);
         answer.map(|()| choices.to_vec())
     };
@@ -190,9 +192,9 @@ fn verdict_13_14_16() {
             trail: &mut vec![0; lengths[2]],
             choices: &mut vec![0; lengths[3]],
         };
-        verdict(&design, property, bound, 0, lent).map(|v| v.tries)
+        verdict(Query::new(&design, property), bound, 0, lent).map(|v| v.tries)
     };
-    let words = size(&design, 0, 1).unwrap().words as usize;
+    let words = size(Query::new(&design, 0), 1).unwrap().words as usize;
     let full = [words, 577, 577, 1];
     assert_eq!(call(2, 101, [0; 4]), refused(13, 0));
     assert_eq!(call(0, 101, [0; 4]), refused(14, 0));
@@ -218,7 +220,7 @@ fn verdict_leaves_the_last_formula() {
             trail: &mut trail,
             choices: &mut choices,
         };
-        verdict(&design, 0, 4, budget, lent).unwrap();
+        verdict(Query::new(&design, 0), 4, budget, lent).unwrap();
         let words = formula_words(&design, 0, last);
         assert_eq!(clauses[..words.len()], words);
         if last == 3 {
@@ -245,13 +247,14 @@ fn check_comes_first_in_every_call() {
     assert_eq!(reference.check(&file), Answer::Refused(bad));
     assert_eq!(reference.start(&file), Answer::Refused(bad));
     assert_eq!(reference.step(&file, &none, 99), Answer::Refused(bad));
-    assert_eq!(reference.holds(&file, &none, 9), Answer::Refused(bad));
-    assert_eq!(reference.replay(&file, 9, &[9; 200]), Answer::Refused(bad));
-    assert_eq!(reference.size(&file, 9, 255), Answer::Refused(bad));
-    assert_eq!(reference.encode(&file, 9, 255, 999, &mut []), Answer::Refused(bad));
-    assert_eq!(reference.decode(&file, 9, 255, &[], &mut []), Answer::Refused(bad));
-    let answer = reference.verdict(&file, 9, 255, 0, &mut [], &mut [], &mut [], &mut []);
-    assert_eq!(answer, Answer::Refused(bad));
+    let query = Query::new(&file[..], 9);
+    assert_eq!(reference.holds(query, &none), Answer::Refused(bad));
+    assert_eq!(reference.replay(query, &[9; 200]), Answer::Refused(bad));
+    assert_eq!(reference.size(query, 255), Answer::Refused(bad));
+    assert_eq!(reference.encode(query, 255, 999, &mut []), Answer::Refused(bad));
+    assert_eq!(reference.decode(query, 255, &[], &mut []), Answer::Refused(bad));
+    let lent = Lent { clauses: &mut [], values: &mut [], trail: &mut [], choices: &mut [] };
+    assert_eq!(reference.verdict(query, 255, 0, lent), Answer::Refused(bad));
 }
 
 #[test]

@@ -8,6 +8,7 @@ use reference::designs::design_a;
 use reference::formula::{decode, size, Size};
 use reference::models::{models, QuickSearch};
 use reference::programs::replay_output;
+use reference::query::Query;
 use reference::search::Outcome;
 use reference::step::{replay, start, step};
 use reference::verdict::{Finding, Verdict};
@@ -27,7 +28,7 @@ fn file_has_the_given_bytes() {
 
 #[test]
 fn sizes() {
-    let answer = |bound| size(&design_a(), 0, bound).unwrap();
+    let answer = |bound| size(Query::new(&design_a(), 0), bound).unwrap();
     let common = |n, clauses, words| Size {
         state_bits: 21,
         property_gates: 80,
@@ -48,7 +49,7 @@ fn sizes() {
 fn written_formula_has_the_counted_size() {
     for property in [0, 1] {
         for bound in 0..=5 {
-            let size = size(&design_a(), property, bound).unwrap();
+            let size = size(Query::new(&design_a(), property), bound).unwrap();
             let words = formula_words(&design_a(), property, bound);
             assert_eq!(words.len() as u64, size.words);
             assert_eq!(words.iter().filter(|&&w| w == 0).count() as u64, size.clauses);
@@ -60,8 +61,8 @@ fn written_formula_has_the_counted_size() {
 
 #[test]
 fn lists_that_break() {
-    assert_eq!(replay(&design_a(), 0, &[2, 0, 1]), Ok(Some(3)));
-    assert_eq!(replay(&design_a(), 0, &[0, 1, 2]), Ok(None));
+    assert_eq!(replay(Query::new(&design_a(), 0), &[2, 0, 1]), Ok(Some(3)));
+    assert_eq!(replay(Query::new(&design_a(), 0), &[0, 1, 2]), Ok(None));
     assert_eq!(breaking_lists(&design_a(), 0, 3), [[2, 0, 1]]);
 }
 
@@ -83,7 +84,7 @@ fn models_are_the_breaking_lists() {
 fn decoded_lists(models: &[Vec<u8>], bound: u8) -> Vec<Vec<u8>> {
     let decoded = |values: &Vec<u8>| {
         let mut choices = vec![255; bound as usize];
-        decode(&design_a(), 0, bound, values, &mut choices).unwrap();
+        decode(Query::new(&design_a(), 0), bound, values, &mut choices).unwrap();
         choices
     };
     models.iter().map(decoded).collect()

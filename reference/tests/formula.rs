@@ -9,6 +9,7 @@ use reference::designs::{design_a, money_changer, Property, Version};
 use reference::formula::{decode, size, Formula};
 use reference::generator::trees::{chain_design, design, tiny_plan, Plan};
 use reference::models::models;
+use reference::query::Query;
 use reference::random::Random;
 use reference::verdict::Finding;
 use std::collections::BTreeSet;
@@ -26,7 +27,7 @@ fn small_design(random: &mut Random) -> Design {
 
 fn decoded(design: &Design, property: u8, bound: u8, values: &[u8]) -> Vec<u8> {
     let mut choices = vec![0; bound as usize];
-    decode(design, property, bound, values, &mut choices).unwrap();
+    decode(Query::new(design, property), bound, values, &mut choices).unwrap();
     choices
 }
 
@@ -80,7 +81,7 @@ fn arithmetic_at_both_ends() {
             let n = variables(&design, 0, 1);
             let models = models(n, &formula_words(&design, 0, 1));
             assert_eq!(models.len(), 1);
-            let frame = size(&design, 0, 1).unwrap();
+            let frame = size(Query::new(&design, 0), 1).unwrap();
             let next = (n as u64 - frame.state_bits - frame.property_gates) as usize;
             let word = |i: usize| {
                 let bits = &models[0][next + 16 * i..next + 16 * i + 16];
@@ -180,7 +181,7 @@ fn frame_starts_with_property_flags_and_pairs() {
 /// An empty guard is the literal true, and an and with it is still a gate.
 #[test]
 fn nothing_is_folded() {
-    let answer = size(&design_a(), 1, 0).unwrap();
+    let answer = size(Query::new(&design_a(), 1), 0).unwrap();
     assert_eq!(answer.property_gates, 0);
     let enable_and_action = 32 + 1 + 1 + 80 + 21;
     let guarded = 32 + 1 + 80 + 1 + 80 + 21;
@@ -190,17 +191,17 @@ fn nothing_is_folded() {
 #[test]
 fn every_if_has_a_mux_for_every_bit() {
     let mut design = design_a();
-    let before = size(&design, 0, 0).unwrap().step_gates;
+    let before = size(Query::new(&design, 0), 0).unwrap().step_gates;
     let CellKind::Normal { action, .. } = &mut design.cells[0].kind else { panic!() };
     action.push(Statement::If(Boolean::Variable(0), vec![], vec![]));
-    assert_eq!(size(&design, 0, 0).unwrap().step_gates, before + 21);
+    assert_eq!(size(Query::new(&design, 0), 0).unwrap().step_gates, before + 21);
 }
 
 #[test]
 fn property_1_has_34_gates_for_a_plain_invalid_cell() {
     let design = money_changer(Version::Original, Property::Uic1);
     // 32 for equal, 1 for the and, 1 for the chain, twice.
-    assert_eq!(size(&design, 1, 0).unwrap().property_gates, 68);
+    assert_eq!(size(Query::new(&design, 1), 0).unwrap().property_gates, 68);
 }
 
 /// A part is written without the rest: the largest designs need only it.
@@ -216,7 +217,7 @@ fn large_design() {
     *action = lists;
     assert!(file_bytes(&design).len() <= 16_384);
     let design = through_file(&design);
-    let formula = Formula::new(&design, 0, 100);
+    let formula = Formula::new(Query::new(&design, 0), 100);
     assert!(formula.size().words > 1 << 31);
     assert!(formula.variables() < 1 << 31);
     let part = part_words(&design, 0, 100, 100);

@@ -7,6 +7,7 @@ use reference::designs::{money_changer, Property, Version, ALL_PROPERTIES};
 use reference::formula::{decode, size};
 use reference::models::QuickSearch;
 use reference::programs::clauses_output;
+use reference::query::Query;
 use reference::step::{replay, State};
 use support::*;
 
@@ -61,7 +62,7 @@ fn dynamic_constraint() {
 #[test]
 fn sizes() {
     let design = money_changer(Version::Original, Property::Uic1);
-    let answer = size(&design, 0, 1).unwrap();
+    let answer = size(Query::new(&design, 0), 1).unwrap();
     assert_eq!((answer.state_bits, answer.movers), (45, 10));
 }
 
@@ -87,8 +88,8 @@ fn irrational_properties_by_search() {
             assert_eq!(model.is_some(), bound == step);
             let Some(values) = model else { continue };
             let mut choices = vec![0; bound as usize];
-            decode(&design, 0, bound, &values, &mut choices).unwrap();
-            assert_eq!(replay(&design, 0, &choices), Ok(Some(step as u64)));
+            decode(Query::new(&design, 0), bound, &values, &mut choices).unwrap();
+            assert_eq!(replay(Query::new(&design, 0), &choices), Ok(Some(step as u64)));
         }
         assert_eq!(tries, total);
     }

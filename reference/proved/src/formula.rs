@@ -1,50 +1,12 @@
 //! SIZE, ENCODE, DECODE and VERDICT of the proved archive.
 
+use super::entries::{stm_decode, stm_encode, stm_size, stm_verdict};
 use super::{answered, unchanged};
 pub use reference::formula::Size;
 use reference::operations::Answer;
+use reference::query::Query;
 use reference::verdict::Finding;
 pub use reference::verdict::{Lent, Verdict};
-
-extern "C" {
-    fn stm_size(design: *const u8, design_len: usize, property: u8, bound: u8, answer: *mut [u64; 7]) -> u64;
-    fn stm_encode(
-        design: *const u8,
-        design_len: usize,
-        property: u8,
-        bound: u8,
-        part: u64,
-        clauses: *mut i32,
-        clauses_len: usize,
-        answer: *mut [u64; 1],
-    ) -> u64;
-    fn stm_decode(
-        design: *const u8,
-        design_len: usize,
-        property: u8,
-        bound: u8,
-        values: *const u8,
-        values_len: usize,
-        choices: *mut u8,
-        choices_len: usize,
-    ) -> u64;
-    fn stm_verdict(
-        design: *const u8,
-        design_len: usize,
-        property: u8,
-        bound: u8,
-        budget: u64,
-        clauses: *mut i32,
-        clauses_len: usize,
-        values: *mut u8,
-        values_len: usize,
-        trail: *mut u32,
-        trail_len: usize,
-        choices: *mut u8,
-        choices_len: usize,
-        answer: *mut [u64; 3],
-    ) -> u64;
-}
 
 /// What stands in the answer's words before a call.
 const FILLED: u64 = 7;
@@ -55,7 +17,8 @@ fn told<T, const N: usize>(code: u64, words: [u64; N], answer: impl FnOnce([u64;
     answered(code, || answer(words))
 }
 
-pub fn size(design: &[u8], property: u8, bound: u8) -> Answer<Size> {
+pub fn size(query: Query<[u8]>, bound: u8) -> Answer<Size> {
+    let Query { design, property } = query;
     let mut words = [FILLED; 7];
     let code = unsafe { stm_size(design.as_ptr(), design.len(), property, bound, &mut words) };
     told(code, words, |[state_bits, property_gates, movers, step_gates, variables, clauses, words]| Size {
@@ -69,7 +32,8 @@ pub fn size(design: &[u8], property: u8, bound: u8) -> Answer<Size> {
     })
 }
 
-pub fn encode(design: &[u8], property: u8, bound: u8, part: u64, clauses: &mut [i32]) -> Answer<u64> {
+pub fn encode(query: Query<[u8]>, bound: u8, part: u64, clauses: &mut [i32]) -> Answer<u64> {
+    let Query { design, property } = query;
     let mut words = [FILLED; 1];
     let code = unsafe {
         let (at, len) = (clauses.as_mut_ptr(), clauses.len());
@@ -78,7 +42,8 @@ pub fn encode(design: &[u8], property: u8, bound: u8, part: u64, clauses: &mut [
     told(code, words, |[count]| count)
 }
 
-pub fn decode(design: &[u8], property: u8, bound: u8, values: &[u8], choices: &mut [u8]) -> Answer<()> {
+pub fn decode(query: Query<[u8]>, bound: u8, values: &[u8], choices: &mut [u8]) -> Answer<()> {
+    let Query { design, property } = query;
     let code = unsafe {
         let (at, len) = (choices.as_mut_ptr(), choices.len());
         stm_decode(design.as_ptr(), design.len(), property, bound, values.as_ptr(), values.len(), at, len)
@@ -86,7 +51,8 @@ pub fn decode(design: &[u8], property: u8, bound: u8, values: &[u8], choices: &m
     answered(code, || ())
 }
 
-pub fn verdict(design: &[u8], property: u8, bound: u8, budget: u64, lent: Lent) -> Answer<Verdict> {
+pub fn verdict(query: Query<[u8]>, bound: u8, budget: u64, lent: Lent) -> Answer<Verdict> {
+    let Query { design, property } = query;
     let mut words = [FILLED; 3];
     let code = unsafe {
         stm_verdict(

@@ -1,55 +1,18 @@
-//! The operations of the proved archive. Nothing checks these declarations against the Rattle source but the tests.
+//! The operations of the proved archive.
 
+mod entries;
 mod formula;
 pub mod timing;
 
+use entries::{stm_check, stm_holds, stm_replay, stm_solve, stm_start, stm_step};
 use reference::design::Refusal;
 use reference::operations::{Answer, Operations};
+use reference::query::Query;
 use reference::search::{Outcome, Solved};
 use reference::step::{State, Stepped};
 use std::io::{self, Write};
 use std::path::PathBuf;
 use std::process::{Command, Stdio};
-
-extern "C" {
-    fn stm_check(design: *const u8, design_len: usize) -> u64;
-    fn stm_start(design: *const u8, design_len: usize, values: *mut [i16; 32], statuses: *mut [u16; 8]) -> u64;
-    fn stm_step(
-        design: *const u8,
-        design_len: usize,
-        values: *mut [i16; 32],
-        statuses: *mut [u16; 8],
-        choice: u64,
-        idle: *mut [u8; 1],
-    ) -> u64;
-    fn stm_holds(
-        design: *const u8,
-        design_len: usize,
-        values: *const [i16; 32],
-        statuses: *const [u16; 8],
-        property: u8,
-        holds: *mut [u8; 1],
-    ) -> u64;
-    fn stm_replay(
-        design: *const u8,
-        design_len: usize,
-        property: u8,
-        choices: *const u8,
-        choices_len: usize,
-        answer: *mut [u64; 2],
-    ) -> u64;
-    fn stm_solve(
-        n: u64,
-        words: *const i32,
-        words_len: usize,
-        values: *mut u8,
-        values_len: usize,
-        trail: *mut u32,
-        trail_len: usize,
-        budget: u64,
-        answer: *mut [u64; 2],
-    ) -> u64;
-}
 
 /// A refusal must leave lent memory as it was.
 fn unchanged<T: PartialEq + std::fmt::Debug>(code: u64, before: T, after: T) {
@@ -93,11 +56,13 @@ pub fn step(design: &[u8], lent: &mut Lent, choice: u64, idle: &mut [u8; 1]) -> 
     unsafe { stm_step(design.as_ptr(), design.len(), &mut lent.values, &mut lent.statuses, choice, idle) }
 }
 
-pub fn holds(design: &[u8], lent: &Lent, property: u8, holds: &mut [u8; 1]) -> u64 {
+pub fn holds(query: Query<[u8]>, lent: &Lent, holds: &mut [u8; 1]) -> u64 {
+    let Query { design, property } = query;
     unsafe { stm_holds(design.as_ptr(), design.len(), &lent.values, &lent.statuses, property, holds) }
 }
 
-pub fn replay(design: &[u8], property: u8, choices: &[u8], answer: &mut [u64; 2]) -> u64 {
+pub fn replay(query: Query<[u8]>, choices: &[u8], answer: &mut [u64; 2]) -> u64 {
+    let Query { design, property } = query;
     unsafe { stm_replay(design.as_ptr(), design.len(), property, choices.as_ptr(), choices.len(), answer) }
 }
 
@@ -153,16 +118,16 @@ impl Operations for Proved {
         answered(code, || Stepped { state: lent.state(), idle: flag(idle[0]) })
     }
 
-    fn holds(&mut self, design: &[u8], state: &State, property: u8) -> Answer<bool> {
+    fn holds(&mut self, query: Query<[u8]>, state: &State) -> Answer<bool> {
         let mut answer = [7];
-        let code = holds(design, &Lent::of(state), property, &mut answer);
+        let code = holds(query, &Lent::of(state), &mut answer);
         unchanged(code, [7], answer);
         answered(code, || flag(answer[0]))
     }
 
-    fn replay(&mut self, design: &[u8], property: u8, choices: &[u8]) -> Answer<Option<u64>> {
+    fn replay(&mut self, query: Query<[u8]>, choices: &[u8]) -> Answer<Option<u64>> {
         let mut answer = [7; 2];
-        let code = replay(design, property, choices, &mut answer);
+        let code = replay(query, choices, &mut answer);
         unchanged(code, [7; 2], answer);
         answered(code, || match answer {
             [0, 0] => None,
@@ -193,29 +158,19 @@ impl Operations for Proved {
         answered(code, || Solved { outcome: OUTCOMES[answer[0] as usize], tries: answer[1] })
     }
 
-    fn size(&mut self, design: &[u8], property: u8, bound: u8) -> Answer<formula::Size> {
-        formula::size(design, property, bound)
+    fn size(&mut self, query: Query<[u8]>, bound: u8) -> Answer<formula::Size> {
+        formula::size(query, bound)
     }
 
-    fn encode(&mut self, design: &[u8], property: u8, bound: u8, part: u64, clauses: &mut [i32]) -> Answer<u64> {
-        formula::encode(design, property, bound, part, clauses)
+    fn encode(&mut self, query: Query<[u8]>, bound: u8, part: u64, clauses: &mut [i32]) -> Answer<u64> {
+        formula::encode(query, bound, part, clauses)
     }
 
-    fn decode(&mut self, design: &[u8], property: u8, bound: u8, values: &[u8], choices: &mut [u8]) -> Answer<()> {
-        formula::decode(design, property, bound, values, choices)
+    fn decode(&mut self, query: Query<[u8]>, bound: u8, values: &[u8], choices: &mut [u8]) -> Answer<()> {
+        formula::decode(query, bound, values, choices)
     }
 
-    fn verdict(
-        &mut self,
-        design: &[u8],
-        property: u8,
-        bound: u8,
-        budget: u64,
-        clauses: &mut [i32],
-        values: &mut [u8],
-        trail: &mut [u32],
-        choices: &mut [u8],
-    ) -> Answer<formula::Verdict> {
-        formula::verdict(design, property, bound, budget, formula::Lent { clauses, values, trail, choices })
+    fn verdict(&mut self, query: Query<[u8]>, bound: u8, budget: u64, lent: formula::Lent) -> Answer<formula::Verdict> {
+        formula::verdict(query, bound, budget, lent)
     }
 }

@@ -4,6 +4,7 @@ use proved::Proved;
 use reference::designs::design_a;
 use reference::formula::Formula;
 use reference::operations::{Answer, Operations, Reference};
+use reference::query::Query;
 use reference::search::{Outcome, Solved};
 
 struct Solving {
@@ -21,7 +22,7 @@ fn solve(operations: &mut impl Operations, n: u64, words: &[i32], budget: u64) -
 
 fn formula(bound: u8) -> (u64, Vec<i32>) {
     let design = design_a();
-    let formula = Formula::new(&design, 0, bound);
+    let formula = Formula::new(Query::new(&design, 0), bound);
     let mut words = vec![0; formula.size().words as usize];
     let mut at = 0;
     for part in 0..=formula.last_part() {

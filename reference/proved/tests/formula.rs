@@ -6,10 +6,11 @@ use reference::builder::file_bytes;
 use reference::designs::design_a;
 use reference::formula::{Formula, Size};
 use reference::operations::{Answer, Operations};
-use reference::verdict::{Finding, Verdict};
+use reference::query::Query;
+use reference::verdict::{Finding, Lent, Verdict};
 
 fn size(bound: u8) -> Size {
-    match Proved.size(&file_bytes(&design_a()), 0, bound) {
+    match Proved.size(Query::new(&file_bytes(&design_a())[..], 0), bound) {
         Answer::Done(size) => size,
         other => panic!("SIZE answered {other:?}"),
     }
@@ -28,12 +29,13 @@ fn sizes_of_document_01() {
 #[test]
 fn parts_are_the_second_implementations() {
     let (design, bound) = (design_a(), 4);
-    let formula = Formula::new(&design, 0, bound);
+    let formula = Formula::new(Query::new(&design, 0), bound);
     let length = formula.size().words as usize;
+    let file = file_bytes(&design);
     for part in 0..=formula.last_part() {
         let (mut words, mut expected) = (vec![7; length], vec![7; length]);
         let count = formula.write_part(part, &mut expected);
-        let answer = Proved.encode(&file_bytes(&design), 0, bound, part, &mut words);
+        let answer = Proved.encode(Query::new(&file[..], 0), bound, part, &mut words);
         assert_eq!((answer, words), (Answer::Done(count), expected), "part {part}");
     }
 }
@@ -45,10 +47,12 @@ fn verdict_of_document_01() {
     let (mut clauses, mut values, mut trail) = (vec![0; size.words as usize], vec![0; n], vec![0; n]);
     let mut choices = [255; 5];
     let file = file_bytes(&design_a());
-    let answer = Proved.verdict(&file, 0, 5, u64::MAX, &mut clauses, &mut values, &mut trail, &mut choices);
+    let query = Query::new(&file[..], 0);
+    let lent = Lent { clauses: &mut clauses, values: &mut values, trail: &mut trail, choices: &mut choices };
+    let answer = Proved.verdict(query, 5, u64::MAX, lent);
     assert_eq!(answer, Answer::Done(Verdict { finding: Finding::Violated(3), tries: 37 }));
     assert_eq!(choices, [2, 0, 1, 255, 255]);
     let mut decoded = [255; 4];
-    assert_eq!(Proved.decode(&file, 0, 3, &values, &mut decoded), Answer::Done(()));
+    assert_eq!(Proved.decode(query, 3, &values, &mut decoded), Answer::Done(()));
     assert_eq!(decoded, [2, 0, 1, 255]);
 }

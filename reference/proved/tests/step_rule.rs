@@ -3,12 +3,14 @@
 use proved::{holds, replay, start, step, Lent};
 use reference::builder::file_bytes;
 use reference::designs::design_a;
+use reference::query::Query;
 
 const REFUSED_STATUS_0: u64 = 11 + 256 * 32;
 
 #[test]
 fn the_run_of_document_01() {
     let file = file_bytes(&design_a());
+    let query = Query::new(&file[..], 0);
     let mut lent = Lent::FILLED;
     assert_eq!(start(&file, &mut lent), 0);
     assert_eq!(lent, Lent { values: [0; 32], statuses: [0; 8] });
@@ -16,12 +18,12 @@ fn the_run_of_document_01() {
         let (mut idle, mut held) = ([7], [7]);
         assert_eq!(step(&file, &mut lent, choice, &mut idle), 0);
         assert_eq!((lent.values[0], lent.values[1], lent.statuses[0], idle), (external, count, status, [0]));
-        assert_eq!(holds(&file, &lent, 0, &mut held), 0);
+        assert_eq!(holds(query, &lent, &mut held), 0);
         assert_eq!(held, [kept]);
     }
     for (choices, expected) in [([2, 0, 1], [1, 3]), ([0, 1, 2], [0, 0])] {
         let mut answer = [7; 2];
-        assert_eq!(replay(&file, 0, &choices, &mut answer), 0);
+        assert_eq!(replay(query, &choices, &mut answer), 0);
         assert_eq!(answer, expected);
     }
 }
@@ -34,7 +36,7 @@ fn a_status_over_a_byte_is_refused() {
         lent.statuses[0] = status;
         let (before, mut idle, mut held) = (lent, [7], [7]);
         assert_eq!(step(&file, &mut lent, 0, &mut idle), REFUSED_STATUS_0);
-        assert_eq!(holds(&file, &lent, 0, &mut held), REFUSED_STATUS_0);
+        assert_eq!(holds(Query::new(&file[..], 0), &lent, &mut held), REFUSED_STATUS_0);
         assert_eq!((lent, idle, held), (before, [7], [7]));
     }
 }

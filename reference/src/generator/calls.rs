@@ -9,6 +9,7 @@ use crate::builder::file_bytes;
 use crate::design::{Design, Kind, MAX_MOVERS};
 use crate::formula::Formula;
 use crate::protocol::{hex, list_text};
+use crate::query::Query;
 use crate::random::Random;
 use crate::step::State;
 use crate::verdict::{verdict as find_verdict, Lent};
@@ -67,7 +68,7 @@ pub fn encode(random: &mut Random) -> String {
     let words = if property > 1 || bound > 100 || part > bound as u64 + 2 {
         random.between(0, 20) as u64
     } else {
-        Formula::new(&design, property, bound).part_count(part).words
+        Formula::new(Query::new(&design, property), bound).part_count(part).words
     };
     let length = length_near(random, words.min(MAX_PART) as usize);
     format!("encode {} {property} {bound} {part} {length}", hex(&file))
@@ -76,8 +77,9 @@ pub fn encode(random: &mut Random) -> String {
 pub fn decode(random: &mut Random) -> String {
     let (design, file) = design_to_encode(random);
     let property = any_property(random);
-    let bound = affordable_bound(&design, property, random.between(0, 6), |n, _| n <= MAX_VALUES);
-    let mut values = flagged_values(random, &design, property & 1, bound);
+    let query = Query::new(&design, property & 1);
+    let bound = affordable_bound(query, random.between(0, 6), |n, _| n <= MAX_VALUES);
+    let mut values = flagged_values(random, query, bound);
     if random.chance(30) {
         values.resize(length_near(random, values.len()), 255);
     }
@@ -90,9 +92,10 @@ pub fn verdict(random: &mut Random) -> String {
     let (design, file) = small_design(random);
     let property = any_property(random);
     let cheap = |n, words| n * words <= MAX_SEARCH;
-    let bound = affordable_bound(&design, property, random.pick(&[0, 1, 2, 3, 3, 4, 4]), cheap);
-    let size = Formula::new(&design, property & 1, bound).size();
-    let exact = exact_tries(&design, property & 1, bound);
+    let query = Query::new(&design, property & 1);
+    let bound = affordable_bound(query, random.pick(&[0, 1, 2, 3, 3, 4, 4]), cheap);
+    let size = Formula::new(query, bound).size();
+    let exact = exact_tries(query, bound);
     let budget = match exact {
         Some(tries) => budget_near(random, tries),
         None => random.between(0, MAX_TRIES as usize) as u64,
@@ -119,21 +122,20 @@ fn verdict_lengths(random: &mut Random, words: u64, variables: u64, bound: u8) -
 
 /// The greatest bound up to `bound` whose formula is affordable, or 0.
 fn affordable_bound(
-    design: &Design,
-    property: u8,
+    query: Query<Design>,
     bound: usize,
     affordable: impl Fn(u64, u64) -> bool,
 ) -> u8 {
     let fits = |k: &u8| {
-        let size = Formula::new(design, property & 1, *k).size();
+        let size = Formula::new(query, *k).size();
         affordable(size.variables, size.words)
     };
     (0..=bound as u8).rev().find(fits).unwrap_or(0)
 }
 
 /// The tries of VERDICT with no budget set, where they are few.
-pub fn exact_tries(design: &Design, property: u8, bound: u8) -> Option<u64> {
-    let size = Formula::new(design, property, bound).size();
+pub fn exact_tries(query: Query<Design>, bound: u8) -> Option<u64> {
+    let size = Formula::new(query, bound).size();
     let n = size.variables as usize;
     let lent = Lent {
         clauses: &mut vec![0; size.words as usize],
@@ -141,7 +143,7 @@ pub fn exact_tries(design: &Design, property: u8, bound: u8) -> Option<u64> {
         trail: &mut vec![0; n],
         choices: &mut vec![0; bound as usize],
     };
-    let found = find_verdict(design, property, bound, MAX_TRIES, lent).ok()?;
+    let found = find_verdict(query, bound, MAX_TRIES, lent).ok()?;
     (found.tries < MAX_TRIES).then_some(found.tries)
 }
 
@@ -304,8 +306,8 @@ fn state_fault(random: &mut Random, design: &Design, state: &mut State) {
 
 /// Values with one flag set in each frame, except for some faults. Values
 /// that are no flags may be anything.
-fn flagged_values(random: &mut Random, design: &Design, property: u8, bound: u8) -> Vec<u8> {
-    let size = Formula::new(design, property, bound).size();
+fn flagged_values(random: &mut Random, query: Query<Design>, bound: u8) -> Vec<u8> {
+    let size = Formula::new(query, bound).size();
     let mut values: Vec<u8> = (0..size.variables).map(|_| random.word() as u8).collect();
     let movers = size.movers as usize;
     let first = 1 + (size.state_bits + size.property_gates) as usize;

@@ -6,6 +6,7 @@ use crate::design::{check, Design};
 use crate::designs::all_files;
 use crate::formula::Formula;
 use crate::protocol::hex;
+use crate::query::Query;
 use crate::random::Random;
 
 /// A known design, small or large.
@@ -41,7 +42,7 @@ fn design_for_verdict(random: &mut Random) -> (Design, u8) {
 pub fn all_parts(random: &mut Random) -> Vec<String> {
     let (design, file) = design_to_encode(random);
     let (property, bound) = (random.below(2) as u8, random.between(0, 3) as u8);
-    let formula = Formula::new(&design, property, bound);
+    let formula = Formula::new(Query::new(&design, property), bound);
     let mut requests = vec![];
     for part in 0..=formula.last_part() {
         let words = formula.part_count(part).words;
@@ -56,8 +57,9 @@ pub fn all_parts(random: &mut Random) -> Vec<String> {
 pub fn all_budgets(random: &mut Random) -> Vec<String> {
     let (design, bound) = design_for_verdict(random);
     let property = random.below(2) as u8;
-    let size = Formula::new(&design, property, bound).size();
-    let tries = exact_tries(&design, property, bound).unwrap_or(20);
+    let query = Query::new(&design, property);
+    let size = Formula::new(query, bound).size();
+    let tries = exact_tries(query, bound).unwrap_or(20);
     let exact = [size.words, size.variables, size.variables, bound as u64];
     let mut requests = vec![];
     let mut add = |budget: u64, lengths: [u64; 4]| {

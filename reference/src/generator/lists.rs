@@ -4,6 +4,7 @@ use super::calls::{budget_near, length_near};
 use super::trees::chain_design;
 use crate::formula::Formula;
 use crate::protocol::list_text;
+use crate::query::Query;
 use crate::random::Random;
 use crate::search::{solve as solve_list, Outcome};
 
@@ -38,7 +39,8 @@ fn any_list(random: &mut Random) -> (usize, Vec<i32>) {
 
 fn formula_list(random: &mut Random) -> (usize, Vec<i32>) {
     let design = chain_design(random);
-    let formula = Formula::new(&design, random.below(2) as u8, random.between(0, 2) as u8);
+    let query = Query::new(&design, random.below(2) as u8);
+    let formula = Formula::new(query, random.between(0, 2) as u8);
     let mut words = vec![0; formula.size().words as usize];
     let mut at = 0;
     for part in 0..=formula.last_part() {

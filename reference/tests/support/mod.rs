@@ -5,6 +5,7 @@
 use reference::builder::file_bytes;
 use reference::design::{check, Design};
 use reference::formula::Formula;
+use reference::query::Query;
 use reference::search::{solve, Outcome, Solved};
 use reference::step::{holds, start, step, State};
 use reference::verdict::{verdict, Lent, Verdict};
@@ -26,10 +27,10 @@ pub fn all_lists(movers: usize, length: usize) -> Vec<Vec<u8>> {
 /// Whether a list breaks the property, step by step.
 pub fn breaks(design: &Design, property: u8, choices: &[u8]) -> bool {
     let mut state = start(design);
-    let mut broken = !holds(design, &state, property).unwrap();
+    let mut broken = !holds(Query::new(design, property), &state).unwrap();
     for &choice in choices {
         state = step(design, &state, choice as u64).unwrap().state;
-        broken |= !holds(design, &state, property).unwrap();
+        broken |= !holds(Query::new(design, property), &state).unwrap();
     }
     broken
 }
@@ -71,12 +72,12 @@ pub fn first_bad_step(design: &Design, bad: impl Fn(&State, &State) -> bool) -> 
 }
 
 pub fn first_break(design: &Design, property: u8) -> Option<usize> {
-    first_bad_step(design, |_, after| !holds(design, after, property).unwrap())
+    first_bad_step(design, |_, after| !holds(Query::new(design, property), after).unwrap())
 }
 
 /// The words of a part, or of all parts joined.
 pub fn part_words(design: &Design, property: u8, bound: u8, part: u64) -> Vec<i32> {
-    let formula = Formula::new(design, property, bound);
+    let formula = Formula::new(Query::new(design, property), bound);
     let mut words = vec![0; formula.part_count(part).words as usize];
     assert_eq!(formula.write_part(part, &mut words), words.len() as u64);
     words
@@ -88,7 +89,7 @@ pub fn formula_words(design: &Design, property: u8, bound: u8) -> Vec<i32> {
 }
 
 pub fn variables(design: &Design, property: u8, bound: u8) -> usize {
-    Formula::new(design, property, bound).variables() as usize
+    Formula::new(Query::new(design, property), bound).variables() as usize
 }
 
 /// SOLVE on memory of its own: the answer and the values.
@@ -101,7 +102,7 @@ pub fn solved(n: usize, words: &[i32], budget: u64) -> (Solved, Vec<u8>) {
 
 /// VERDICT on memory of its own: the answer and the choices.
 pub fn verdict_of(design: &Design, property: u8, bound: u8, budget: u64) -> (Verdict, Vec<u8>) {
-    let size = Formula::new(design, property, bound).size();
+    let size = Formula::new(Query::new(design, property), bound).size();
     let n = size.variables as usize;
     let mut choices = vec![255; bound as usize];
     let lent = Lent {
@@ -110,7 +111,7 @@ pub fn verdict_of(design: &Design, property: u8, bound: u8, budget: u64) -> (Ver
         trail: &mut vec![0; n],
         choices: &mut choices,
     };
-    (verdict(design, property, bound, budget, lent).unwrap(), choices)
+    (verdict(Query::new(design, property), bound, budget, lent).unwrap(), choices)
 }
 
 /// The design as its file says it, which also checks the file.

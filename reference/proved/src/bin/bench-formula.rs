@@ -6,7 +6,8 @@ use proved::Proved;
 use reference::designs::all_files;
 use reference::formula::Size;
 use reference::operations::{Answer, Operations, Reference};
-use reference::verdict::Verdict;
+use reference::query::Query;
+use reference::verdict::{Lent, Verdict};
 use std::hint::black_box;
 
 fn file(name: &str) -> Vec<u8> {
@@ -21,40 +22,42 @@ fn done<T>(answer: Answer<T>) -> T {
     }
 }
 
-fn sizes(operations: &mut impl Operations, design: &[u8], property: u8, bound: u8) -> Size {
-    done(operations.size(design, property, bound))
+fn sizes(operations: &mut impl Operations, query: Query<[u8]>, bound: u8) -> Size {
+    done(operations.size(query, bound))
 }
 
 fn size(name: &str, property: u8, bound: u8) {
     let design = file(name);
-    assert_eq!(sizes(&mut Proved, &design, property, bound), sizes(&mut Reference, &design, property, bound));
+    let query = Query::new(&design[..], property);
+    assert_eq!(sizes(&mut Proved, query, bound), sizes(&mut Reference, query, bound));
     let [proved, reference] = seconds([
-        &mut || make(sizes(&mut Proved, black_box(&design), property, bound)),
-        &mut || make(sizes(&mut Reference, black_box(&design), property, bound)),
+        &mut || make(sizes(&mut Proved, black_box(query), bound)),
+        &mut || make(sizes(&mut Reference, black_box(query), bound)),
     ]);
     report(&format!("SIZE {name}, bound {bound}"), proved, reference);
 }
 
 /// The words of every part, one after the other.
-fn encoded(operations: &mut impl Operations, design: &[u8], property: u8, bound: u8, words: &mut [i32]) -> usize {
+fn encoded(operations: &mut impl Operations, query: Query<[u8]>, bound: u8, words: &mut [i32]) -> usize {
     let mut at = 0;
     for part in 0..=bound as u64 + 2 {
-        at += done(operations.encode(design, property, bound, part, &mut words[at..])) as usize;
+        at += done(operations.encode(query, bound, part, &mut words[at..])) as usize;
     }
     at
 }
 
 fn encode(name: &str, property: u8, bound: u8) {
     let design = file(name);
-    let length = sizes(&mut Reference, &design, property, bound).words as usize;
+    let query = Query::new(&design[..], property);
+    let length = sizes(&mut Reference, query, bound).words as usize;
     let (mut first, mut second) = (vec![0; length], vec![0; length]);
-    assert_eq!(encoded(&mut Proved, &design, property, bound, &mut first), length);
-    assert_eq!(encoded(&mut Reference, &design, property, bound, &mut second), length);
+    assert_eq!(encoded(&mut Proved, query, bound, &mut first), length);
+    assert_eq!(encoded(&mut Reference, query, bound, &mut second), length);
     assert_eq!(first, second);
     let (words, mut third) = (first.clone(), first.clone());
     let [proved, reference, copy] = seconds([
-        &mut || make(encoded(&mut Proved, black_box(&design), property, bound, &mut first)),
-        &mut || make(encoded(&mut Reference, black_box(&design), property, bound, &mut second)),
+        &mut || make(encoded(&mut Proved, black_box(query), bound, &mut first)),
+        &mut || make(encoded(&mut Reference, black_box(query), bound, &mut second)),
         &mut || black_box(&mut third).copy_from_slice(black_box(&words)),
     ]);
     report(&format!("ENCODE {name}, bound {bound}, {length} words"), proved, reference);
@@ -78,17 +81,16 @@ struct Memory {
 }
 
 impl Memory {
-    fn verdict(&mut self, operations: &mut impl Operations, design: &[u8], property: u8, bound: u8) -> Verdict {
-        let (clauses, values) = (&mut self.clauses, &mut self.values);
-        let answer =
-            operations.verdict(design, property, bound, u64::MAX, clauses, values, &mut self.trail, &mut self.choices);
-        done(answer)
+    fn verdict(&mut self, operations: &mut impl Operations, query: Query<[u8]>, bound: u8) -> Verdict {
+        let Memory { clauses, values, trail, choices } = self;
+        done(operations.verdict(query, bound, u64::MAX, Lent { clauses, values, trail, choices }))
     }
 }
 
 fn verdict(name: &str, property: u8, bound: u8) {
     let design = file(name);
-    let size = sizes(&mut Reference, &design, property, bound);
+    let query = Query::new(&design[..], property);
+    let size = sizes(&mut Reference, query, bound);
     let n = size.variables as usize;
     let mut first = Memory {
         clauses: vec![0; size.words as usize],
@@ -97,11 +99,11 @@ fn verdict(name: &str, property: u8, bound: u8) {
         choices: vec![0; bound as usize],
     };
     let mut second = first.clone();
-    let found = first.verdict(&mut Proved, &design, property, bound);
-    assert_eq!(found, second.verdict(&mut Reference, &design, property, bound));
+    let found = first.verdict(&mut Proved, query, bound);
+    assert_eq!(found, second.verdict(&mut Reference, query, bound));
     let [proved, reference] = seconds([
-        &mut || make(first.verdict(&mut Proved, black_box(&design), property, bound)),
-        &mut || make(second.verdict(&mut Reference, black_box(&design), property, bound)),
+        &mut || make(first.verdict(&mut Proved, black_box(query), bound)),
+        &mut || make(second.verdict(&mut Reference, black_box(query), bound)),
     ]);
     report(&format!("VERDICT {name}, bound {bound}, {} tries", found.tries), proved, reference);
 }

@@ -9,9 +9,9 @@ use reference::designs::{all_files, design_a, money_changer, Property, Version};
 use reference::formula::Formula;
 use reference::generator::trees::{crowded_plan, design, Plan};
 use reference::operations::{Answer, Operations, Reference};
+use reference::query::{Query, MAX_BOUND};
 use reference::random::Random;
 use reference::search::Solved;
-use reference::step::MAX_CHOICES;
 use std::hint::black_box;
 use std::process::{Command, Stdio};
 use std::time::Instant;
@@ -27,13 +27,14 @@ fn replay(name: &str, design: &Design) {
     let file = file_bytes(design);
     let movers = design.movers().len();
     let mut random = Random::new(1);
-    let choices: Vec<u8> = (0..MAX_CHOICES).map(|_| random.below(movers) as u8).collect();
-    assert_eq!(Proved.replay(&file, 0, &choices), Answer::Done(None));
+    let choices: Vec<u8> = (0..MAX_BOUND).map(|_| random.below(movers) as u8).collect();
+    let query = Query::new(&file[..], 0);
+    assert_eq!(Proved.replay(query, &choices), Answer::Done(None));
     let [proved, reference] = seconds([
-        &mut || make(Proved.replay(black_box(&file), 0, black_box(&choices))),
-        &mut || make(Reference.replay(black_box(&file), 0, black_box(&choices))),
+        &mut || make(Proved.replay(black_box(query), black_box(&choices))),
+        &mut || make(Reference.replay(black_box(query), black_box(&choices))),
     ]);
-    report(&format!("REPLAY {name}, {MAX_CHOICES} choices"), proved, reference);
+    report(&format!("REPLAY {name}, {MAX_BOUND} choices"), proved, reference);
 }
 
 /// A design of the most movers, whose invariant nothing breaks.
@@ -51,7 +52,7 @@ fn clean_a() -> Design {
 
 /// The words of a formula and its number of variables.
 fn formula(design: &Design, bound: u8) -> (u64, Vec<i32>) {
-    let formula = Formula::new(design, 0, bound);
+    let formula = Formula::new(Query::new(design, 0), bound);
     let mut words = vec![0; formula.size().words as usize];
     let mut at = 0;
     for part in 0..=formula.last_part() {

@@ -1,0 +1,76 @@
+//! The C entries of `host/stm.h`, declared once for Rust. Each returns a u64.
+
+/// Gives every entry to the macro that is named, which declares or defines it.
+/// Brackets hold the parameters as C passes them; parentheses part them by
+/// what they say together: a slice is a pointer and a number of elements, and
+/// a query is a design and a property.
+#[macro_export]
+macro_rules! entries {
+    ($each:ident) => {
+        $each! {
+            stm_check[
+                (design: *const u8, design_len: usize)
+            ];
+            stm_start[
+                (design: *const u8, design_len: usize)
+                (values: *mut [i16; 32])
+                (statuses: *mut [u16; 8])
+            ];
+            stm_step[
+                (design: *const u8, design_len: usize)
+                (values: *mut [i16; 32])
+                (statuses: *mut [u16; 8])
+                (choice: u64)
+                (idle: *mut [u8; 1])
+            ];
+            stm_holds[
+                (design: *const u8, design_len: usize)
+                (values: *const [i16; 32])
+                (statuses: *const [u16; 8])
+                (property: u8)
+                (holds: *mut [u8; 1])
+            ];
+            stm_replay[
+                (design: *const u8, design_len: usize, property: u8)
+                (choices: *const u8, choices_len: usize)
+                (answer: *mut [u64; 2])
+            ];
+            stm_size[
+                (design: *const u8, design_len: usize, property: u8)
+                (bound: u8)
+                (answer: *mut [u64; 7])
+            ];
+            stm_encode[
+                (design: *const u8, design_len: usize, property: u8)
+                (bound: u8)
+                (part: u64)
+                (clauses: *mut i32, clauses_len: usize)
+                (answer: *mut [u64; 1])
+            ];
+            stm_solve[
+                (n: u64)
+                (words: *const i32, words_len: usize)
+                (values: *mut u8, values_len: usize)
+                (trail: *mut u32, trail_len: usize)
+                (budget: u64)
+                (answer: *mut [u64; 2])
+            ];
+            stm_decode[
+                (design: *const u8, design_len: usize, property: u8)
+                (bound: u8)
+                (values: *const u8, values_len: usize)
+                (choices: *mut u8, choices_len: usize)
+            ];
+            stm_verdict[
+                (design: *const u8, design_len: usize, property: u8)
+                (bound: u8)
+                (budget: u64)
+                (clauses: *mut i32, clauses_len: usize)
+                (values: *mut u8, values_len: usize)
+                (trail: *mut u32, trail_len: usize)
+                (choices: *mut u8, choices_len: usize)
+                (answer: *mut [u64; 3])
+            ];
+        }
+    };
+}

@@ -1,0 +1,123 @@
+//! What each entry answers. A refused call writes nothing.
+
+use reference::design::Refusal;
+use reference::operations::{Answer, Operations, Reference};
+use reference::query::Query;
+use reference::search::Outcome;
+use reference::step::State;
+use reference::verdict::{Finding, Lent};
+
+/// A place that is greater is told as this one.
+const MOST_PLACE: u64 = (1 << 56) - 1;
+
+/// The code of an answer; what is not refused is given to `done` first.
+fn code<T>(answer: Answer<T>, done: impl FnOnce(T)) -> u64 {
+    match answer {
+        Answer::Done(value) => {
+            done(value);
+            0
+        }
+        Answer::Refused(Refusal { number, place }) => number as u64 + 256 * place.min(MOST_PLACE),
+        Answer::Missing => unreachable!("the second implementation has every operation"),
+    }
+}
+
+/// A state as it is lent; a status over 255 is refused like 255, which no design has either.
+fn state(values: &[i16; 32], statuses: &[u16; 8]) -> State {
+    State { values: *values, statuses: statuses.map(|s| s.min(255) as u8) }
+}
+
+pub fn stm_check(design: &[u8]) -> u64 {
+    code(Reference.check(design), |()| ())
+}
+
+pub fn stm_start(design: &[u8], values: &mut [i16; 32], statuses: &mut [u16; 8]) -> u64 {
+    code(Reference.start(design), |first| {
+        *values = first.values;
+        *statuses = first.statuses.map(u16::from);
+    })
+}
+
+pub fn stm_step(
+    design: &[u8],
+    values: &mut [i16; 32],
+    statuses: &mut [u16; 8],
+    choice: u64,
+    idle: &mut [u8; 1],
+) -> u64 {
+    let before = state(values, statuses);
+    code(Reference.step(design, &before, choice), |stepped| {
+        *values = stepped.state.values;
+        *statuses = stepped.state.statuses.map(u16::from);
+        *idle = [stepped.idle as u8];
+    })
+}
+
+pub fn stm_holds(
+    design: &[u8],
+    values: &[i16; 32],
+    statuses: &[u16; 8],
+    property: u8,
+    holds: &mut [u8; 1],
+) -> u64 {
+    let query = Query::new(design, property);
+    code(Reference.holds(query, &state(values, statuses)), |found| *holds = [found as u8])
+}
+
+pub fn stm_replay(query: Query<[u8]>, choices: &[u8], answer: &mut [u64; 2]) -> u64 {
+    code(Reference.replay(query, choices), |broken| {
+        *answer = broken.map_or([0, 0], |step| [1, step]);
+    })
+}
+
+pub fn stm_size(query: Query<[u8]>, bound: u8, answer: &mut [u64; 7]) -> u64 {
+    code(Reference.size(query, bound), |size| *answer = size.numbers())
+}
+
+pub fn stm_encode(query: Query<[u8]>, bound: u8, part: u64, clauses: &mut [i32], answer: &mut [u64; 1]) -> u64 {
+    code(Reference.encode(query, bound, part, clauses), |count| *answer = [count])
+}
+
+pub fn stm_solve(
+    n: u64,
+    words: &[i32],
+    values: &mut [u8],
+    trail: &mut [u32],
+    budget: u64,
+    answer: &mut [u64; 2],
+) -> u64 {
+    code(Reference.solve(n, words, values, trail, budget), |solved| {
+        let outcome = match solved.outcome {
+            Outcome::Sat => 0,
+            Outcome::Unsat => 1,
+            Outcome::Spent => 2,
+        };
+        *answer = [outcome, solved.tries];
+    })
+}
+
+pub fn stm_decode(query: Query<[u8]>, bound: u8, values: &[u8], choices: &mut [u8]) -> u64 {
+    code(Reference.decode(query, bound, values, choices), |()| ())
+}
+
+#[allow(clippy::too_many_arguments)]
+pub fn stm_verdict(
+    query: Query<[u8]>,
+    bound: u8,
+    budget: u64,
+    clauses: &mut [i32],
+    values: &mut [u8],
+    trail: &mut [u32],
+    choices: &mut [u8],
+    answer: &mut [u64; 3],
+) -> u64 {
+    let lent = Lent { clauses, values, trail, choices };
+    code(Reference.verdict(query, bound, budget, lent), |verdict| {
+        let (kind, at) = match verdict.finding {
+            Finding::Clean => (0, 0),
+            Finding::Violated(step) => (1, step),
+            Finding::Spent(bound) => (2, bound),
+        };
+        *answer = [kind, at, verdict.tries];
+    })
+}
