@@ -2,12 +2,12 @@
 
 mod calls;
 mod faults;
+mod files;
 mod known;
 mod lists;
+mod near;
 pub mod trees;
 
-use crate::builder::file_bytes;
-use crate::design::{Design, MAX_FILE};
 use crate::random::Random;
 
 /// The operations, each with its share of the requests.
@@ -73,24 +73,4 @@ impl Generator {
 
 pub fn all_operations() -> Vec<&'static str> {
     SHARES.iter().map(|s| s.0).collect()
-}
-
-/// A file for CHECK: mostly with faults.
-fn any_file(random: &mut Random) -> Vec<u8> {
-    let plan = trees::any_plan(random);
-    match random.below(100) {
-        0..=19 => file_bytes(&trees::design(random, plan)),
-        20..=21 => file_bytes(&long_design(random)),
-        22..=24 => faults::file_of_edge_length(random),
-        _ => faults::faulty_file(random, plan),
-    }
-}
-
-/// A design of the greatest length, or one byte more or less.
-fn long_design(random: &mut Random) -> Design {
-    let plan = trees::tiny_plan(random);
-    let mut design = trees::design(random, plan);
-    let length = random.pick(&[MAX_FILE - 1, MAX_FILE, MAX_FILE, MAX_FILE + 1]);
-    trees::lengthen(random, &mut design, length);
-    design
 }

@@ -1,26 +1,21 @@
 //! Requests for the operations on a design.
 
-use super::known::any_known;
-use super::trees::{
-    any_plan, breakable, chain_design, crowded_plan, deep_plan, design, number, tiny_plan, Plan,
-};
-use super::{any_file, faults, long_design};
-use crate::builder::file_bytes;
-use crate::design::{Design, Kind, MAX_MOVERS};
+use super::files::{any_design, any_file, design_to_encode, small_design};
+use super::near::{affordable_bound, budget_near, exact_tries, length_near, MAX_TRIES};
+use super::trees::number;
+use crate::design::{Design, Kind};
 use crate::formula::Formula;
 use crate::protocol::{hex, list_text};
 use crate::query::Query;
 use crate::random::Random;
 use crate::step::State;
-use crate::verdict::{verdict as find_verdict, Lent};
 
 /// The longest part, in words, and the most variables that a request lends.
 const MAX_PART: u64 = 40_000;
 const MAX_VALUES: u64 = 8_000;
 /// A search over a formula is affordable below this product of its variables
-/// and words, with this many tries.
+/// and words.
 const MAX_SEARCH: u64 = 4_000_000;
-const MAX_TRIES: u64 = 80;
 
 pub fn check(random: &mut Random) -> String {
     format!("check {}", hex(&any_file(random)))
@@ -118,104 +113,6 @@ fn verdict_lengths(random: &mut Random, words: u64, variables: u64, bound: u8) -
         })
         .collect();
     lengths.join(" ")
-}
-
-/// The greatest bound up to `bound` whose formula is affordable, or 0.
-fn affordable_bound(
-    query: Query<Design>,
-    bound: usize,
-    affordable: impl Fn(u64, u64) -> bool,
-) -> u8 {
-    let fits = |k: &u8| {
-        let size = Formula::new(query, *k).size();
-        affordable(size.variables, size.words)
-    };
-    (0..=bound as u8).rev().find(fits).unwrap_or(0)
-}
-
-/// The tries of VERDICT with no budget set, where they are few.
-pub fn exact_tries(query: Query<Design>, bound: u8) -> Option<u64> {
-    let size = Formula::new(query, bound).size();
-    let n = size.variables as usize;
-    let lent = Lent {
-        clauses: &mut vec![0; size.words as usize],
-        values: &mut vec![0; n],
-        trail: &mut vec![0; n],
-        choices: &mut vec![0; bound as usize],
-    };
-    let found = find_verdict(query, bound, MAX_TRIES, lent).ok()?;
-    (found.tries < MAX_TRIES).then_some(found.tries)
-}
-
-/// A design and its file; in some requests the file has faults.
-fn any_design(random: &mut Random) -> (Design, Vec<u8>) {
-    if random.chance(1) {
-        let design = long_design(random);
-        let file = file_bytes(&design);
-        return (design, file);
-    }
-    let plan = any_plan(random);
-    let design = if random.chance(5) { any_known(random) } else { accepted(random, plan) };
-    let file = file_or_fault(random, &design);
-    (design, file)
-}
-
-/// As `any_design`, with few movers and bits.
-fn small_design(random: &mut Random) -> (Design, Vec<u8>) {
-    let design = if random.chance(40) { chain_design(random) } else { tiny_design(random) };
-    let file = file_or_fault(random, &design);
-    (design, file)
-}
-
-/// Mostly a small design; else one with deep trees or many movers, or a known one.
-pub fn design_to_encode(random: &mut Random) -> (Design, Vec<u8>) {
-    let design = match random.below(20) {
-        0 | 1 => {
-            let plan = deep_plan(random);
-            accepted(random, plan)
-        }
-        2 => {
-            let plan = crowded_plan(random);
-            accepted(random, plan)
-        }
-        3 => any_known(random),
-        _ => return small_design(random),
-    };
-    let file = file_or_fault(random, &design);
-    (design, file)
-}
-
-fn tiny_design(random: &mut Random) -> Design {
-    let plan = tiny_plan(random);
-    let mut design = accepted(random, plan);
-    if random.chance(60) {
-        design.invariant = breakable(random, &design);
-    }
-    design
-}
-
-/// A design that CHECK accepts; a plan may be off by one in its movers.
-fn accepted(random: &mut Random, plan: Plan) -> Design {
-    let movers = plan.movers.clamp(1, MAX_MOVERS);
-    design(random, Plan { movers, ..plan })
-}
-
-fn file_or_fault(random: &mut Random, design: &Design) -> Vec<u8> {
-    match random.below(100) {
-        0..=7 => {
-            let plan = tiny_plan(random);
-            faults::faulty_file(random, plan)
-        }
-        8 => file_without_right_movers(random),
-        _ => file_bytes(design),
-    }
-}
-
-/// No mover, or one too many, and no other fault.
-fn file_without_right_movers(random: &mut Random) -> Vec<u8> {
-    let movers = random.pick(&[0, MAX_MOVERS + 1]);
-    let plan = crowded_plan(random);
-    file_bytes(&design(random, Plan { movers, ..plan }))
 }
 
 fn any_property(random: &mut Random) -> u8 {
@@ -321,27 +218,4 @@ fn flagged_values(random: &mut Random, query: Query<Design>, bound: u8) -> Vec<u
         }
     }
     values
-}
-
-/// One less, exact, or more than the needed length.
-pub fn length_near(random: &mut Random, length: usize) -> usize {
-    match random.below(10) {
-        0 => length.saturating_sub(1),
-        1..=5 => length,
-        6..=7 => length + 1,
-        8 => length + random.below(10),
-        _ => random.below(length + 1),
-    }
-}
-
-/// One less, exact, one more, or far from the needed tries.
-pub fn budget_near(random: &mut Random, tries: u64) -> u64 {
-    match random.below(8) {
-        0 => 0,
-        1 | 2 => tries.saturating_sub(1),
-        3 | 4 => tries,
-        5 => tries + 1,
-        6 => random.below(tries as usize + 1) as u64,
-        _ => u64::MAX,
-    }
 }

@@ -1,6 +1,7 @@
 //! Requests on the known designs, and whole series of requests: every part of a formula, every kind of budget and memory.
 
-use super::calls::{design_to_encode, exact_tries};
+use super::files::design_to_encode;
+use super::near::exact_tries;
 use crate::builder::file_bytes;
 use crate::design::{check, Design};
 use crate::designs::all_files;
@@ -8,13 +9,6 @@ use crate::formula::Formula;
 use crate::protocol::hex;
 use crate::query::Query;
 use crate::random::Random;
-
-/// A known design, small or large.
-pub fn any_known(random: &mut Random) -> Design {
-    let files = all_files();
-    let file = &files[random.below(files.len())].1;
-    check(file).expect("a known design is accepted")
-}
 
 /// Small designs and the bounds up to which a verdict on them takes few tries.
 const VERDICTS: [(&str, u8); 10] = [

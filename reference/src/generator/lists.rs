@@ -1,6 +1,6 @@
 //! Requests for SOLVE: short clause lists, good and bad ones.
 
-use super::calls::{budget_near, length_near};
+use super::near::{budget_near, length_near};
 use super::trees::chain_design;
 use crate::formula::Formula;
 use crate::protocol::list_text;
