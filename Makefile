@@ -2,6 +2,7 @@
 # make test    prove everything from nothing and pass the tests
 # make serve   build build/serve-proved and build/serve-reference
 # make bench   print the benchmarks' ratios
+# make runs    write tests/runs/ anew, from the second implementation
 # make standin build build/standin/: the host programs over the second implementation, for tests
 # All that is built stands under build/ and target/ (the prover's own), and nothing of it is committed.
 
@@ -13,7 +14,7 @@ CARGO = cargo --offline --quiet
 export CARGO_TARGET_DIR = $(CURDIR)/build/cargo
 export PROVED_ARCHIVE = $(CURDIR)/target/staticlib
 
-.PHONY: demo test serve bench clean archive standin
+.PHONY: demo test serve bench runs clean archive standin
 
 # stm exits with 10 where the design is violated
 demo: build/stm
@@ -27,6 +28,11 @@ serve: build/serve-proved build/serve-reference
 bench: archive
 	@$(CARGO) run --release --manifest-path reference/proved/Cargo.toml --bin bench
 	@$(CARGO) run --release --manifest-path reference/proved/Cargo.toml --bin bench-formula
+
+runs:
+	@rm -f tests/runs/*
+	@tests/replay --write
+	@tests/printer --write
 
 clean:
 	rm -rf build target
