@@ -1,10 +1,11 @@
 /* The matrix checker's operations, for C. The archive is target/staticlib/libentries.a.
  *
- * A slice is passed as a pointer and the number of its elements; the pointer is not null, also where the number is 0.
- * An array parameter such as answer[2] is a pointer to that many elements. Memory lent to one call does not overlap.
+ * A slice is passed as a pointer and the number of its elements. No pointer is null, also where the number is 0. An array
+ * parameter such as answer[2] is a pointer to that many elements. Memory lent to one call does not overlap.
  *
  * An operation returns 0 where it is not refused. Else the low byte of what it returns is the refusal's number and the rest
- * its place, and no lent memory has changed. Every length and content is allowed: nothing has to be tested before a call.
+ * its place, and no lent memory has changed: answer, idle and holds, too, are as they were. A place of 2^56 - 1 or more is told
+ * as 2^56 - 1. Every length and content is allowed: nothing has to be tested before a call.
  * A design is the bytes of a design file; a property is 0 or 1; a bound is 0 to 100. Refusals are listed in the order of their tests.
  */
 #ifndef STM_H

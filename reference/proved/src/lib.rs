@@ -141,7 +141,7 @@ impl Operations for Proved {
     }
 
     fn solve(&mut self, n: u64, words: &[i32], values: &mut [u8], trail: &mut [u32], budget: u64) -> Answer<Solved> {
-        let mut answer = [0; 2];
+        let mut answer = [7; 2];
         let code = unsafe {
             stm_solve(
                 n,
@@ -155,6 +155,7 @@ impl Operations for Proved {
                 &mut answer,
             )
         };
+        unchanged(code, [7; 2], answer);
         answered(code, || Solved { outcome: OUTCOMES[answer[0] as usize], tries: answer[1] })
     }
 
