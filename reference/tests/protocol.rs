@@ -51,11 +51,54 @@ fn a_refusal_has_a_number_and_a_place() {
     assert_eq!(with_design("replay D 0 0,3"), "refused 12 at 1");
 }
 
+/// The examples of docs/PROTOCOL.md, as they stand there.
+#[test]
+fn the_examples_of_the_document() {
+    let document = include_str!("../../docs/PROTOCOL.md");
+    let rows = document.lines().skip_while(|line| !line.starts_with("With the file of Design A"));
+    let mut examples = 0;
+    for row in rows.filter(|line| line.starts_with("| `")) {
+        let words: Vec<&str> = row.split('`').collect();
+        let [_, request, _, expected, _] = words[..] else {
+            panic!("{row}");
+        };
+        assert_eq!(with_design(request), expected, "{request}");
+        examples += 1;
+    }
+    assert_eq!(examples, 6);
+}
+
+#[test]
+fn leading_zeros_and_signs() {
+    assert_eq!(with_design("size D 01 003"), with_design("size D 1 3"));
+    assert_eq!(with_design("replay D 0 02,000,1"), "ok 3");
+    assert_eq!(answer("solve 01 -01,-0,00 1 1 09"), answer("solve 1 -1,0,0 1 1 9"));
+    let negative = ZEROS.replacen('0', "-0", 1);
+    assert_eq!(with_design(&format!("holds D {negative} 0,0,0,0,0,0,0,0 0")), "ok 1");
+}
+
 #[test]
 fn malformed_requests() {
+    let (none, more) = ("0,0,0,0,0,0,0,0", format!("{ZEROS},0"));
+    for request in [
+        format!("holds - {more} {none} 0"),
+        format!("holds - {ZEROS} 0,{none} 0"),
+        format!("holds - {} {none} 0", ZEROS.replacen('0', "32768", 1)),
+        format!("holds - {ZEROS} 256{} 0", &none[1..]),
+        format!("trace - 0 {}", &"0,".repeat(256)[..511]),
+    ] {
+        assert_eq!(answer(&request), "error", "{request}");
+    }
     for request in [
         "",
         " ",
+        "check -\r",
+        "check - ",
+        " check -",
+        "solve -0 - 1 1 0",
+        "solve 1 --1,0 1 1 0",
+        "solve 1 - 1 1 18446744073709551616",
+        "solve 1 - 268435457 1 0",
         "check",
         "check ",
         "check 0",
