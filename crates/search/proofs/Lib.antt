@@ -1,7 +1,6 @@
 -- What the search promises
 pub mod Theorems
 pub mod Cases
-pub mod Written
 -- its answers are right, and it ends
 pub mod Scans
 pub mod Counting
@@ -20,5 +19,6 @@ pub mod Seeking
 pub mod State
 pub mod Filling
 pub mod Steps
+pub mod Branching
 pub mod Running
 pub mod Solving

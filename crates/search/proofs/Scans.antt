@@ -202,11 +202,12 @@ made ss v = isTrue (valueOf ss v)
 pub made-follows : (ss : Settings) → Follows (made ss) ss
 made-follows ss v b e = rw e
 
--- the lowest unset variable
+-- the lowest unset variable: all before it are set
 pub record LowestAt (ss : Settings) (v k u : ℕ) : Type 0 where
   pub low : v ≤ u
   pub high : u < v + k
   pub unset! : valueOf ss u ≡ unset
+  pub before : (x : ℕ) → v ≤ x → x < u → isUnset (valueOf ss x) ≡ false
 
 abbrev pub LowestRight : Settings → ℕ → ℕ → Place → Type 0
 LowestRight ss v k none = (u : ℕ) → v ≤ u → u < v + k → isUnset (valueOf ss u) ≡ false
@@ -220,11 +221,20 @@ pub lowest-right : (ss : Settings) (v k : ℕ) → LowestRight ss v k (lowestUns
 lowest-right ss v zero = λ u a b. absurd (omega arith)
 lowest-right ss v (suc k) = go (isUnset (valueOf ss v)) refl (lowestUnset (valueOf ss) (suc v) k) (lowest-right ss (suc v) k)
   where
-    go : (t : Bool) → isUnset (valueOf ss v) ≡ t → (p : Place) → LowestRight ss (suc v) k p → LowestRight ss v (suc k) (cond t (at v) p)
-    go true e p h = record { low = le-refl v; high = omega arith; unset! = was-unset (valueOf ss v) e }
-    go false e none h = λ u a b. pick u a b (eqb u v) refl
+    -- v is set, and so is each past it
+    from : isUnset (valueOf ss v) ≡ false → (u : ℕ) → v ≤ u → (v < u → isUnset (valueOf ss u) ≡ false) → isUnset (valueOf ss u) ≡ false
+    from e u a h = pick (eqb u v) refl
       where
-        pick : (u : ℕ) → v ≤ u → u < v + suc k → (t : Bool) → eqb u v ≡ t → isUnset (valueOf ss u) ≡ false
-        pick u a b true q = rw (eqb-true u v q) e
-        pick u a b false q = let ne = eqb-false u v q in h u (omega arith) (omega arith)
-    go false e (at u) h = record { low = omega (arith, h .low); high = omega (arith, h .high); unset! = h .unset! }
+        pick : (t : Bool) → eqb u v ≡ t → isUnset (valueOf ss u) ≡ false
+        pick true q = rw (eqb-true u v q) e
+        pick false q = let ne = eqb-false u v q in h (omega arith)
+
+    go : (t : Bool) → isUnset (valueOf ss v) ≡ t → (p : Place) → LowestRight ss (suc v) k p → LowestRight ss v (suc k) (cond t (at v) p)
+    go true e p h = record { low = le-refl v; high = omega arith; unset! = was-unset (valueOf ss v) e; before = λ x a b. absurd (omega arith) }
+    go false e none h = λ u a b. from e u a (λ l. h u l (omega arith))
+    go false e (at u) h = record {
+      low = omega (arith, h .low);
+      high = omega (arith, h .high);
+      unset! = h .unset!;
+      before = λ x a b. from e x a (λ l. h .before x l b);
+    }

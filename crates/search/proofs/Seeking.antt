@@ -2,14 +2,14 @@
 use mathlib.Core.Path.{_≡_, sym, ap, _∙_}
 use mathlib.Core.Bool.{cond}
 use mathlib.Core.List.{List}
-use Prim.Native.Nat.{ℕ, suc, _+_, _-_, _<_, _≤_}
+use Prim.Native.Nat.{ℕ, zero, suc, _+_, _-_, _<_, _≤_}
 use native.Mathlib.Omega.{arith}
 use native.Mathlib.Numerals.{add-one}
 use lib.ListN.{length, getD}
 use borrow.Author.Tests.{lt-ltb, le-ltb}
 use Rattle.search.specs.Search.{Value, at, isUnset, lowestUnset}
 use Rattle.search.specs.Answers.{spotCode}
-use Rattle.search.specs.Memory.{valueOfByte, valueAt}
+use Rattle.search.specs.Memory.{valueOfByte, valueAt, SetTo}
 use Rattle.search.specs.declared.words.Spot.the-variants.{Nowhere, At}
 
 -- the lowest unset, from i on
@@ -25,12 +25,23 @@ seeks-one vs i l =
     ap (lowestUnset (valueAt vs) (suc i)) (let e : length vs - i ≡ suc (length vs - suc i) = omega arith in e)
     ∙ ap (λ (x : Value). cond (isUnset x) (at (suc i)) (lowestUnset (valueAt vs) (suc (suc i)) (length vs - suc i))) (value-at vs i)
 
-pub seeks-start : (vs : List ℕ) → Seeks vs 0
-seeks-start vs = record { low = omega arith; same = ap (lowestUnset (valueAt vs) 1) (let e : length vs - 0 ≡ length vs = omega arith in e) }
+seeks-zero : (vs : List ℕ) → Seeks vs 0
+seeks-zero vs = record { low = omega arith; same = ap (lowestUnset (valueAt vs) 1) (let e : length vs - 0 ≡ length vs = omega arith in e) }
+
+seeks-suc : (vs : List ℕ) (i : ℕ) → Seeks vs i → i < length vs → getD vs i 0 ≤ 1 → Seeks vs (suc i)
+seeks-suc vs i s l h =
+    let past = lowestUnset (valueAt vs) (suc (suc i)) (length vs - suc i) in
+    let e : cond (isUnset (valueOfByte (getD vs i 0))) (at (suc i)) past ≡ past = rw (le-ltb 1 (getD vs i 0) h) in
+    record { low = l; same = sym (seeks-one vs i l ∙ e) ∙ s .same }
 
 pub seeks-next : (vs : List ℕ) (i : ℕ) → Seeks vs i → i < length vs → getD vs i 0 ≤ 1 → Seeks vs (i + 1)
-seeks-next vs i s l h =
-    rw (add-one i) (record { low = l; same = sym (seeks-one vs i l ∙ (let e : cond (isUnset (valueOfByte (getD vs i 0))) (at (suc i)) (lowestUnset (valueAt vs) (suc (suc i)) (length vs - suc i)) ≡ lowestUnset (valueAt vs) (suc (suc i)) (length vs - suc i) = rw (le-ltb 1 (getD vs i 0) h) in e)) ∙ s .same })
+seeks-next vs i s l h = rw (add-one i) (seeks-suc vs i s l h)
+
+-- where the first ones are set
+pub seeks-start : (vs : List ℕ) (low : ℕ) → SetTo low vs → Seeks vs low
+seeks-start vs zero h = seeks-zero vs
+seeks-start vs (suc i) h =
+    seeks-suc vs i (seeks-start vs i (record { within = omega (arith, h .within); bits = λ j l. h .bits j (omega arith) })) (h .within) (h .bits i (omega arith))
 
 pub seeks-here : (vs : List ℕ) (i : ℕ) → Seeks vs i → i < length vs → 1 < getD vs i 0 → At (i + 1) ≡ spotCode (lowestUnset (valueAt vs) 1 (length vs))
 seeks-here vs i s l h =

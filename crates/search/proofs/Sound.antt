@@ -13,12 +13,14 @@ use Rattle.search.specs.Memory.{unsetCount}
 use Rattle.search.proofs.Scans.{Follows, follows-none, follows-more, AllSet, conflict-no, Forced, unit-forced, settled, made, made-follows, LowestRight, lowest-right}
 use Rattle.search.proofs.Counting.{count-set, owed, ahead, falls-set, falls-branch, falls-undo}
 
--- good settings: each of a variable in 1..n that was unset; a branch at its first value is false; any other setting is implied by those before it
+-- good settings: each of a variable in 1..n that was unset; a branch at its first value is false, and all variables below it were set; any other setting is
+-- implied by those before it
 pub record Good₁ (n : ℕ) (cs : List Clause) (s : Setting) (ss : Settings) : Type 0 where
   pub low : 0 < s .variable
   pub high : s .variable ≤ n
   pub unset! : valueOf ss (s .variable) ≡ unset
   pub begins : s .first ≡ true → s .value ≡ false
+  pub lowest : s .first ≡ true → AllSet (s .variable - 1) ss
   pub implied : s .first ≡ false → (ρ : Assignment) → Follows ρ ss → satisfies ρ cs ≡ true → ρ (s .variable) ≡ s .value
 
 abbrev pub Good : ℕ → List Clause → Settings → Type 0
@@ -57,6 +59,7 @@ undo-ok n cs (s ∷ ss) g ref = go (s .first) refl (undo-ok n cs ss (g .1))
               high = g .0 .high;
               unset! = g .0 .unset!;
               begins = λ x. absurd (true≢false (sym x));
+              lowest = λ x. absurd (true≢false (sym x));
               implied = λ x ρ f k. pick ρ f k (ρ (s .variable)) refl;
             },
             g .1,
@@ -96,6 +99,7 @@ forced-good n cs ss l h =
       high = rw e (h .fresh .high);
       unset! = rw e (h .fresh .unset!);
       begins = λ x. absurd (true≢false (sym x ∙ forced-first l));
+      lowest = λ x. absurd (true≢false (sym x ∙ forced-first l));
       implied = λ x ρ f s. forced-value ρ l (h .implied ρ f s);
     }
 
@@ -113,6 +117,7 @@ module _ (n : ℕ) (cs : List Clause) (ss : Settings) (w : Within n cs) (g : Goo
             high = omega (arith, h .high);
             unset! = h .unset!;
             begins = λ x. refl;
+            lowest = λ x u a b. h .before u a (omega (arith, h .low));
             implied = λ x. absurd (true≢false x);
           },
           g,

@@ -73,7 +73,7 @@ forced-is v b = go (eqb b 1)
     go true = refl
     go false = refl
 
-module _ {n : ℕ} {ws : List ℤ} {vs tr : List ℕ} {t from : ℕ} (h : Ready n ws vs tr t from) where
+module _ {n : ℕ} {ws : List ℤ} {vs tr : List ℕ} {t from low : ℕ} (h : Ready n ws vs tr t from low) where
   w : Within n (clausesOf ws)
   w = within-words n ws (h .inside)
 

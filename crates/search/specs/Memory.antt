@@ -145,13 +145,19 @@ abbrev pub Undone : ℕ → Settings → ℕ → List ℕ → List ℕ → Type 
 Undone n ss zero vs tr = undo ss ≡ refuted
 Undone n ss (suc r) vs tr = (undo ss ≡ takes (settingsOf vs tr (suc r))) × Shaped n vs tr (suc r)
 
+-- the values of 1, 2, .., low are set
+pub record SetTo (low : ℕ) (vs : List ℕ) : Type 0 where
+  pub within : low ≤ length vs
+  pub bits : (i : ℕ) → i < low → getD vs i 0 ≤ 1
+
 -- what a turn needs
-pub record Ready (n : ℕ) (ws : List ℤ) (vs tr : List ℕ) (t from : ℕ) : Type 0 where
+pub record Ready (n : ℕ) (ws : List ℤ) (vs tr : List ℕ) (t from low : ℕ) : Type 0 where
   pub small : n < 2 ^ 31
   pub inside : AllIn n ws
   pub closes : closed ws ≡ true
   pub starts : Starts ws from
   pub shaped : Shaped n vs tr t
+  pub low-set : SetTo low vs
 
 -- what a turn leaves, from settings ss and values vs
 abbrev pub Stepped : ℕ → List ℤ → Settings → Step → List ℕ → List ℕ → List ℕ → Type 0

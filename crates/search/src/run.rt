@@ -6,6 +6,7 @@ use super::Solved;
 use super::scan::Found;
 use super::scan::scan;
 use super::trail::assign;
+use super::trail::latest;
 use super::trail::lowest;
 use super::trail::undo;
 use super::words::Spot;
@@ -19,9 +20,16 @@ pub enum Step {
     Unsat,
 }
 
-// One turn, from t settings; the scan reads on at `from`.
-pub fn turn(words: &[i32], values: &mut [u8], trail: &mut [u32], t: usize, from: usize) -> Step
-    requires { ⌜ Ready (length (now values)) (now words) (now values) (now trail) t from ⌝ }
+// One turn, from t settings; the scan reads on at `from`, and the variables 1, 2, .., low are set.
+pub fn turn(
+    words: &[i32],
+    values: &mut [u8],
+    trail: &mut [u32],
+    t: usize,
+    from: usize,
+    low: usize,
+) -> Step
+    requires { ⌜ Ready (length (now values)) (now words) (now values) (now trail) t from low ⌝ }
     ensures { λ r. ⌜ Stepped (length (now (values .entry))) (now (words .entry)) (settingsOf (now (values .entry)) (now (trail .entry)) t) r (now (values .entry)) (now (values .exit)) (now (trail .exit)) ⌝ }
 {
     match scan(words, values, from) {
@@ -36,7 +44,7 @@ pub fn turn(words: &[i32], values: &mut [u8], trail: &mut [u32], t: usize, from:
             assign(values, trail, t, var, value, 0);
             Step::Goes { set: t + 1, next }
         }
-        Found::Nothing => match lowest(values) {
+        Found::Nothing => match lowest(values, low) {
             Spot::At(v) => {
                 assign(values, trail, t, v, 0, 1);
                 Step::Tries(t + 1)
@@ -46,42 +54,39 @@ pub fn turn(words: &[i32], values: &mut [u8], trail: &mut [u32], t: usize, from:
     }
 }
 
-// The turns, from all unset.
+// The turns, from all unset. Every variable up to the latest branch is set (proofs/Branching.antt), so the next branch is
+// sought from there on.
 pub fn run(words: &[i32], values: &mut [u8], trail: &mut [u32], budget: u64) -> Solved
     requires { ⌜ Fresh (now words) (now values) (now trail) × AllUnset (now values) ⌝ }
     ensures { λ r. ⌜ Ran (outcome (now (values .entry)) (now (words .entry)) budget) (length (now (values .entry))) r (now (values .exit)) ⌝ }
 {
     let mut t: usize = 0;
     let mut from: usize = 0;
+    let mut low: usize = 0;
     let mut tries: u64 = 0;
     loop {
-        match turn(words, values, trail, t, from) {
+        match turn(words, values, trail, t, from, low) {
             Step::Goes { set, next } => {
                 t = set;
                 from = next;
             }
             Step::Tries(k) => {
                 if tries >= budget {
-                    return Solved {
-                        answer: Answered::Spent,
-                        tries,
-                    };
+                    let answer = Answered::Spent;
+                    return Solved { answer, tries };
                 }
                 tries += 1;
                 t = k;
                 from = 0;
+                low = latest(trail, k);
             }
             Step::Sat => {
-                return Solved {
-                    answer: Answered::Sat,
-                    tries,
-                };
+                let answer = Answered::Sat;
+                return Solved { answer, tries };
             }
             Step::Unsat => {
-                return Solved {
-                    answer: Answered::Unsat,
-                    tries,
-                };
+                let answer = Answered::Unsat;
+                return Solved { answer, tries };
             }
         }
     }

@@ -1,10 +1,10 @@
 // The trail: setting a variable, the lowest unset variable, undoing.
 ghost use mathlib.Core.Path.{_≡_};
-ghost use Prim.Native.Nat.{_≤_};
-ghost use lib.ListN.{length};
+ghost use Prim.Native.Nat.{_-_, _/_, _<_, _≤_};
+ghost use lib.ListN.{length, getD};
 ghost use Rattle.search.specs.Search.{lowestUnset};
 ghost use Rattle.search.specs.Answers.{spotCode};
-ghost use Rattle.search.specs.Memory.{valueAt, settingsOf, Shaped, Settable, Assigned, Undone};
+ghost use Rattle.search.specs.Memory.{valueAt, SetTo, settingsOf, Shaped, Settable, Assigned, Undone};
 use super::words::Spot;
 
 // Gives a variable its value, and the trail its word: `first` is 1 for a branch at its first value, else 0.
@@ -16,11 +16,20 @@ pub fn assign(values: &mut [u8], trail: &mut [u32], t: usize, v: usize, value: u
     trail[t] = (2 * v) as u32 + first;
 }
 
-// The lowest unset variable.
-pub fn lowest(values: &[u8]) -> Spot
+// The variable of the latest of k settings.
+pub fn latest(trail: &[u32], k: usize) -> usize
+    requires { ⌜ (0 < k) × (k ≤ length (now trail)) ⌝ }
+    ensures { λ r. ⌜ r ≡ getD (now (trail .entry)) (k - 1) 0 / 2 ⌝ }
+{
+    (trail[k - 1] / 2) as usize
+}
+
+// The lowest unset variable, where 1, 2, .., low are set.
+pub fn lowest(values: &[u8], low: usize) -> Spot
+    requires { ⌜ SetTo low (now values) ⌝ }
     ensures { λ r. ⌜ r ≡ spotCode (lowestUnset (valueAt (now (values .entry))) 1 (length (now (values .entry)))) ⌝ }
 {
-    let mut i = 0;
+    let mut i = low;
     while i < values.len() {
         if values[i] > 1 {
             return Spot::At(i + 1);

@@ -6,19 +6,21 @@ use native.Mathlib.Omega.{arith}
 use lib.ListN.{drop, getD}
 use Rattle.design.specs.Tree.{Design}
 use Rattle.design.specs.Check.{Checked, check}
-use Rattle.clauses.specs.Formula.{n}
+use Rattle.clauses.specs.Formula.{n, formula}
 use Rattle.clauses.specs.Theorem.{Theorem}
 use Rattle.clauses.proofs.Theorem.{theorem-of-file}
 use Rattle.search.specs.Search.{SAT}
 use Rattle.search.specs.Search as search
 use Rattle.search.specs.Solve.{valuesLeft}
-use Rattle.verdict.specs.Verdict.{Verdict, VIOLATED, Told, Judged, judge, Memory, choicesLeft, memoryLeft, verdict}
+use Rattle.search.proofs.Theorems.{search-ends}
+use Rattle.verdict.specs.Verdict.{Verdict, VIOLATED, Told, Judged, judge, Memory, searched, choicesLeft, memoryLeft, verdict}
 use Rattle.verdict.specs.Claim.{OfFormula, Says, OfVerdict, Witness, Demand3}
 use Rattle.verdict.proofs.Calls.{Answered, answered}
 use Rattle.verdict.proofs.Judging.{Known, Violated, judge-right, known-says, known-tries, same-verdict}
-use Rattle.verdict.proofs.Witness.{witness}
+use Rattle.verdict.proofs.Witness.{decodes, witness}
 
 of-formula : (d : Design) (p k : ℕ) → Theorem d p k → OfFormula d p k
+unfolding searched
 of-formula d p k th = record {
   satisfiable = th .satisfiable;
   decoded = λ cs b.
@@ -26,8 +28,8 @@ of-formula d p k th = record {
       record { assignment = r .0; satisfying = r .1; decodes = r .2; only = λ ρ s e v h l. th .once ρ (r .0) s (r .1) (e ∙ sym (r .2)) v h l };
   decodes = th .decodes;
   within = th .within;
-  decode = th .decode;
   words = th .words;
+  ends = search-ends (n d p k) (formula d p k) (th .within);
 }
 
 module _ (file : List ℕ) (d : Design) (e : check file ≡ Checked.accepted d) (p k budget : ℕ) (lent : Memory) where
@@ -67,5 +69,6 @@ module _ (file : List ℕ) (d : Design) (e : check file ≡ Checked.accepted d) 
 pub demand-3 : (file : List ℕ) → ((i : ℕ) → getD file i 0 < 256) → (d : Design) → check file ≡ Checked.accepted d → Demand3 file d
 demand-3 file bytes d e = record {
   formula = λ p k. of-formula d p k (theorem-of-file file bytes d e p k);
+  decode = λ p k low few. decodes file d e p low k few (theorem-of-file file bytes d e p k);
   verdict = λ p k budget lent told h. of-verdict file d e p k budget lent (theorem-of-file file bytes d e p) told (answered file d e p k budget lent told h);
 }

@@ -1,4 +1,4 @@
--- VIOLATED i: DECODE is not refused on the values left, and the choices that it writes break the property at step i.
+-- DECODE is not refused on values that store a satisfying assignment; so on VIOLATED i it writes choices that break the property at step i.
 use mathlib.Core.Path.{_≡_, refl, ap, _∙_}
 use mathlib.Core.Bool.{true, false}
 use mathlib.Core.List.{List, _++_}
@@ -17,7 +17,7 @@ use Rattle.search.specs.Search.{Value, unset, is, Settings, valueOf}
 use Rattle.search.specs.Solve.{bitOf, valuesFrom}
 use Rattle.search.proofs.Scans.{isTrue, made}
 use Rattle.search.proofs.Values.{length-from, getD-from}
-use Rattle.verdict.specs.Claim.{NoneShorter, Witness}
+use Rattle.verdict.specs.Claim.{Decodes, NoneShorter, Witness}
 use Rattle.verdict.proofs.Breaking.{breaks-at}
 
 bit-true : (x : Value) → bitOf x ≡ bit (isTrue x)
@@ -44,17 +44,20 @@ module _ (file : List ℕ) (d : Design) (e : check file ≡ Checked.accepted d) 
   decode-past i values cs few long room =
       rw (e, le-leb p maxProperty low, le-leb i maxBound few, le-leb (n d p i) (length values) long, le-leb i (length cs) room)
 
+  pub decodes : (i : ℕ) → i ≤ maxBound → Theorem d p i → Decodes file d p i
+  decodes i few th ρ values cs s h room =
+      decode-past i values cs few (h .long) room
+      ∙ ap (λ (r : Answer (List ℕ)). written r cs) (th .decode ρ values s h)
+      ∙ ap {B = Decoded} (λ (m : ℕ). record { answer = answer tt; choices = choices d p ρ i ++ drop m cs }) (th .decodes ρ s .long)
+
   pub witness : (i : ℕ) (ss : Settings) (rest cs : List ℕ) → Theorem d p i → i ≤ maxBound → i ≤ length cs → NoneShorter d p i
       → satisfies (made ss) (formula d p i) ≡ true → Witness d p i cs ((decode file p i (valuesFrom ss 1 (n d p i) ++ rest) cs) .choices)
   witness i ss rest cs th few room none s =
-      let h = values-hold (n d p i) ss rest in
       let b : Breaking d p i (choices d p (made ss) i) = th .decodes (made ss) s in
-      let x : decode file p i (valuesFrom ss 1 (n d p i) ++ rest) cs ≡ written (answer (choices d p (made ss) i)) cs =
-      decode-past i (valuesFrom ss 1 (n d p i) ++ rest) cs few (h .long) room
-      ∙ ap (λ (r : Answer (List ℕ)). written r cs) (th .decode (made ss) (valuesFrom ss 1 (n d p i) ++ rest) s h) in
+      let x = decodes i few th (made ss) (valuesFrom ss 1 (n d p i) ++ rest) cs s (values-hold (n d p i) ss rest) room in
       record {
         list = choices d p (made ss) i;
-        written = ap (λ (r : Decoded). r .choices) x ∙ ap (λ (m : ℕ). choices d p (made ss) i ++ drop m cs) (b .long);
+        written = ap (λ (r : Decoded). r .choices) x;
         long = b .long;
         movers = b .movers;
         breaks = breaks-at d p i (choices d p (made ss) i) b none;

@@ -4,7 +4,7 @@
 use mathlib.Core.Path.{_≡_}
 use mathlib.Core.Logic.{_↔_}
 use mathlib.Core.Bool.{true}
-use mathlib.Core.List.{List, _++_}
+use mathlib.Core.List.{List, [], _++_}
 use Prim.Native.Nat.{ℕ, zero, suc, _+_, _<_, _≤_}
 use lib.ListN.{length, drop}
 use Rattle.design.specs.Tree.{Design}
@@ -12,10 +12,10 @@ use Rattle.step.specs.OneStep.{breaksAt}
 use Rattle.clauses.specs.Meaning.{Assignment, satisfies, Satisfiable, Within}
 use Rattle.clauses.specs.Formula.{w, n, formula, choices}
 use Rattle.clauses.specs.Words.{words, clausesOf}
-use Rattle.clauses.specs.Answer.{answer}
-use Rattle.clauses.specs.Decode.{chosenFrom}
+use Rattle.clauses.specs.Answer.{answer, maxProperty, maxBound}
+use Rattle.clauses.specs.Decode.{decode}
 use Rattle.clauses.specs.Theorem.{AllBelow, Breaking, Breakable, Stored}
-use Rattle.search.specs.Search.{noBudget}
+use Rattle.search.specs.Search.{turn, Budget, noBudget, Ends}
 use Rattle.verdict.specs.Verdict.{Verdict, VIOLATED, CLEAN, SPENT-AT, Told, Memory, searched, verdict}
 
 -- just one satisfying assignment of the formula for bound k decodes to a list: any other gives each of the variables 1..n the same value
@@ -34,14 +34,20 @@ pub record OfFormula (d : Design) (p k : ℕ) : Type 0 where
   pub decodes : (ρ : Assignment) → satisfies ρ (formula d p k) ≡ true → Breaking d p k (choices d p ρ k)
   -- an assignment is one of variables 1..n: the formula names no other
   pub within : Within (n d p k) (formula d p k)
-  -- DECODE finds just one true flag in each frame of a satisfying assignment, and by them these choices
-  pub decode : (ρ : Assignment) (values : List ℕ) → satisfies ρ (formula d p k) ≡ true → Stored (n d p k) ρ values
-      → chosenFrom d p values k 0 ≡ answer (choices d p ρ k)
   -- the words that ENCODE's parts come to say just these clauses
   pub words : clausesOf (words (formula d p k)) ≡ formula d p k
+  -- The search of the formula ends by itself, with the budget given or with none: "Repeat" comes in finitely many turns to the answer, the tries and the
+  -- values that `searched` tells, "SPENT exactly when a try beyond the budget would be needed", and never by a count of turns.
+  pub ends : (b : Budget) → Ends (n d p k) (formula d p k) b 0 (turn (n d p k) (formula d p k) []) (searched d p b k)
+
+-- DECODE's call: "It decodes to the k choices whose choice j, from 0, is the mover with the one true flag of frame j; DECODE, if not refused, writes them."
+-- On values that store a satisfying assignment, with room for k choices, it is not refused. "All else keeps."
+abbrev pub Decodes : List ℕ → Design → ℕ → ℕ → Type 0
+Decodes file d p k = (ρ : Assignment) (values lent : List ℕ) → satisfies ρ (formula d p k) ≡ true → Stored (n d p k) ρ values → k ≤ length lent
+    → decode file p k values lent ≡ record { answer = answer tt; choices = choices d p ρ k ++ drop k lent }
 
 module _ (d : Design) (p : ℕ) where
-  -- "A bound's tries are those the search makes on its formula with no budget set." It ends (`search/proofs/Theorems`).
+  -- "A bound's tries are those the search makes on its formula with no budget set." That search ends (`ends`).
   abbrev pub triesOf : ℕ → ℕ
   triesOf i = (searched d p noBudget i) .tries
 
@@ -107,5 +113,7 @@ module _ (d : Design) (p : ℕ) where
 -- of a file and its design
 pub record Demand3 (file : List ℕ) (d : Design) : Type 0 where
   pub formula : (p k : ℕ) → OfFormula d p k
+  -- for every call that is not refused for its property or bound: "13 property over 1", "14 bound over 100"
+  pub decode : (p k : ℕ) → p ≤ maxProperty → k ≤ maxBound → Decodes file d p k
   pub verdict : (p k budget : ℕ) (lent : Memory) (told : Told) → (verdict file p k budget lent) .answer ≡ answer told
       → OfVerdict d p k budget told (lent .choices) ((verdict file p k budget lent) .memory .choices)

@@ -4,15 +4,15 @@ use lib.ListN.{length}
 use borrow.Author.Needs.{needs}
 use Rattle.search.specs.Memory.{settingsOf}
 use Rattle.search.proofs.Counting.{ahead}
-use Rattle.search.proofs.Running.{Searching, searching-start, ready-here, again-goes, again-tries, ends-spent, ends-sat, ends-unsat}
+use Rattle.search.proofs.Running.{Searching, searching-start, ready-here, again-goes, latest-try, again-tries, ends-spent, ends-sat, ends-unsat}
 use Rattle.search.proofs.run.run.Statement.{statement}
 use Rattle.search.proofs.run.run.Tie as tie
 
 abbrev Inv-loop : tie.InvT-loop
-Inv-loop words values₀ trail₀ budget t₀ from₀ tries₀ values trail t from tries = Searching (length values₀) words budget values trail t from tries
+Inv-loop words values₀ trail₀ budget t₀ from₀ low₀ tries₀ values trail t from low tries = Searching (length values₀) words budget values trail t from low tries
 
 abbrev μ-loop : tie.MeasureT-loop
-μ-loop words values₀ trail₀ budget t₀ from₀ tries₀ values trail t from tries = ahead (length values₀) (settingsOf values trail t)
+μ-loop words values₀ trail₀ budget t₀ from₀ low₀ tries₀ values trail t from low tries = ahead (length values₀) (settingsOf values trail t)
 
 loop-holds : tie.Need-loop-holds Inv-loop μ-loop
 loop-holds c =
@@ -55,17 +55,24 @@ returns c =
 add-tries : tie.Need-add-tries Inv-loop μ-loop
 add-tries c = omega arith
 
+latest-requires : tie.Need-latest-requires Inv-loop μ-loop
+latest-requires c κs =
+    let the-loop = c .before .before .before .before .before .before .before .before .before .before .before .before .loop in
+    let the-turn = c .before .before .before .before .before .before .before .before .before .turn in
+    let l = latest-try (the-loop .inv) (the-turn .result) (the-turn .last .1 .0) (the-turn .last .1 .1 .0) (the-turn .ensures) (c .before .before .before .k .given .1) in
+    (l .some, l .room)
+
 loop-less-2 : tie.Need-loop-less-2 Inv-loop μ-loop
 loop-less-2 c =
-    let the-loop = c .before .before .before .before .before .before .before .before .before .before .before .loop in
-    let the-turn = c .before .before .before .before .before .before .before .before .turn in
-    again-tries (the-loop .inv) (the-turn .result) (the-turn .last .1 .0) (the-turn .last .1 .1 .0) (the-turn .ensures) (c .before .before .k .given .1) (c .if1 .left) .less
+    let the-loop = c .before .before .before .before .before .before .before .before .before .before .before .before .before .loop in
+    let the-turn = c .before .before .before .before .before .before .before .before .before .before .turn in
+    again-tries (the-loop .inv) (the-turn .result) (the-turn .last .1 .0) (the-turn .last .1 .1 .0) (the-turn .ensures) (c .before .before .before .before .k .given .1) (c .latest .ensures) (c .before .before .if1 .left) .less
 
 loop-again-2 : tie.Need-loop-again-2 Inv-loop μ-loop
 loop-again-2 c =
-    let the-loop = c .before .before .before .before .before .before .before .before .before .before .before .loop in
-    let the-turn = c .before .before .before .before .before .before .before .before .turn in
-    again-tries (the-loop .inv) (the-turn .result) (the-turn .last .1 .0) (the-turn .last .1 .1 .0) (the-turn .ensures) (c .before .before .k .given .1) (c .if1 .left) .searching
+    let the-loop = c .before .before .before .before .before .before .before .before .before .before .before .before .before .loop in
+    let the-turn = c .before .before .before .before .before .before .before .before .before .before .turn in
+    again-tries (the-loop .inv) (the-turn .result) (the-turn .last .1 .0) (the-turn .last .1 .1 .0) (the-turn .ensures) (c .before .before .before .before .k .given .1) (c .latest .ensures) (c .before .before .if1 .left) .searching
 
 enum-told : tie.Need-enum-told Inv-loop μ-loop
 enum-told c = c .match .keys3
@@ -113,6 +120,7 @@ run-spec =
     same-length-2
     returns
     add-tries
+    latest-requires
     loop-less-2
     loop-again-2
     enum-told

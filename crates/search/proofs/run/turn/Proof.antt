@@ -39,8 +39,8 @@ assign-requires c κs =
     let the-var = c .before .before .before .var in
     (unit-settable the-pre (the-scan .result) (the-scan .ensures) (the-var .given .1), omega arith)
 
-add-t25 : tie.Need-add-t25
-add-t25 c = search needs
+add-t26 : tie.Need-add-t26
+add-t26 c = search needs
 
 enum-told-2 : tie.Need-enum-told-2
 enum-told-2 c = search needs
@@ -60,8 +60,8 @@ assign-requires-2 c κs =
     let the-lowest = c .before .before .before .before .before .lowest in
     (branch-settable the-pre (the-scan .result) (the-scan .ensures) (the-enum-told2 .given .1) (sym (the-v .given .1) ∙ the-lowest .ensures), omega arith)
 
-add-t35 : tie.Need-add-t35
-add-t35 c = search needs
+add-t36 : tie.Need-add-t36
+add-t36 c = search needs
 
 enum-told-3 : tie.Need-enum-told-3
 enum-told-3 c = search needs
@@ -132,12 +132,12 @@ turn-spec =
     returns
     enum-known-var
     assign-requires
-    add-t25
+    add-t26
     enum-told-2
     lowest-requires
     enum-known-v
     assign-requires-2
-    add-t35
+    add-t36
     enum-told-3
     same-length-3
     same-length-4

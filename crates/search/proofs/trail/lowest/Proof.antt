@@ -7,19 +7,19 @@ use Rattle.search.proofs.trail.lowest.Statement.{statement}
 use Rattle.search.proofs.trail.lowest.Tie as tie
 
 abbrev Inv-loop : tie.InvT-loop
-Inv-loop values i₀ i = Seeks values i
+Inv-loop values low i₀ i = Seeks values i
 
 abbrev μ-loop : tie.MeasureT-loop
-μ-loop values i₀ i = length values - i
+μ-loop values low i₀ i = length values - i
 
 loop-holds : tie.Need-loop-holds Inv-loop μ-loop
-loop-holds c = seeks-start _
+loop-holds c = seeks-start _ _ (c .pre)
 
 shared-slice-read-if1 : tie.Need-shared-slice-read-if1 Inv-loop μ-loop
 shared-slice-read-if1 c = omega arith
 
-add-t7 : tie.Need-add-t7 Inv-loop μ-loop
-add-t7 c = omega arith
+add-t8 : tie.Need-add-t8 Inv-loop μ-loop
+add-t8 c = omega arith
 
 returns : tie.Need-returns Inv-loop μ-loop
 returns c =
@@ -48,7 +48,7 @@ lowest-spec =
     μ-loop
     loop-holds
     shared-slice-read-if1
-    add-t7
+    add-t8
     returns
     add-i
     loop-less
