@@ -299,19 +299,31 @@ static void next_design(void)
 }
 
 /* What a call with a property and a bound is refused for, before its own reasons. */
-static uint64_t first_refusal(uint8_t property, uint8_t bound)
+static uint64_t first_refusal(uint64_t property, uint64_t bound)
 {
     return design_code ? design_code : property > 1 ? 13 : bound > 100 ? 14 : 0;
 }
 
-static uint8_t any_property(void)
+/* A number over a byte. Cut to one, most of them would be taken. */
+static uint64_t over_a_byte(void)
 {
-    return (uint8_t)PICK(0, 0, 0, 0, 1, 1, 1, 1, 2, 255);
+    return PICK(256, 257, 300, (uint64_t)1 << 32, ((uint64_t)1 << 32) + 1, UINT64_MAX - 1, UINT64_MAX);
 }
 
-static uint8_t any_bound(void)
+static uint64_t any_property(void)
 {
-    return (uint8_t)PICK(0, 0, 1, 1, 2, 2, 3, 4, 5, 99, 100, 101, 255);
+    return chance(5) ? over_a_byte() : PICK(0, 0, 0, 0, 1, 1, 1, 1, 2, 255);
+}
+
+static uint64_t any_bound(void)
+{
+    return chance(5) ? over_a_byte() : PICK(0, 0, 1, 1, 2, 2, 3, 4, 5, 99, 100, 101, 255);
+}
+
+/* The choices to lend for a bound, which may be no bound. */
+static size_t choices_for(uint64_t bound)
+{
+    return bound > 255 ? 255 : (size_t)bound;
 }
 
 /* A little less, exactly, or more than what is needed. */
@@ -396,13 +408,14 @@ static void call_holds(void)
 {
     int16_t *values = lent(VALUES, STM_VALUES * sizeof *values);
     uint16_t *statuses = lent(STATUSES, STM_STATUSES * sizeof *statuses);
-    uint8_t *holds = lent(ANSWER, 1), property = any_property();
+    uint8_t *holds = lent(ANSWER, 1);
+    uint64_t property = any_property();
     any_state(values, statuses);
     keep(ANSWER);
     uint64_t code = stm_holds(design, design_len, values, statuses, property, holds);
     ended("holds", code, SET(DESIGN) | SET(VALUES) | SET(STATUSES), SET(ANSWER));
     require(!design_code || code == design_code, "holds", "not CHECK's refusal", code);
-    require(design_code || code == 0 || STM_NUMBER(code) == 11 || (property > 1 && code == 13), "holds", "no such refusal", code);
+    require(design_code || STM_NUMBER(code) == 11 || code == (property > 1 ? 13 : 0), "holds", "no such refusal", code);
     require(design_code || !high_status(statuses) || STM_NUMBER(code) == 11, "holds", "takes a status over 15", code);
     require(code || holds[0] <= 1, "holds", "not 0 or 1", holds[0]);
 }
@@ -420,7 +433,8 @@ static size_t any_choices(uint8_t **choices)
 
 static void call_replay(void)
 {
-    uint8_t property = any_property(), *choices;
+    uint64_t property = any_property();
+    uint8_t *choices;
     size_t len = any_choices(&choices);
     uint64_t *answer = lent(ANSWER, 2 * sizeof *answer);
     keep(ANSWER);
@@ -433,7 +447,7 @@ static void call_replay(void)
 }
 
 /* SIZE, whose answer other calls use: 1 where it is not refused. */
-static int sizes_of(uint8_t property, uint8_t bound, uint64_t sizes[SIZE_LEN])
+static int sizes_of(uint64_t property, uint64_t bound, uint64_t sizes[SIZE_LEN])
 {
     uint64_t *answer = lent(ANSWER, SIZE_LEN * sizeof *answer);
     keep(ANSWER);
@@ -454,7 +468,7 @@ static void call_size(void)
 }
 
 /* One part into memory of some length. Answers the words written. */
-static uint64_t encode(uint8_t property, uint8_t bound, uint64_t part, size_t len)
+static uint64_t encode(uint64_t property, uint64_t bound, uint64_t part, size_t len)
 {
     int32_t *clauses = lent(CLAUSES, len * sizeof *clauses);
     uint64_t *answer = lent(ANSWER, sizeof *answer);
@@ -463,11 +477,11 @@ static uint64_t encode(uint8_t property, uint8_t bound, uint64_t part, size_t le
     uint64_t code = stm_encode(design, design_len, property, bound, part, clauses, len, answer);
     ended("encode", code, SET(DESIGN), SET(CLAUSES) | SET(ANSWER));
     uint64_t first = first_refusal(property, bound);
-    first = first ? first : part > (uint64_t)bound + 2 ? 15 : 0;
+    first = first ? first : part > bound + 2 ? 15 : 0;
     require(first ? code == first : code == 0 || code == 16, "encode", "not the first refusal", code);
     if (code)
         return 0;
-    require(answer[0] >= 1 || (part == (uint64_t)bound + 1), "encode", "an empty part", answer[0]);
+    require(answer[0] >= 1 || part == bound + 1, "encode", "an empty part", answer[0]);
     require(answer[0] <= len && (answer[0] == 0 || clauses[answer[0] - 1] == 0), "encode", "no closing 0", answer[0]);
     same(CLAUSES, (size_t)answer[0] * sizeof *clauses, "encode");
     return answer[0];
@@ -477,8 +491,7 @@ enum { MAX_WORDS = 512 * PAGE / 4 };
 
 static void call_encode(void)
 {
-    uint8_t property = any_property(), bound = any_bound();
-    uint64_t last = (uint64_t)bound + 2;
+    uint64_t property = any_property(), bound = any_bound(), last = choices_for(bound) + 2;
     uint64_t part = chance(80) ? below((size_t)last + 1) : PICK(last + 1, 255, 256, (uint64_t)1 << 32, UINT64_MAX);
     encode(property, bound, part, below(chance(50) ? 2000 : 40000));
 }
@@ -486,11 +499,10 @@ static void call_encode(void)
 /* Every part into memory that just suffices, and into memory short by one word. */
 static void call_parts(void)
 {
-    uint8_t property = (uint8_t)below(2), bound = (uint8_t)below(3);
-    uint64_t sizes[SIZE_LEN], total = 0;
+    uint64_t property = below(2), bound = below(3), sizes[SIZE_LEN], total = 0;
     if (!sizes_of(property, bound, sizes) || sizes[SIZE_WORDS] > MAX_WORDS / 8)
         return;
-    for (uint64_t part = 0; part <= (uint64_t)bound + 2; part++) {
+    for (uint64_t part = 0; part <= bound + 2; part++) {
         size_t words = (size_t)encode(property, bound, part, (size_t)sizes[SIZE_WORDS]);
         require(encode(property, bound, part, words) == words, "encode", "another length", words);
         require(words == 0 || encode(property, bound, part, words - 1) == 0, "encode", "short memory is not refused", words);
@@ -543,11 +555,10 @@ static void call_solve(void)
 /* A few frames' worth of values, of which some are flags. */
 static void call_decode(void)
 {
-    uint8_t property = any_property(), bound = any_bound();
-    uint64_t sizes[SIZE_LEN] = {0};
+    uint64_t property = any_property(), bound = any_bound(), sizes[SIZE_LEN] = {0};
     int known = sizes_of(property, bound, sizes);
     size_t n = sizes[SIZE_VARIABLES] > 60000 ? 60000 : (size_t)sizes[SIZE_VARIABLES];
-    size_t values_len = near(n), choices_len = near(bound);
+    size_t values_len = near(n), choices_len = near(choices_for(bound));
     uint8_t *values = lent(ASSIGNED, values_len);
     memset(values, 0, values_len);
     size_t frame = (size_t)(sizes[0] + sizes[1] + sizes[2] + sizes[3]), first = (size_t)(1 + sizes[0] + sizes[1]);
@@ -576,7 +587,7 @@ static void call_decode(void)
 static const uint64_t MAX_SEARCH = 3000000;
 
 /* The greatest bound up to `bound` whose formula is affordable, or 0; a bound that is refused stays. */
-static uint8_t affordable(uint8_t property, uint8_t bound, uint64_t sizes[SIZE_LEN])
+static uint64_t affordable(uint64_t property, uint64_t bound, uint64_t sizes[SIZE_LEN])
 {
     while (sizes_of(property, bound, sizes) && bound > 0 && sizes[SIZE_VARIABLES] * sizes[SIZE_WORDS] > MAX_SEARCH)
         bound--;
@@ -585,13 +596,13 @@ static uint8_t affordable(uint8_t property, uint8_t bound, uint64_t sizes[SIZE_L
 
 static void call_verdict(void)
 {
-    uint8_t property = any_property(), bound = (uint8_t)PICK(0, 1, 1, 2, 2, 3, 4, 101, 255);
+    uint64_t property = any_property(), bound = chance(5) ? over_a_byte() : PICK(0, 1, 1, 2, 2, 3, 4, 101, 255);
     uint64_t sizes[SIZE_LEN] = {0}, budget = PICK(0, 1, 2, 5, 20), refusal = first_refusal(property, bound);
     bound = affordable(property, bound, sizes);
     size_t words = (size_t)sizes[SIZE_WORDS], n = (size_t)sizes[SIZE_VARIABLES];
     int exact = chance(60);
     size_t clauses_len = exact ? words : near(words), values_len = exact ? n : near(n);
-    size_t trail_len = exact ? n : near(n), choices_len = exact ? bound : near(bound);
+    size_t trail_len = exact ? n : near(n), choices_len = exact ? choices_for(bound) : near(choices_for(bound));
     int32_t *clauses = lent(CLAUSES, clauses_len * sizeof *clauses);
     uint8_t *values = lent(ASSIGNED, values_len), *choices = lent(CHOICES, choices_len);
     uint32_t *trail = lent(TRAIL, trail_len * sizeof *trail);
@@ -630,7 +641,10 @@ static char path[64];
 /* Mostly a number that is taken. */
 static const char *any_number(void)
 {
-    static const char *const good[] = {"0", "1", "00", "01"}, *const bad[] = {"2", "3", "101", "255", "256", "-1", "", "x", "1x"};
+    static const char *const good[] = {"0", "1", "00", "01"};
+    static const char *const bad[] = {
+        "2", "3", "101", "255", "256", "300", "4294967297", "18446744073709551615", "18446744073709551616", "-1", "", "x", "1x",
+    };
     return chance(90) ? good[below(sizeof good / sizeof good[0])] : bad[below(sizeof bad / sizeof bad[0])];
 }
 
@@ -668,7 +682,7 @@ static void call_stm(void)
     uint64_t sizes[SIZE_LEN];
     /* a long search takes too long here */
     if (design_code == 0 && argc >= 5 && strcmp(words[1], "verdict") == 0
-        && affordable((uint8_t)strtoul(words[3], NULL, 10), 1, sizes) == 0)
+        && affordable(strtoull(words[3], NULL, 10), 1, sizes) == 0)
         strcpy(words[4], "0");
     FILE *f = fopen(path, "wb");
     if (!f || fwrite(design, 1, design_len, f) != design_len || fclose(f))

@@ -69,8 +69,8 @@ static int misuse_file(const char *message, const char *path)
 struct job {
     uint8_t design[MAX_READ];
     size_t len;
-    uint8_t property;
-    uint8_t bound;
+    uint64_t property;
+    uint64_t bound;
     uint64_t budget;
     uint8_t choices[MAX_CHOICES + 1];
     size_t choices_len;
@@ -233,7 +233,7 @@ static void print_clauses(const int32_t *words, uint64_t count)
 /* Every part in order, through memory for the longest. */
 static int print_parts(const struct job *j, int32_t *words, uint64_t len)
 {
-    for (uint64_t part = 0; part <= (uint64_t)j->bound + 2; part++) {
+    for (uint64_t part = 0; part <= j->bound + 2; part++) {
         uint64_t count[1] = {0};
         uint64_t code = stm_encode(j->design, j->len, j->property, j->bound, part, words, (size_t)len, count);
         if (code)
@@ -253,7 +253,7 @@ static int cnf(const struct job *j)
         code = stm_size(j->design, j->len, j->property, j->bound > 0, shortest);
     if (code)
         return refuse(code);
-    uint64_t last = (uint64_t)j->bound + 2;
+    uint64_t last = j->bound + 2;
     uint64_t len = shortest[SIZE_WORDS] > last ? shortest[SIZE_WORDS] : last;
     int32_t *words = lend(len, sizeof *words);
     if (!words)
@@ -268,7 +268,7 @@ static int print_verdict(struct job *j, const uint64_t answer[3])
 {
     switch (answer[0]) {
     case 0:
-        printf("CLEAN up to bound %u, %" PRIu64 " tries\n", j->bound, answer[2]);
+        printf("CLEAN up to bound %" PRIu64 ", %" PRIu64 " tries\n", j->bound, answer[2]);
         return CLEAN;
     case 1:
         printf("VIOLATED at step %" PRIu64 ", %" PRIu64 " tries\n", answer[1], answer[2]);
@@ -315,14 +315,14 @@ static int run(int argc, char **argv)
         return failed;
     if (argc == 3)
         return check(&j);
-    failed = read_byte(argv[3], &j.property);
+    failed = read_number(argv[3], UINT64_MAX, &j.property);
     if (failed)
         return failed;
     if (strcmp(command, "replay") == 0) {
         failed = read_choices(argv[4], &j);
         return failed ? failed : replay(&j);
     }
-    failed = read_byte(argv[4], &j.bound);
+    failed = read_number(argv[4], UINT64_MAX, &j.bound);
     if (failed)
         return failed;
     j.budget = UINT64_MAX;

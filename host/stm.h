@@ -6,7 +6,8 @@
  * An operation returns 0 where it is not refused. Else the low byte of what it returns is the refusal's number and the rest
  * its place, and no lent memory has changed: answer, idle and holds, too, are as they were. A place of 2^56 - 1 or more is told
  * as 2^56 - 1. Every length and content is allowed: nothing has to be tested before a call.
- * A design is the bytes of a design file; a property is 0 or 1; a bound is 0 to 100. Refusals are listed in the order of their tests.
+ * A design is the bytes of a design file; a property is 0 or 1; a bound is 0 to 100; a greater one is refused. Refusals are
+ * listed in the order of their tests.
  */
 #ifndef STM_H
 #define STM_H
@@ -34,18 +35,18 @@ uint64_t stm_step(const uint8_t *design, size_t design_len, int16_t values[STM_V
 
 /* HOLDS: 11, 13. holds[0] is 1 where the property is true in the state, else 0. */
 uint64_t stm_holds(const uint8_t *design, size_t design_len, const int16_t values[STM_VALUES],
-                   const uint16_t statuses[STM_STATUSES], uint8_t property, uint8_t holds[1]);
+                   const uint16_t statuses[STM_STATUSES], uint64_t property, uint8_t holds[1]);
 
 /* REPLAY: 13, 14, 12. A choice is a byte. answer[0] is 1 where the choices break the property, and answer[1] the first step
  * that does; else both are 0. */
-uint64_t stm_replay(const uint8_t *design, size_t design_len, uint8_t property, const uint8_t *choices, size_t choices_len,
+uint64_t stm_replay(const uint8_t *design, size_t design_len, uint64_t property, const uint8_t *choices, size_t choices_len,
                     uint64_t answer[2]);
 
 /* SIZE: 13, 14. answer is S, P, w, G, n, clauses, words. */
-uint64_t stm_size(const uint8_t *design, size_t design_len, uint8_t property, uint8_t bound, uint64_t answer[7]);
+uint64_t stm_size(const uint8_t *design, size_t design_len, uint64_t property, uint64_t bound, uint64_t answer[7]);
 
 /* ENCODE: 13, 14, 15, 16. Writes the words of one part; answer[0] is their number. */
-uint64_t stm_encode(const uint8_t *design, size_t design_len, uint8_t property, uint8_t bound, uint64_t part, int32_t *clauses,
+uint64_t stm_encode(const uint8_t *design, size_t design_len, uint64_t property, uint64_t bound, uint64_t part, int32_t *clauses,
                     size_t clauses_len, uint64_t answer[1]);
 
 /* SOLVE: 17, 16. answer[0] is 0 for SAT, 1 for UNSAT, 2 for SPENT; answer[1] is the tries. The first n values are then 0 or 1
@@ -54,12 +55,12 @@ uint64_t stm_solve(uint64_t n, const int32_t *words, size_t words_len, uint8_t *
                    size_t trail_len, uint64_t budget, uint64_t answer[2]);
 
 /* DECODE: 13, 14, 16, 18. Writes `bound` choices and keeps the rest. */
-uint64_t stm_decode(const uint8_t *design, size_t design_len, uint8_t property, uint8_t bound, const uint8_t *values,
+uint64_t stm_decode(const uint8_t *design, size_t design_len, uint64_t property, uint64_t bound, const uint8_t *values,
                     size_t values_len, uint8_t *choices, size_t choices_len);
 
 /* VERDICT: 13, 14, 16. answer[0] is 0 for CLEAN, 1 for VIOLATED, 2 for SPENT; answer[1] the step that breaks, or the bound
  * that was spent, else 0; answer[2] the tries. On VIOLATED the first answer[1] choices are written. */
-uint64_t stm_verdict(const uint8_t *design, size_t design_len, uint8_t property, uint8_t bound, uint64_t budget,
+uint64_t stm_verdict(const uint8_t *design, size_t design_len, uint64_t property, uint64_t bound, uint64_t budget,
                      int32_t *clauses, size_t clauses_len, uint8_t *values, size_t values_len, uint32_t *trail,
                      size_t trail_len, uint8_t *choices, size_t choices_len, uint64_t answer[3]);
 

@@ -27,22 +27,22 @@ macro_rules! entries {
                 (design: *const u8, design_len: usize)
                 (values: *const [i16; 32])
                 (statuses: *const [u16; 8])
-                (property: u8)
+                (property: u64)
                 (holds: *mut [u8; 1])
             ];
             stm_replay[
-                (design: *const u8, design_len: usize, property: u8)
+                (design: *const u8, design_len: usize, property: u64)
                 (choices: *const u8, choices_len: usize)
                 (answer: *mut [u64; 2])
             ];
             stm_size[
-                (design: *const u8, design_len: usize, property: u8)
-                (bound: u8)
+                (design: *const u8, design_len: usize, property: u64)
+                (bound: u64)
                 (answer: *mut [u64; 7])
             ];
             stm_encode[
-                (design: *const u8, design_len: usize, property: u8)
-                (bound: u8)
+                (design: *const u8, design_len: usize, property: u64)
+                (bound: u64)
                 (part: u64)
                 (clauses: *mut i32, clauses_len: usize)
                 (answer: *mut [u64; 1])
@@ -56,14 +56,14 @@ macro_rules! entries {
                 (answer: *mut [u64; 2])
             ];
             stm_decode[
-                (design: *const u8, design_len: usize, property: u8)
-                (bound: u8)
+                (design: *const u8, design_len: usize, property: u64)
+                (bound: u64)
                 (values: *const u8, values_len: usize)
                 (choices: *mut u8, choices_len: usize)
             ];
             stm_verdict[
-                (design: *const u8, design_len: usize, property: u8)
-                (bound: u8)
+                (design: *const u8, design_len: usize, property: u64)
+                (bound: u64)
                 (budget: u64)
                 (clauses: *mut i32, clauses_len: usize)
                 (values: *mut u8, values_len: usize)

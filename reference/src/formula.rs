@@ -13,19 +13,19 @@ pub use parts::{Formula, Size};
 pub use sink::{Count, Sink};
 
 /// SIZE: 13, 14.
-pub fn size(query: Query<Design>, bound: u8) -> Result<Size, Refusal> {
-    query.check_bound(bound as u64)?;
+pub fn size(query: Query<Design>, bound: u64) -> Result<Size, Refusal> {
+    query.check_bound(bound)?;
     Ok(Formula::new(query, bound).size())
 }
 
 /// ENCODE: 13, 14, 15, 16. It answers the number of words written.
 pub fn encode(
     query: Query<Design>,
-    bound: u8,
+    bound: u64,
     part: u64,
     clauses: &mut [i32],
 ) -> Result<u64, Refusal> {
-    query.check_bound(bound as u64)?;
+    query.check_bound(bound)?;
     let formula = Formula::new(query, bound);
     if part > formula.last_part() {
         return Err(refusal(15, 0));
@@ -40,13 +40,13 @@ pub fn encode(
 /// DECODE: 13, 14, 16, 18. It writes the one mover flagged in each frame.
 pub fn decode(
     query: Query<Design>,
-    bound: u8,
+    bound: u64,
     values: &[u8],
     choices: &mut [u8],
 ) -> Result<(), Refusal> {
-    query.check_bound(bound as u64)?;
+    query.check_bound(bound)?;
     let formula = Formula::new(query, bound);
-    if (values.len() as u64) < formula.variables() || choices.len() < bound as usize {
+    if (values.len() as u64) < formula.variables() || (choices.len() as u64) < bound {
         return Err(refusal(16, 0));
     }
     let decoded = formula.decode(values)?;

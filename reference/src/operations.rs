@@ -52,7 +52,7 @@ pub trait Operations {
         Answer::Missing
     }
 
-    fn size(&mut self, query: Query<[u8]>, bound: u8) -> Answer<Size> {
+    fn size(&mut self, query: Query<[u8]>, bound: u64) -> Answer<Size> {
         Answer::Missing
     }
 
@@ -60,7 +60,7 @@ pub trait Operations {
     fn encode(
         &mut self,
         query: Query<[u8]>,
-        bound: u8,
+        bound: u64,
         part: u64,
         clauses: &mut [i32],
     ) -> Answer<u64> {
@@ -82,7 +82,7 @@ pub trait Operations {
     fn decode(
         &mut self,
         query: Query<[u8]>,
-        bound: u8,
+        bound: u64,
         values: &[u8],
         choices: &mut [u8],
     ) -> Answer<()> {
@@ -92,7 +92,7 @@ pub trait Operations {
     fn verdict(
         &mut self,
         query: Query<[u8]>,
-        bound: u8,
+        bound: u64,
         budget: u64,
         lent: Lent,
     ) -> Answer<Verdict> {
@@ -130,14 +130,14 @@ impl Operations for Reference {
         query.checked(|q| step::replay(q, choices)).into()
     }
 
-    fn size(&mut self, query: Query<[u8]>, bound: u8) -> Answer<Size> {
+    fn size(&mut self, query: Query<[u8]>, bound: u64) -> Answer<Size> {
         query.checked(|q| formula::size(q, bound)).into()
     }
 
     fn encode(
         &mut self,
         query: Query<[u8]>,
-        bound: u8,
+        bound: u64,
         part: u64,
         clauses: &mut [i32],
     ) -> Answer<u64> {
@@ -158,7 +158,7 @@ impl Operations for Reference {
     fn decode(
         &mut self,
         query: Query<[u8]>,
-        bound: u8,
+        bound: u64,
         values: &[u8],
         choices: &mut [u8],
     ) -> Answer<()> {
@@ -168,7 +168,7 @@ impl Operations for Reference {
     fn verdict(
         &mut self,
         query: Query<[u8]>,
-        bound: u8,
+        bound: u64,
         budget: u64,
         lent: Lent,
     ) -> Answer<Verdict> {

@@ -22,8 +22,8 @@ pub fn clauses_output(input: &[u8]) -> Vec<u8> {
     let [property, bound, design @ ..] = input else {
         return refused(Refusal { number: 1, place: 0 });
     };
-    let query = Query::new(read_design(design), *property);
-    query.checked(|query| print_clauses(query, *bound)).unwrap_or_else(refused)
+    let query = Query::new(read_design(design), *property as u64);
+    query.checked(|query| print_clauses(query, *bound as u64)).unwrap_or_else(refused)
 }
 
 fn refused(refusal: Refusal) -> Vec<u8> {
@@ -39,7 +39,7 @@ fn split_replay(input: &[u8]) -> Option<(Query<'_, [u8]>, &[u8])> {
         return None;
     };
     let (choices, design) = rest.split_at_checked(*count as usize)?;
-    Some((Query::new(read_design(design), *property), choices))
+    Some((Query::new(read_design(design), *property as u64), choices))
 }
 
 fn print_replay(query: Query<Design>, choices: &[u8]) -> Result<Vec<u8>, Refusal> {
@@ -92,8 +92,8 @@ impl Sink for Lines {
     }
 }
 
-fn print_clauses(query: Query<Design>, bound: u8) -> Result<Vec<u8>, Refusal> {
-    query.check_bound(bound as u64)?;
+fn print_clauses(query: Query<Design>, bound: u64) -> Result<Vec<u8>, Refusal> {
+    query.check_bound(bound)?;
     let formula = Formula::new(query, bound);
     let too_long = |part| formula.part_count(part).words > MAX_PART_WORDS;
     if (0..=formula.last_part()).any(too_long) {

@@ -145,13 +145,13 @@ fn decode(operations: &mut impl Operations, d: &str, rest: &[&str]) -> Option<St
     let [property, bound, values, length] = rest else {
         return None;
     };
-    let bound: u8 = number(bound)?;
+    let bound: u64 = number(bound)?;
     let mut choices: Vec<u8> = lent(length)?;
     let design = bytes(d)?;
     let query = query(&design, property)?;
     let answer = operations.decode(query, bound, &list(values)?, &mut choices);
     let memory = memory_text(&[hash(&choices)]);
-    finish_with(answer, &memory, |()| format!("ok {}", list_text(front(&choices, bound as u64))))
+    finish_with(answer, &memory, |()| format!("ok {}", list_text(front(&choices, bound))))
 }
 
 fn verdict(operations: &mut impl Operations, d: &str, rest: &[&str]) -> Option<String> {

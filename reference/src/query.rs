@@ -3,7 +3,7 @@
 
 use crate::design::{check, refusal, Design, Refusal};
 
-const MAX_PROPERTY: u8 = 1;
+const MAX_PROPERTY: u64 = 1;
 /// The greatest bound, and the most choices that REPLAY takes.
 pub const MAX_BOUND: u64 = 100;
 
@@ -13,7 +13,7 @@ pub const MAX_BOUND: u64 = 100;
 #[derive(Debug)]
 pub struct Query<'a, D: ?Sized> {
     pub design: &'a D,
-    pub property: u8,
+    pub property: u64,
 }
 
 impl<D: ?Sized> Clone for Query<'_, D> {
@@ -25,7 +25,7 @@ impl<D: ?Sized> Clone for Query<'_, D> {
 impl<D: ?Sized> Copy for Query<'_, D> {}
 
 impl<'a, D: ?Sized> Query<'a, D> {
-    pub fn new(design: &'a D, property: u8) -> Query<'a, D> {
+    pub fn new(design: &'a D, property: u64) -> Query<'a, D> {
         Query { design, property }
     }
 }

@@ -31,11 +31,11 @@ pub struct Lent<'a> {
 /// VERDICT: 13, 14, 16, then the bounds from 0.
 pub fn verdict(
     query: Query<Design>,
-    bound: u8,
+    bound: u64,
     budget: u64,
     mut lent: Lent,
 ) -> Result<Verdict, Refusal> {
-    query.check_bound(bound as u64)?;
+    query.check_bound(bound)?;
     check_memory(&Formula::new(query, bound), &lent, bound)?;
     let mut tries = 0;
     for k in 0..=bound {
@@ -44,22 +44,22 @@ pub fn verdict(
         tries += solved.tries;
         match solved.outcome {
             Outcome::Unsat => {}
-            Outcome::Spent => return Ok(Verdict { finding: Finding::Spent(k as u64), tries }),
+            Outcome::Spent => return Ok(Verdict { finding: Finding::Spent(k), tries }),
             Outcome::Sat => {
                 formula::decode(query, k, lent.values, lent.choices)?;
-                return Ok(Verdict { finding: Finding::Violated(k as u64), tries });
+                return Ok(Verdict { finding: Finding::Violated(k), tries });
             }
         }
     }
     Ok(Verdict { finding: Finding::Clean, tries })
 }
 
-fn check_memory(formula: &Formula, lent: &Lent, bound: u8) -> Result<(), Refusal> {
+fn check_memory(formula: &Formula, lent: &Lent, bound: u64) -> Result<(), Refusal> {
     let size = formula.size();
     let short = (lent.clauses.len() as u64) < size.words
         || (lent.values.len() as u64) < size.variables
         || (lent.trail.len() as u64) < size.variables
-        || lent.choices.len() < bound as usize;
+        || (lent.choices.len() as u64) < bound;
     if short {
         Err(refusal(16, 0))
     } else {

@@ -70,7 +70,7 @@ fn lists_that_break() {
 fn models_are_the_breaking_lists() {
     let design = design_a();
     for (bound, count) in [0, 0, 0, 1, 9, 51].into_iter().enumerate() {
-        let bound = bound as u8;
+        let bound = bound as u64;
         let n = variables(&design, 0, bound);
         let models = models(n, &formula_words(&design, 0, bound));
         let lists = breaking_lists(&design, 0, bound as usize);
@@ -81,7 +81,7 @@ fn models_are_the_breaking_lists() {
     }
 }
 
-fn decoded_lists(models: &[Vec<u8>], bound: u8) -> Vec<Vec<u8>> {
+fn decoded_lists(models: &[Vec<u8>], bound: u64) -> Vec<Vec<u8>> {
     let decoded = |values: &Vec<u8>| {
         let mut choices = vec![255; bound as usize];
         decode(Query::new(&design_a(), 0), bound, values, &mut choices).unwrap();
@@ -93,10 +93,10 @@ fn decoded_lists(models: &[Vec<u8>], bound: u8) -> Vec<Vec<u8>> {
 #[test]
 fn each_list_has_one_assignment() {
     let design = design_a();
-    for bound in 0..=3u8 {
+    for bound in 0..=3u64 {
         let n = variables(&design, 0, bound);
         let words = formula_words(&design, 0, bound);
-        let last = part_words(&design, 0, bound, bound as u64 + 2).len();
+        let last = part_words(&design, 0, bound, bound + 2).len();
         let without_last = &words[..words.len() - last];
         for list in all_lists(3, bound as usize) {
             let flag = |(j, c): (usize, &u8)| 2 + 475 * j as i32 + 101 + *c as i32;
@@ -112,8 +112,8 @@ fn each_list_has_one_assignment() {
 fn tries_of_each_bound() {
     let design = design_a();
     for (bound, tries) in [0, 4, 16, 17, 19, 21, 23].into_iter().enumerate() {
-        let n = variables(&design, 0, bound as u8);
-        let words = formula_words(&design, 0, bound as u8);
+        let n = variables(&design, 0, bound as u64);
+        let words = formula_words(&design, 0, bound as u64);
         let (answer, values) = solved(n, &words, u64::MAX);
         assert_eq!((answer.tries, is_sat(&answer)), (tries, bound >= 3));
         let mut quick = QuickSearch::new(n, &words);

@@ -25,7 +25,7 @@ fn small_design(random: &mut Random) -> Design {
     design(random, Plan { integer_percent: 30, ..plan })
 }
 
-fn decoded(design: &Design, property: u8, bound: u8, values: &[u8]) -> Vec<u8> {
+fn decoded(design: &Design, property: u64, bound: u64, values: &[u8]) -> Vec<u8> {
     let mut choices = vec![0; bound as usize];
     decode(Query::new(design, property), bound, values, &mut choices).unwrap();
     choices
@@ -37,8 +37,8 @@ fn models_of_random_designs_are_their_breaking_lists() {
     let mut broken = [0; 5];
     for _ in 0..400 {
         let design = through_file(&small_design(&mut random));
-        let property = random.below(2) as u8;
-        let bound = random.between(0, 4) as u8;
+        let property = random.below(2) as u64;
+        let bound = random.between(0, 4) as u64;
         let n = variables(&design, property, bound);
         let models = models(n, &formula_words(&design, property, bound));
         let lists = breaking_lists(&design, property, bound as usize);
@@ -56,14 +56,14 @@ fn verdicts_of_random_designs_are_their_first_breaks() {
     let mut random = Random::new(6);
     for _ in 0..150 {
         let design = small_design(&mut random);
-        let property = random.below(2) as u8;
-        let bound = random.between(0, 3) as u8;
+        let property = random.below(2) as u64;
+        let bound = random.between(0, 3) as u64;
         let (verdict, choices) = verdict_of(&design, property, bound, u64::MAX);
         let first =
             (0..=bound).find(|&k| !breaking_lists(&design, property, k as usize).is_empty());
         match first {
             Some(k) => {
-                assert_eq!(verdict.finding, Finding::Violated(k as u64));
+                assert_eq!(verdict.finding, Finding::Violated(k));
                 assert!(breaks(&design, property, &choices[..k as usize]));
             }
             None => assert_eq!(verdict.finding, Finding::Clean),

@@ -89,7 +89,7 @@ fn irrational_properties_by_search() {
             let Some(values) = model else { continue };
             let mut choices = vec![0; bound as usize];
             decode(Query::new(&design, 0), bound, &values, &mut choices).unwrap();
-            assert_eq!(replay(Query::new(&design, 0), &choices), Ok(Some(step as u64)));
+            assert_eq!(replay(Query::new(&design, 0), &choices), Ok(Some(step)));
         }
         assert_eq!(tries, total);
     }
@@ -99,7 +99,7 @@ fn irrational_properties_by_search() {
 #[test]
 fn tries_without_pruning() {
     let design = money_changer(Version::Original, Property::Uic1);
-    for bound in 0..=3u8 {
+    for bound in 0..=3u64 {
         let n = variables(&design, 1, bound);
         let mut search = QuickSearch::new(n, &formula_words(&design, 1, bound));
         assert_eq!(search.first_model(), None);

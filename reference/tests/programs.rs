@@ -69,7 +69,7 @@ fn clauses_in_order() {
     for bound in [0, 1, 2] {
         let output = printed(&[0, bound], &file);
         let numbers: Vec<i32> = output.split_whitespace().map(|n| n.parse().unwrap()).collect();
-        assert_eq!(numbers, formula_words(&design_a(), 0, bound));
+        assert_eq!(numbers, formula_words(&design_a(), 0, bound as u64));
         for line in output.lines() {
             assert!(line.ends_with(" 0") && !line.contains("  "));
         }

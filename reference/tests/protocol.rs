@@ -77,6 +77,29 @@ fn leading_zeros_and_signs() {
     assert_eq!(with_design(&format!("holds D {negative} 0,0,0,0,0,0,0,0 0")), "ok 1");
 }
 
+/// No property and no bound is cut to a byte.
+#[test]
+fn properties_and_bounds_over_a_byte() {
+    let none = "0,0,0,0,0,0,0,0";
+    for number in ["256", "257", "300", "4294967297", "18446744073709551615"] {
+        let hash = "cbf29ce484222325";
+        for (request, refused) in [
+            (format!("holds D {ZEROS} {none} {number}"), "refused 13 at 0"),
+            (format!("replay D {number} -"), "refused 13 at 0"),
+            (format!("size D {number} 101"), "refused 13 at 0"),
+            (format!("size D 0 {number}"), "refused 14 at 0"),
+            (format!("encode D 0 {number} 0 0"), &format!("refused 14 at 0 mem {hash}")),
+            (format!("decode D 1 {number} - 0"), &format!("refused 14 at 0 mem {hash}")),
+            (
+                format!("verdict D 0 {number} 0 0 0 0 0"),
+                &format!("refused 14 at 0 mem {hash} {hash} {hash} {hash}"),
+            ),
+        ] {
+            assert_eq!(with_design(&request), refused, "{request}");
+        }
+    }
+}
+
 #[test]
 fn malformed_requests() {
     let (none, more) = ("0,0,0,0,0,0,0,0", format!("{ZEROS},0"));
@@ -112,7 +135,9 @@ fn malformed_requests() {
         "solve 1 1,,0 1 1 0",
         "solve 1 +1,0 1 1 0",
         "solve 1 9999999999,0 1 1 0",
-        "size 00 256 0",
+        "size 00 18446744073709551616 0",
+        "size 00 0 18446744073709551616",
+        "trace 00 256 -",
         "size 00 0 -1",
         "replay 00 0 256",
         "replay 00 0 1,",

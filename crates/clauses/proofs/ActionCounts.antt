@@ -6,7 +6,7 @@ use Prim.Native.Nat.{ℕ, _+_, _-_, _<_, _≤_}
 use native.Mathlib.Omega.{arith}
 use lib.ListN.{getD}
 use Rattle.design.specs.Tree.{BoolExpr, Stmt, Stmts, assign, assignB, ifElse, then}
-use Rattle.design.specs.Limits.{maxBytes, maxDepth}
+use Rattle.design.specs.Limits.{maxBytes, maxDepth, maxBits}
 use Rattle.design.specs.Reading.{Read}
 use Rattle.design.specs.Expression.{Names, intExpr, boolExpr}
 use Rattle.design.specs.Action.{assignment, statements, statement, list}
@@ -14,7 +14,8 @@ use Rattle.step.specs.Accepted.{isRead, past}
 use Rattle.step.proofs.Accepted.{two, two-second}
 use Rattle.step.proofs.Runs.{list-in, list-live, seq-none, seq-step, seq-first, stmt-forward, stmt-assign, bool-forward, list-forward, if-test, if-then, if-else, as-if, as-int, as-bool}
 use Rattle.clauses.specs.Cost.{cost, addCosts, intCost, boolCost, statementCost, statementsCost}
-use Rattle.clauses.specs.FrameSizes.{gatesAt, both, stmtGates, listGates}
+use Rattle.clauses.specs.FrameSizes.{noGates, gatesAt, both, stmtGates, listGates, FewGates}
+use Rattle.clauses.specs.Limits.{textGates}
 use Rattle.clauses.specs.declared.cost.GatesAt.{GatesAt}
 use Rattle.clauses.proofs.Inside.{list-few}
 use Rattle.clauses.proofs.GateCounts.{gates, gates-past, one-gates, two-gates, three-gates}
@@ -101,8 +102,9 @@ module _ (text : List ℕ) (N : Names) (end : ℕ) where
     pub on : at < g .next
 
   module _ (bits k at : ℕ) where
-    pub counting-start : (n : ℕ) → n ≡ getD text at 0 → isRead (L k at) ≡ true → Counting bits k at n (gates 0 0 (at + 1))
-    counting-start n q h =
+    pub counting-start : (n : ℕ) (g : GatesAt) → n ≡ getD text at 0 → isRead (L k at) ≡ true → g ≡ noGates (at + 1) → Counting bits k at n g
+    counting-start n g q h z =
+        subst (Counting bits k at n) (sym z) (
         let e = list-in text N end k at (list-live text N end k at h) ∙ ap (λ (j : ℕ). Q k j (at + 1)) (sym q) in
         let z = ap (listGates bits) e in
         record {
@@ -111,7 +113,7 @@ module _ (text : List ℕ) (N : Names) (end : ℕ) where
           wides = omega (arith, ap (λ (x : GatesAt). x .wides) z);
           ends = sym (ap (λ (x : GatesAt). x .next) z);
           on = omega arith;
-        }
+        })
 
     pub counting-on : (n : ℕ) (g s t : GatesAt) → 0 < n → Counting bits k at n g → s ≡ stmtGates bits (S k (g .next)) → t ≡ both g s 0 0 → Counting bits k at (n - 1) t
     counting-on n g s t l c e u =
@@ -132,10 +134,10 @@ module _ (text : List ℕ) (N : Names) (end : ℕ) where
           on = omega (arith, c .on);
         })
 
-    pub counting-few : (n : ℕ) (g : GatesAt) → end ≤ maxBytes → bits ≤ 544 → Counting bits k at n g → (g .ands ≤ 8912896) × (g .wides ≤ 8912896)
+    pub counting-few : (n : ℕ) (g : GatesAt) → end ≤ maxBytes → bits ≤ maxBits → Counting bits k at n g → FewGates textGates g
     counting-few n g l few c =
         let f = list-few text N end l bits few k at (listGates bits (L k at)) refl in
-        (omega (arith, f .ands, c .ands), omega (arith, f .wides, c .wides))
+        record { ands = omega (arith, f .ands, c .ands); wides = omega (arith, f .wides, c .wides) }
 
     pub counting-end : (n : ℕ) (g : GatesAt) → n ≤ 0 → Counting bits k at n g → g ≡ listGates bits (L k at)
     unfolding statementsCost

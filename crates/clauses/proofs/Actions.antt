@@ -10,7 +10,8 @@ use lib.Seq.{set-getD}
 use Rattle.design.specs.Tree.{BoolExpr, Stmt, Stmts, assign, assignB, ifElse, done, then, InvalidCell, Design, Mover, cell, raise, movers, bit}
 use Rattle.design.specs.State.{State, Layout, layout, statusSlot, statusWidth, widths}
 use Rattle.design.specs.WellFormed.{BoolOk, StmtOk, StmtsOk, MoverOk, MoversOk, InvalidsOk, WellFormed}
-use Rattle.step.specs.OneStep.{execute, executeAll, statusAndEvent, enabled, effect, move, noInvalid, property}
+use Rattle.step.specs.Property.{Property, invariant, noInvalidCell, PropertyOk}
+use Rattle.step.specs.OneStep.{execute, executeAll, statusAndEvent, enabled, effect, move, noInvalid, holds}
 use Rattle.clauses.specs.Literal.{Literal, negate, trueLiteral}
 use Rattle.clauses.specs.Meaning.{literalTrue}
 use Rattle.clauses.specs.Circuit.{Bits}
@@ -108,11 +109,11 @@ module _ (ws : List ℕ) (l : Layout) where
         → Correct n (statement! x l s n) (Fits ws) (λ ρ r. stateOf ρ r ≡ execute x l (stateOf ρ s))
     statement-correct (assign v e) s n f k =
         correct-bind _ _ (int-correct ws l s e n f (k .1)) λ x n₁ l₁ bx.
-        correct-give _ (set-fits n₁ s v x (fits-up l₁ f) (record { below = bx .below; wide = bx .wide ∙ sym (k .0) })) λ ρ one ex.
+        correct-give _ (set-fits n₁ s v x (fits-up l₁ f) (record { below = bx .below; wide = bx .wide ∙ sym (k .0 .width) })) λ ρ one ex.
         map-set (number ρ) s v x ∙ ap (λ y. set (stateOf ρ s) v y) ex
     statement-correct (assignB v e) s n f k =
         correct-bind _ _ (bool-correct ws l s e n f (k .1)) λ x n₁ l₁ bx.
-        correct-give _ (set-fits n₁ s v (x ∷ []) (fits-up l₁ f) (record { below = (bx, tt); wide = sym (k .0) })) λ ρ one ex.
+        correct-give _ (set-fits n₁ s v (x ∷ []) (fits-up l₁ f) (record { below = (bx, tt); wide = sym (k .0 .width) })) λ ρ one ex.
         map-set (number ρ) s v (x ∷ []) ∙ ap (λ y. set (stateOf ρ s) v y) (bit-alone (literalTrue ρ x) ∙ ap bit ex)
     statement-correct (ifElse c a b) s n f k =
         correct-bind _ _ (bool-correct ws l s c n f (k .0)) λ x n₁ l₁ bx.
@@ -146,7 +147,7 @@ module _ (ws : List ℕ) (l : Layout) where
         correct-means (and-correct x y n₂ (omega arith) by) λ ρ r one e ey ex. e ∙ ap₂ _&&_ ex ey
     enable-correct (raise v) n f k =
         correct-give _ (negate-below n (booleanAt s v) (boolean-below v f)) λ ρ one.
-        negate-true ρ (booleanAt s v) ∙ ap not (boolean-value ws n s v f k ρ)
+        negate-true ρ (booleanAt s v) ∙ ap not (boolean-value ws n s v f (k .width) ρ)
 
     effect-correct : (m : Mover) (n : ℕ) → Fits ws n s → MoverOk ws l m
         → Correct n (effect! l s m n) (Fits ws) (λ ρ r. stateOf ρ r ≡ effect l (stateOf ρ s) m)
@@ -155,11 +156,11 @@ module _ (ws : List ℕ) (l : Layout) where
         correct-bind _ _ (statements-correct (c .action) s n f (k .action)) λ a n₁ l₁ fa.
         let t = constant-word n₁ statusWidth (c .target) (fa .known) in
         let v = statusSlot l (c .matrix) in
-        correct-give _ (set-fits n₁ a v (constantBits statusWidth (c .target)) fa (record { below = t .below; wide = t .wide ∙ sym (k .matrix) })) λ ρ one ea.
+        correct-give _ (set-fits n₁ a v (constantBits statusWidth (c .target)) fa (record { below = t .below; wide = t .wide ∙ sym (k .matrix .width) })) λ ρ one ea.
         map-set (number ρ) a v (constantBits statusWidth (c .target))
         ∙ ap₂ (λ x y. set x v y) ea (number-constant ρ one statusWidth (c .target) (k .target))
     effect-correct (raise v) n f k =
-        correct-give _ (set-fits n s v (trueLiteral ∷ []) f (record { below = (omega (arith, f .known), tt); wide = sym k })) λ ρ one.
+        correct-give _ (set-fits n s v (trueLiteral ∷ []) f (record { below = (omega (arith, f .known), tt); wide = sym (k .width) })) λ ρ one.
         map-set (number ρ) s v (trueLiteral ∷ []) ∙ rw one
 
     mover-correct : (m : Mover) (n : ℕ) → Fits ws n s → MoverOk ws l m
@@ -194,10 +195,10 @@ module _ (ws : List ℕ) (l : Layout) where
         e ∙ ap (λ b. b && noInvalid l (stateOf ρ s) ps) (ey ∙ ap (λ b. literalTrue ρ c && b) (negate-true ρ x ∙ ap not ex)) ∙ and-assoc (literalTrue ρ c) _ _
 
 module _ (d : Design) (wf : WellFormed d) (s : Slots) (n : ℕ) (f : Fits (widths d) n s) where
-  pub property-correct : (p : ℕ) → Correct n (property! d p s n) LiteralBelow (λ ρ r. literalTrue ρ r ≡ property d p (stateOf ρ s))
-  unfolding property! property
-  property-correct zero = bool-correct (widths d) (layout d) s (d .invariant) n f (wf .invariant)
-  property-correct (suc p) =
+  pub property-correct : (p : Property) → PropertyOk d p → Correct n (property! d p s n) LiteralBelow (λ ρ r. literalTrue ρ r ≡ holds d p (stateOf ρ s))
+  unfolding property! holds PropertyOk
+  property-correct (invariant e) ok = bool-correct (widths d) (layout d) s e n f ok
+  property-correct noInvalidCell ok =
       correct-means (noInvalid-correct (widths d) (layout d) s (d .invalid) trueLiteral n f (omega (arith, f .known)) (wf .invalid)) λ ρ r one e.
       e ∙ ap (λ b. b && noInvalid (layout d) (stateOf ρ s) (d .invalid)) one
 

@@ -1,5 +1,5 @@
--- "the limits keep n below 2^31": the sizes of an accepted design, and of its formula for a bound up to 100.
-use mathlib.Core.Path.{_≡_, refl, sym, ap, _∙_}
+-- "the limits keep n below 2^31": the sizes of an accepted design, and of its formula for any bound.
+use mathlib.Core.Path.{_≡_, sym, ap, _∙_}
 use mathlib.Core.Bool.{true, false}
 use mathlib.Core.List.{List, [], _∷_, _++_, map}
 use Prim.Native.Nat.{ℕ, zero, suc, _+_, _*_, _<_, _≤_}
@@ -9,21 +9,24 @@ use borrow.Author.Tests.{eqb-true}
 use lib.ListN.{length, getD, replicate, length-map}
 use Rattle.design.specs.Tree.{BoolExpr, constantB, Kind, boolean, integer, external, Variable, Cell, InvalidCell, Design, Mover, cell, raise, ifExternal, externals, movers}
 use Rattle.design.specs.State.{width, statusWidth, widths}
-use Rattle.design.specs.Limits.{maxDepth, maxNest}
+use Rattle.design.specs.Limits.{maxVariables, maxCells, maxMovers, maxDepth, maxNest, maxBits}
 use Rattle.design.specs.Reading.{Read, got, bad}
 use Rattle.design.specs.Expression.{Names, boolExpr}
 use Rattle.design.specs.DesignFile.{item, Matrix, Entry, normal, invalid, eventAt, guard, filling, c-matrix, c-event, c-guard, c-middle, c-past, c-kind, cellAt}
 use Rattle.design.specs.Check.{Checked, check, trailer, normals, invalids, matricesOffset, eventsOffset, cellsOffset, invariantOffset, names, eventIn}
 use Rattle.design.specs.Sections.{Run, Rows, Cells, EntryRead}
 use Rattle.design.proofs.Sections.{need-inv, item-same, Whole, whole}
+use Rattle.design.proofs.Widths.{total-append, statuses-total}
 use Rattle.design.proofs.Positions.{event-reads, cell-reads, invariant-stands}
+use Rattle.step.specs.Property.{propertyOf}
 use Rattle.clauses.specs.Formula.{total, S, w}
 use Rattle.clauses.specs.Cost.{gatesIn, boolCost, enableCost, effectCost, moverCost, moversCost, invalidCost, propertyCost, stepCost}
+use Rattle.clauses.specs.Limits.{gatesOfByte, gatesOfActionByte, gatesOfEvent, mostGates}
 use Rattle.clauses.proofs.Bytes.{bool-bytes, list-bytes}
 
 -- an event has at most 255 bytes
 abbrev Cheap : BoolExpr → Type 0
-Cheap e = gatesIn (boolCost e) ≤ 20400
+Cheap e = gatesIn (boolCost e) ≤ gatesOfEvent
 
 abbrev AllCheap : List BoolExpr → Type 0
 AllCheap [] = Unit {0}
@@ -57,27 +60,19 @@ variables-total (x ∷ xs) = let h = variables-total xs in let k = narrow (x .ki
     narrow integer = omega arith
     narrow external = omega arith
 
-pub statuses-total : (m : ℕ) → total (replicate m statusWidth) ≡ 4 * m
-statuses-total zero = refl
-statuses-total (suc m) = let h = statuses-total m in omega arith
-
-pub total-append : (xs ys : List ℕ) → total (xs ++ ys) ≡ total xs + total ys
-total-append [] ys = omega arith
-total-append (x ∷ xs) ys = let h = total-append xs ys in omega arith
-
 -- movers one after the other
 movers-append : (bits : ℕ) (xs ys : List Mover) → gatesIn (moversCost bits (xs ++ ys)) ≡ gatesIn (moversCost bits xs) + gatesIn (moversCost bits ys)
 unfolding moversCost
 movers-append bits [] ys = omega arith
 movers-append bits (x ∷ xs) ys = let h = movers-append bits xs ys in omega arith
 
-raises-cost : (bits : ℕ) → bits ≤ 544 → (vs : List Variable) (v : ℕ) → gatesIn (moversCost bits (externals v vs)) ≤ 544 * length vs
+raises-cost : (bits : ℕ) → bits ≤ maxBits → (vs : List Variable) (v : ℕ) → gatesIn (moversCost bits (externals v vs)) ≤ maxBits * length vs
 unfolding moversCost moverCost enableCost effectCost
 raises-cost bits few [] v = omega arith
 raises-cost bits few (x ∷ xs) v = go (x .kind) (raises-cost bits few xs (suc v))
   where
-    go : (k : Kind) → gatesIn (moversCost bits (externals (suc v) xs)) ≤ 544 * length xs
-        → gatesIn (moversCost bits (ifExternal k (raise v ∷ externals (suc v) xs) (externals (suc v) xs))) ≤ 544 * suc (length xs)
+    go : (k : Kind) → gatesIn (moversCost bits (externals (suc v) xs)) ≤ maxBits * length xs
+        → gatesIn (moversCost bits (ifExternal k (raise v ∷ externals (suc v) xs) (externals (suc v) xs))) ≤ maxBits * suc (length xs)
     go boolean h = omega arith
     go integer h = omega arith
     go external h = omega arith
@@ -107,7 +102,7 @@ module _ (file : List ℕ) (bytes : (i : ℕ) → getD file i 0 < 256) where
   rows-cheap [] m at past r = tt
   rows-cheap (x ∷ xs) m at past r = (events-cheap x at (r .0) (r .2), rows-cheap xs (m + 1) (r .0) past (r .3))
 
-  guard-bytes : (at k : ℕ) (g : BoolExpr) (n : ℕ) → guard file E N at k ≡ item g n → gatesIn (boolCost g) + 80 * (at + 8) ≤ 80 * c-middle file at
+  guard-bytes : (at k : ℕ) (g : BoolExpr) (n : ℕ) → guard file E N at k ≡ item g n → gatesIn (boolCost g) + gatesOfByte * (at + 8) ≤ gatesOfByte * c-middle file at
   unfolding boolCost
   guard-bytes at zero g n e =
       let q : constantB true ≡ g = item-same _ _ _ _ e in
@@ -117,13 +112,13 @@ module _ (file : List ℕ) (bytes : (i : ℕ) → getD file i 0 < 256) where
       bool-bytes file N (c-middle file at) maxDepth (at + 8) .of g (c-middle file at)
       (filling-reads 8 at (c-middle file at) (boolExpr file N (c-middle file at) maxDepth (at + 8)) g n e)
 
-  module _ (bits : ℕ) (few : bits ≤ 544) (f : ℕ → ℕ → BoolExpr) (cheap : (m e : ℕ) → Cheap (f m e)) where
+  module _ (bits : ℕ) (few : bits ≤ maxBits) (f : ℕ → ℕ → BoolExpr) (cheap : (m e : ℕ) → Cheap (f m e)) where
     -- the gates of a cell's mover, or of an invalid cell in property 1
     abbrev entryGates : Entry → ℕ
     entryGates (normal c) = gatesIn (moverCost bits (cell c))
     entryGates (invalid p) = gatesIn (invalidCost (p ∷ []))
 
-    entry-bytes : (at : ℕ) (x : Entry) → EntryRead file E N (matricesOffset file) f at (c-kind file at) x → entryGates x + 544 * at ≤ 544 * c-past file at + 20400
+    entry-bytes : (at : ℕ) (x : Entry) → EntryRead file E N (matricesOffset file) f at (c-kind file at) x → entryGates x + gatesOfActionByte * at ≤ gatesOfActionByte * c-past file at + gatesOfEvent
     unfolding moverCost enableCost effectCost invalidCost
     entry-bytes at (normal c) r =
         let e = cheap (c-matrix file at) (c-event file at) in
@@ -136,13 +131,13 @@ module _ (file : List ℕ) (bytes : (i : ℕ) → getD file i 0 < 256) where
         let q = ap (λ x. gatesIn (boolCost x)) (r .1 .event) in
         omega arith
 
-    cell-bytes : (before at : ℕ) (x : Entry) (n : ℕ) → cellAt file E N (matricesOffset file) f before at ≡ item x n → entryGates x + 544 * at ≤ 544 * n + 20400
+    cell-bytes : (before at : ℕ) (x : Entry) (n : ℕ) → cellAt file E N (matricesOffset file) f before at ≡ item x n → entryGates x + gatesOfActionByte * at ≤ gatesOfActionByte * n + gatesOfEvent
     cell-bytes before at x n e =
         let r = cell-reads file E N (matricesOffset file) f before at x n e in
         rw (r .past) (entry-bytes at x (r .entry))
 
     cells-bytes : (es : List Entry) (before at past : ℕ) → Cells file f before at es past
-        → gatesIn (moversCost bits (map cell (normals es))) + gatesIn (invalidCost (invalids es)) + 544 * at ≤ 544 * past + 20400 * length es
+        → gatesIn (moversCost bits (map cell (normals es))) + gatesIn (invalidCost (invalids es)) + gatesOfActionByte * at ≤ gatesOfActionByte * past + gatesOfEvent * length es
     unfolding moversCost invalidCost
     cells-bytes [] before at past r = omega arith
     cells-bytes (normal c ∷ xs) before at past r = let h = cell-bytes before at (normal c) (r .0) (r .1) in let k = cells-bytes xs at (r .0) past (r .2) in omega arith
@@ -150,12 +145,12 @@ module _ (file : List ℕ) (bytes : (i : ℕ) → getD file i 0 < 256) where
 
 -- the state bits, the movers, and the gates of a frame
 pub record Bounded (d : Design) : Type 0 where
-  pub bits : S d ≤ 544
-  pub movers : w d ≤ 64
-  pub gates : (p : ℕ) → gatesIn (propertyCost d p) + gatesIn (stepCost d) ≤ 14144000
+  pub bits : S d ≤ maxBits
+  pub movers : w d ≤ maxMovers
+  pub gates : (p : ℕ) → gatesIn (propertyCost d (propertyOf d p)) + gatesIn (stepCost d) ≤ mostGates
 
 module _ (file : List ℕ) (bytes : (i : ℕ) → getD file i 0 < 256) (d : Design) (h : Whole file d) where
-  S-bound : S d ≤ 544
+  S-bound : S d ≤ maxBits
   unfolding S widths
   S-bound =
       let v = variables-total (d .variables) in
@@ -164,30 +159,30 @@ module _ (file : List ℕ) (bytes : (i : ℕ) → getD file i 0 < 256) (d : Desi
       let m : length (d .statuses) ≡ length (h .parts .matrices) = ap length (h .parts .statuses) ∙ length-map (h .parts .matrices) (λ (x : Matrix). x .statuses) in
       omega (arith, h .parts .variable-count, h .parts .matrix-count, h .variables, h .matrices)
 
-  w-bound : w d ≤ 64
+  w-bound : w d ≤ maxMovers
   unfolding w
   w-bound = h .movers
 
   cheap : (m e : ℕ) → Cheap (eventIn (h .parts .rows) m e)
   cheap m e = event-cheap (getD (h .parts .rows) m []) e (row-cheap (h .parts .rows) m (rows-cheap file bytes (h .parts .rows) 0 (eventsOffset file) (cellsOffset file) (h .parts .row-run)))
 
-  cells-bound : gatesIn (moversCost (S d) (map cell (d .cells))) + gatesIn (invalidCost (d .invalid)) ≤ 544 * invariantOffset file + 5222400
+  cells-bound : gatesIn (moversCost (S d) (map cell (d .cells))) + gatesIn (invalidCost (d .invalid)) ≤ gatesOfActionByte * invariantOffset file + gatesOfEvent * maxCells
   cells-bound =
       let c = cells-bytes file bytes (S d) S-bound (eventIn (h .parts .rows)) cheap (h .parts .entries) (cellsOffset file) (cellsOffset file) (invariantOffset file) (h .parts .cell-run) in
-      let k : 20400 * length (h .parts .entries) ≤ 5222400 = omega (arith, h .parts .cell-count, h .cells) in
+      let k : gatesOfEvent * length (h .parts .entries) ≤ gatesOfEvent * maxCells = omega (arith, h .parts .cell-count, h .cells) in
       let a = ap (λ (l : List Cell). gatesIn (moversCost (S d) (map cell l))) (h .parts .cells) in
       let b = ap (λ (l : List InvalidCell). gatesIn (invalidCost l)) (h .parts .invalid) in
       omega arith
 
-  step-bound : gatesIn (stepCost d) ≤ gatesIn (moversCost (S d) (map cell (d .cells))) + 17408
+  step-bound : gatesIn (stepCost d) ≤ gatesIn (moversCost (S d) (map cell (d .cells))) + maxBits * maxVariables
   unfolding stepCost movers
   step-bound = omega (arith, movers-append (S d) (map cell (d .cells)) (externals 0 (d .variables)), raises-cost (S d) S-bound (d .variables) 0, h .parts .variable-count, h .variables)
 
-  invariant-bound : gatesIn (boolCost (d .invariant)) + 80 * invariantOffset file ≤ 80 * trailer file
+  invariant-bound : gatesIn (boolCost (d .invariant)) + gatesOfByte * invariantOffset file ≤ gatesOfByte * trailer file
   invariant-bound = bool-bytes file (names file) (trailer file) maxDepth (invariantOffset file) .of (d .invariant) (trailer file) (invariant-stands file d (h .parts))
 
-  gates-bound : (p : ℕ) → gatesIn (propertyCost d p) + gatesIn (stepCost d) ≤ 14144000
-  unfolding propertyCost
+  gates-bound : (p : ℕ) → gatesIn (propertyCost d (propertyOf d p)) + gatesIn (stepCost d) ≤ mostGates
+  unfolding propertyCost propertyOf
   gates-bound zero = omega (arith, invariant-bound, cells-bound, step-bound, h .short)
   gates-bound (suc p) = omega (arith, invariant-bound, cells-bound, step-bound, h .short)
 

@@ -1,5 +1,5 @@
--- How many gates an expression or an action may have by the bytes it is read from: at most 80 a byte for an expression, and at most 544 a
--- byte for an action, 544 being the most that S can be.
+-- How many gates an expression or an action may have by the bytes it is read from: at most 80 a byte for an expression, and at most a
+-- third of what S can be, or one more, a byte for an action.
 use mathlib.Core.Path.{_≡_, refl, subst}
 use mathlib.Core.Bool.{Bool, true, false, cond, not}
 use mathlib.Core.List.{List, [], _∷_}
@@ -7,11 +7,12 @@ use Prim.Native.Nat.{ℕ, zero, suc, _+_, _*_, _≤_}
 use native.Mathlib.Omega.{arith}
 use lib.Dec.{ltb, leb, eqb}
 use Rattle.design.specs.Tree.{IntExpr, BoolExpr, Stmt, Stmts, variableB}
-use Rattle.design.specs.Limits.{maxDepth}
+use Rattle.design.specs.Limits.{maxDepth, maxBits}
 use Rattle.design.specs.Reading.{Read, got, bad, Reader, bind, provided, Line, lookup}
 use Rattle.design.specs.Expression.{Names, IntOp, BoolOp, intOps, boolOps, intOp, boolOp, byte, word, intOf, boolOf, intExpr, boolExpr}
 use Rattle.design.specs.Action.{StmtOp, stmtOp, value, assignment, statements, listOf, conditional, stmtOf, statement, list}
 use Rattle.clauses.specs.Cost.{gatesIn, intCost, boolCost, statementCost, statementsCost}
+use Rattle.clauses.specs.Limits.{gatesOfByte, gatesOfActionByte}
 
 -- what is read, and where it ends, are in this relation
 pub record Reads {A : Type 0} (I : A → ℕ → Type 0) (r : Read A) : Type 0 where
@@ -58,15 +59,15 @@ IntAdds IntOp.op-constant = Unit {0}
 IntAdds IntOp.op-variable = Unit {0}
 IntAdds IntOp.op-status = Unit {0}
 IntAdds IntOp.op-unknown = Unit {0}
-IntAdds (IntOp.op-ints f) = (a b : IntExpr) → gatesIn (intCost (f a b)) ≤ gatesIn (intCost a) + gatesIn (intCost b) + 80
+IntAdds (IntOp.op-ints f) = (a b : IntExpr) → gatesIn (intCost (f a b)) ≤ gatesIn (intCost a) + gatesIn (intCost b) + gatesOfByte
 
 abbrev BoolAdds : BoolOp → Type 0
 BoolAdds BoolOp.op-constant = Unit {0}
 BoolAdds BoolOp.op-variable = Unit {0}
 BoolAdds BoolOp.op-not = Unit {0}
 BoolAdds BoolOp.op-unknown = Unit {0}
-BoolAdds (BoolOp.op-bools f) = (a b : BoolExpr) → gatesIn (boolCost (f a b)) ≤ gatesIn (boolCost a) + gatesIn (boolCost b) + 80
-BoolAdds (BoolOp.op-ints f) = (a b : IntExpr) → gatesIn (boolCost (f a b)) ≤ gatesIn (intCost a) + gatesIn (intCost b) + 80
+BoolAdds (BoolOp.op-bools f) = (a b : BoolExpr) → gatesIn (boolCost (f a b)) ≤ gatesIn (boolCost a) + gatesIn (boolCost b) + gatesOfByte
+BoolAdds (BoolOp.op-ints f) = (a b : IntExpr) → gatesIn (boolCost (f a b)) ≤ gatesIn (intCost a) + gatesIn (intCost b) + gatesOfByte
 
 int-adds : (b : ℕ) → IntAdds (intOp b)
 unfolding intOp AllLines intCost
@@ -80,10 +81,10 @@ bool-adds b =
 
 -- read from `at` on, so many gates a byte
 abbrev pub IntBytes : ℕ → IntExpr → ℕ → Type 0
-IntBytes at e n = gatesIn (intCost e) + 80 * at ≤ 80 * n
+IntBytes at e n = gatesIn (intCost e) + gatesOfByte * at ≤ gatesOfByte * n
 
 abbrev pub BoolBytes : ℕ → BoolExpr → ℕ → Type 0
-BoolBytes at e n = gatesIn (boolCost e) + 80 * at ≤ 80 * n
+BoolBytes at e n = gatesIn (boolCost e) + gatesOfByte * at ≤ gatesOfByte * n
 
 module _ (text : List ℕ) (names : Names) (end : ℕ) where
   reads-byte : (at : ℕ) → Reads (λ b n. n ≡ at + 1) (byte text names end at)
@@ -141,13 +142,17 @@ module _ (text : List ℕ) (names : Names) (end : ℕ) where
       reads-bind (byte text names end at) _ (reads-byte at) λ op n e.
       boolOf-bytes (intExpr text names end d) (int-bytes d) (boolExpr text names end d) (bool-bytes d) (boolOp op) (bool-adds op) at n e
 
-  -- with S state bits an if adds S gates
-  module _ (bits : ℕ) (few : bits ≤ 544) where
+  -- with S state bits an if adds S gates, for three bytes
+  module _ (bits : ℕ) (few : bits ≤ maxBits) where
     abbrev pub StmtBytes : ℕ → Stmt → ℕ → Type 0
-    StmtBytes at x n = gatesIn (statementCost x bits) + 544 * at ≤ 544 * n
+    StmtBytes at x n = gatesIn (statementCost x bits) + gatesOfActionByte * at ≤ gatesOfActionByte * n
 
+    -- of statements, and of a list, which has a byte for their number
     abbrev pub StmtsBytes : ℕ → Stmts → ℕ → Type 0
-    StmtsBytes at x n = gatesIn (statementsCost x bits) + 544 * at ≤ 544 * n
+    StmtsBytes at x n = gatesIn (statementsCost x bits) + gatesOfActionByte * at ≤ gatesOfActionByte * n
+
+    abbrev pub ListBytes : ℕ → Stmts → ℕ → Type 0
+    ListBytes at x n = gatesIn (statementsCost x bits) + gatesOfActionByte * (at + 1) ≤ gatesOfActionByte * n
 
     value-bytes : (v : ℕ) (t : Bool) (at : ℕ) → Reads (StmtBytes at) (value text names end v t at)
     unfolding statementCost
@@ -172,14 +177,14 @@ module _ (text : List ℕ) (names : Names) (end : ℕ) where
           reads-bind (statements text names end one c n) _ (statements-bytes c n) λ xs m r.
           reads-got _ _ (omega arith)
 
-      listOf-bytes : (at : ℕ) → Reads (StmtsBytes at) (listOf text names end one at)
+      listOf-bytes : (at : ℕ) → Reads (ListBytes at) (listOf text names end one at)
       unfolding listOf
       listOf-bytes at =
           reads-bind (byte text names end at) _ (reads-byte at) λ c n e.
           record { of = λ x m q. omega (arith, statements-bytes c n .of x m q) }
 
     -- what follows the operator of an if that stands at `at`
-    conditional-bytes : (l : Reader Stmts) → ((at : ℕ) → Reads (StmtsBytes at) (l at)) → (at n : ℕ) → n ≡ at + 1
+    conditional-bytes : (l : Reader Stmts) → ((at : ℕ) → Reads (ListBytes at) (l at)) → (at n : ℕ) → n ≡ at + 1
         → Reads (StmtBytes at) (conditional text names end l n)
     unfolding statementCost
     conditional-bytes l h at n e =
@@ -203,5 +208,5 @@ module _ (text : List ℕ) (names : Names) (end : ℕ) where
         reads-bind (byte text names end at) _ (reads-byte at) λ op n e.
         stmtOf-bytes _ (conditional-bytes _ (listOf-bytes (statement text names end nest) (statement-bytes nest))) (stmtOp op) at n e
 
-    pub list-bytes : (nest at : ℕ) → Reads (StmtsBytes at) (list text names end nest at)
+    pub list-bytes : (nest at : ℕ) → Reads (ListBytes at) (list text names end nest at)
     list-bytes nest at = listOf-bytes (statement text names end nest) (statement-bytes nest) at

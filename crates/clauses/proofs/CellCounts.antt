@@ -4,24 +4,25 @@ use mathlib.Core.Bool.{Bool, true, false}
 use mathlib.Core.List.{List, [], _∷_}
 use Prim.Native.Nat.{ℕ, _+_, _*_, _-_, _<_, _≤_}
 use native.Mathlib.Omega.{arith}
-use lib.ListN.{getD, length, replicate, length-replicate}
+use lib.ListN.{getD, length}
 use Rattle.design.specs.Tree.{Stmts, Design, cell}
-use Rattle.design.specs.Limits.{maxDepth, maxNest}
-use Rattle.design.specs.State.{State}
+use Rattle.design.specs.Limits.{maxBytes, maxVariables, maxMatrices, maxDepth, maxNest, eventPlaces}
 use Rattle.design.specs.Reading.{Read, got}
 use Rattle.design.specs.Expression.{Names, boolExpr}
 use Rattle.design.specs.Action.{list}
 use Rattle.design.specs.DesignFile.{Entry, normal, invalid, c-matrix, c-event, c-kind, c-guard, c-middle, c-past, events}
 use Rattle.design.specs.Check.{trailer, names, namesOf, matricesOffset, cellsOffset, cellCount, invariantOffset, eventIn}
+use Rattle.design.specs.declared.shape.Shape.{Shape}
 use Rattle.design.specs.Sections.{Parts, Cells, CellRead, NormalRead, Standing, CellFields}
 use Rattle.design.proofs.Positions.{cell-reads}
 use Rattle.design.proofs.Places.{Read as Tree, read, cell-fields}
+use Rattle.step.specs.Property.{propertyOf}
 use Rattle.step.specs.Accepted.{isRead}
-use Rattle.step.specs.Ready.{Ready, NormalCell}
-use Rattle.step.proofs.Cells as cells
-use Rattle.step.proofs.Scanning as scanning
+use Rattle.design.specs.Sections.{NormalCell}
+use Rattle.design.proofs.Indexed as indexed
 use Rattle.clauses.specs.Cost.{Cost, cost, boolCost, statementsCost, statusAndEventCost, enableCost, effectCost, moverCost, propertyCost}
-use Rattle.clauses.specs.FrameSizes.{gatesAt, both, listGates, entryCost, entriesCost, HasGates, FewGates, Prepared, CellHere}
+use Rattle.clauses.specs.FrameSizes.{gatesAt, both, listGates, entryCost, entriesCost, HasGates, FewGates, Prepared, CellHere, PlaceCounted, CellCounted, noGates}
+use Rattle.clauses.specs.Limits.{textGates, mostGates}
 use Rattle.clauses.specs.declared.cost.GatesAt.{GatesAt}
 use Rattle.clauses.proofs.Bounds.{bounded}
 use Rattle.clauses.proofs.FrameCounts.{entries-few, property-cells, property-invariant}
@@ -33,62 +34,62 @@ known-gates f x a n r e q =
     let z = q ∙ ap (gatesAt f) e in
     record { ands = ap (λ (y : GatesAt). y .ands) z; wides = ap (λ (y : GatesAt). y .wides) z }
 
-pub few-gates : (r : GatesAt) → Few r → FewGates r
+-- what has no gates, and what has those of another part and so many ands more
+pub none-gates : (r : GatesAt) (n : ℕ) → r ≡ noGates n → (r .ands ≡ 0) × (r .wides ≡ 0) × (r .next ≡ n)
+none-gates r n e = (ap (λ (z : GatesAt). z .ands) e, ap (λ (z : GatesAt). z .wides) e, ap (λ (z : GatesAt). z .next) e)
+
+pub more-gates : (x e r : GatesAt) (n k : ℕ) → e ≡ noGates n → r ≡ both x e k 0 → (r .ands ≡ x .ands + k) × (r .wides ≡ x .wides) × (r .next ≡ n)
+more-gates x e r n k p q =
+    let z = none-gates e n p in
+    (omega (arith, z .0, ap (λ (y : GatesAt). y .ands) q), omega (arith, z .1, ap (λ (y : GatesAt). y .wides) q), ap (λ (y : GatesAt). y .next) q ∙ z .2)
+
+pub few-gates : (r : GatesAt) → Few r → FewGates mostGates r
 few-gates r f = record { ands = omega (arith, f .ands); wides = omega (arith, f .wides) }
 
-module _ (file table : List ℕ) (nv nm bits : ℕ) (h : Prepared file table nv nm bits) where
-  -- the laws of the step rule speak of a state too: any will do
-  slots : State
-  slots = replicate (nv + nm) 0
-
-  ready : Ready file table nv nm slots
-  unfolding slots
-  ready = record { accepted = h .accepted; events = h .events; variables = h .variables; matrices = h .matrices; size = length-replicate (nv + nm) 0 }
-
+module _ (file table : List ℕ) (H : Shape) (h : Prepared file table H) where
   abbrev N : Names
-  N = namesOf file nv nm
+  N = namesOf file H
 
-  pub sizes : (16 ≤ length file) × (length file ≤ 16384) × (nm ≤ 8) × (nv ≤ 32)
-  sizes = cells.sizes file table nv nm slots ready
+  pub sizes : (16 ≤ length file) × (length file ≤ maxBytes) × (H .matrices ≤ maxMatrices) × (H .variables ≤ maxVariables)
+  sizes = indexed.sizes file (h .indexed .accepted) H (h .indexed .shaped)
 
-  pub kinds : 3 * nv ≤ length file
-  kinds = cells.kinds file table nv nm slots ready
+  pub kinds : 3 * H .variables ≤ length file
+  kinds = indexed.kinds file (h .indexed .accepted) H (h .indexed .shaped)
 
   -- event e of matrix m
-  module _ (m e : ℕ) (a : m < nm) (b : e < events file (matricesOffset file) m) where
+  module _ (m e : ℕ) (a : m < H .matrices) (b : e < events file (matricesOffset file) m) where
     abbrev place : ℕ
     place = getD table (16 * m + e) 0
 
-    pub event-slot : 16 * m + e < 128
-    event-slot = cells.event-slot file table nv nm slots ready m e a b
+    pub event-slot : 16 * m + e < eventPlaces
+    event-slot = indexed.event-slot file table H (h .indexed) m e a b
 
     pub event-inside : place + 1 + getD file place 0 ≤ trailer file
-    event-inside = cells.event-inside file table nv nm slots ready m e a b
+    event-inside = indexed.event-inside file table H (h .indexed) m e a b
 
     module _ (k : ℕ) (q : k ≡ getD file place 0) where
       past-is : place + 1 + k ≡ place + 1 + getD file place 0
       past-is = ap (λ (x : ℕ). place + 1 + x) q
 
       pub event-reads : isRead (boolExpr file N (place + 1 + k) maxDepth (place + 1)) ≡ true
-      event-reads = cells.event-reads file table nv nm slots ready m e a b (place + 1 + k) (place + 1) past-is refl
+      event-reads = ap isRead (indexed.event-some file table H (h .indexed) m e a b (place + 1 + k) (place + 1) past-is refl .1)
 
-      pub event-gates : (r : GatesAt) → r ≡ gatesAt boolCost (boolExpr file N (place + 1 + k) maxDepth (place + 1)) → (r .ands ≤ 8912896) × (r .wides ≤ 8912896) × ((d : Design) (w : Parts file d) → HasGates r (boolCost (eventIn (w .rows) m e)))
+      pub event-gates : (r : GatesAt) → r ≡ gatesAt boolCost (boolExpr file N (place + 1 + k) maxDepth (place + 1)) → FewGates textGates r × ((d : Design) (w : Parts file d) → HasGates r (boolCost (eventIn (w .rows) m e)))
       event-gates r z =
           let f = bool-few file N (place + 1 + k) (omega (arith, past-is, event-inside, sizes .1)) maxDepth (place + 1) r z in (
-            f .ands,
-            f .wides,
-            λ d w. known-gates boolCost _ _ _ r (cells.event-got file table nv nm slots ready m e a b d w (place + 1 + k) (place + 1) past-is refl) z,
+            record { ands = f .ands; wides = f .wides },
+            λ d w. known-gates boolCost _ _ _ r (indexed.event-got file table H (h .indexed) m e a b d w (place + 1 + k) (place + 1) past-is refl) z,
           )
 
   -- status and event of the cell at p
   module _ (p m e : ℕ) (a : m ≡ c-matrix file p) (b : e ≡ c-event file p) where
-    pub place-range : CellFields file p → (m < nm) × (e < events file (matricesOffset file) m)
+    pub place-range : CellFields file p → (m < H .matrices) × (e < events file (matricesOffset file) m)
     place-range g =
         let q = g .matrix in
-        (omega (arith, h .matrices), subst (λ (j : ℕ). e < events file (matricesOffset file) j) (sym a) (subst (λ (j : ℕ). j < events file (matricesOffset file) (c-matrix file p)) (sym b) (g .event)))
+        (omega (arith, h .indexed .shaped .matrices), subst (λ (j : ℕ). e < events file (matricesOffset file) j) (sym a) (subst (λ (j : ℕ). j < events file (matricesOffset file) (c-matrix file p)) (sym b) (g .event)))
 
     pub place-gates : (x r : GatesAt) → ((d : Design) (w : Parts file d) → HasGates x (boolCost (eventIn (w .rows) m e)))
-        → r .ands ≡ x .ands + 17 → r .wides ≡ x .wides + 16 → (d : Design) (w : Parts file d) → HasGates r (statusAndEventCost (eventIn (w .rows) (c-matrix file p) (c-event file p)))
+        → r .ands ≡ x .ands + 17 → r .wides ≡ x .wides + 16 → PlaceCounted file p r
     place-gates x r k u v d w =
         let s = subst (λ (i : ℕ). HasGates x (boolCost (eventIn (w .rows) i (c-event file p)))) a (subst (λ (j : ℕ). HasGates x (boolCost (eventIn (w .rows) m j))) b (k d w)) in
         record { ands = omega (arith, s .ands); wides = omega (arith, s .wides) }
@@ -96,21 +97,21 @@ module _ (file table : List ℕ) (nv nm bits : ℕ) (h : Prepared file table nv 
   -- the property: the invariant, or the invalid cells
   module _ (at end : ℕ) (a : at ≡ invariantOffset file) (b : end ≡ trailer file) where
     pub invariant-reads : isRead (boolExpr file N end maxDepth at) ≡ true
-    invariant-reads = scanning.invariant-reads file table nv nm slots ready at end a b
+    invariant-reads = ap isRead (indexed.invariant-some file (h .indexed .accepted) H (h .indexed .shaped) at end a b .1)
 
-    pub invariant-gates : (p : ℕ) → p ≡ 0 → (r : GatesAt) → r ≡ gatesAt boolCost (boolExpr file N end maxDepth at) → FewGates r × ((d : Design) → Parts file d → HasGates r (propertyCost d p))
+    pub invariant-gates : (p : ℕ) → p ≡ 0 → (r : GatesAt) → r ≡ gatesAt boolCost (boolExpr file N end maxDepth at) → FewGates mostGates r × ((d : Design) → Parts file d → HasGates r (propertyCost d (propertyOf d p)))
     invariant-gates p z r e = (
       few-gates r (bool-few file N end (omega (arith, sizes .1)) maxDepth at r e),
-      λ d w. subst (HasGates r) (sym (property-invariant file d w bits (h .state d w) p z)) (known-gates boolCost _ _ _ r (scanning.invariant-got file table nv nm slots ready d w at end a b) e),
+      λ d w. subst (HasGates r) (sym (property-invariant file d w (H .bits) (h .bits .state d w) p z)) (known-gates boolCost _ _ _ r (indexed.invariant-got file (h .indexed .accepted) H (h .indexed .shaped) at end a b d w) e),
     )
 
-  pub property-gates : (p : ℕ) → (p ≡ 0 → ⊥) → (r : GatesAt) → ((d : Design) (w : Parts file d) → HasGates r (entriesCost bits true (w .entries))) → (d : Design) → Parts file d → HasGates r (propertyCost d p)
-  property-gates p z r k d w = subst (HasGates r) (sym (property-cells file d w bits (h .state d w) p z)) (k d w)
+  pub property-gates : (p : ℕ) → (p ≡ 0 → ⊥) → (r : GatesAt) → ((d : Design) (w : Parts file d) → HasGates r (entriesCost (H .bits) true (w .entries))) → (d : Design) → Parts file d → HasGates r (propertyCost d (propertyOf d p))
+  property-gates p z r k d w = subst (HasGates r) (sym (property-cells file d w (H .bits) (h .bits .state d w) p z)) (k d w)
 
   -- a normal cell
   module _ (p : ℕ) (x : NormalCell file p) where
     pub normal-fields : CellFields file p
-    normal-fields = cells.normal-fields file table nv nm slots ready p x
+    normal-fields = indexed.normal-fields file table H (h .indexed) p x
 
     module _ (n : ℕ) (q : n ≡ c-guard file p) where
       pub guard-inside : p + 8 + n ≤ trailer file
@@ -119,29 +120,29 @@ module _ (file table : List ℕ) (nv nm bits : ℕ) (h : Prepared file table nv 
       pub guard-none : n ≡ 0 → (r : GatesAt) → r .ands ≡ 0 → r .wides ≡ 0 → HasGates r (boolCost (x .cell .guard))
       unfolding boolCost
       guard-none z r u v =
-          let g = ap boolCost (cells.guard-none file table nv nm slots ready p x (sym q ∙ z)) in
+          let g = ap boolCost (indexed.guard-none file table H (h .indexed) p x (sym q ∙ z)) in
           record { ands = u ∙ sym (ap (λ (k : Cost). k .ands) g); wides = v ∙ sym (ap (λ (k : Cost). k .wides) g) }
 
       module _ (z : n ≡ 0 → ⊥) where
         pub guard-reads : isRead (boolExpr file N (p + 8 + n) maxDepth (p + 8)) ≡ true
-        guard-reads = cells.guard-reads file table nv nm slots ready p x n q z
+        guard-reads = ap isRead (indexed.guard-got file table H (h .indexed) p x n q z)
 
         pub guard-gates : (r : GatesAt) → r ≡ gatesAt boolCost (boolExpr file N (p + 8 + n) maxDepth (p + 8)) → HasGates r (boolCost (x .cell .guard))
-        guard-gates r k = known-gates boolCost _ _ _ r (cells.guard-got file table nv nm slots ready p x n q z) k
+        guard-gates r k = known-gates boolCost _ _ _ r (indexed.guard-got file table H (h .indexed) p x n q z) k
 
     module _ (m n : ℕ) (a : m ≡ c-middle file p) (b : n ≡ c-past file p) where
       pub action-reads : isRead (list file N n maxNest m) ≡ true
-      action-reads = cells.action-reads file table nv nm slots ready p x m n a b
+      action-reads = ap isRead (indexed.action-got file table H (h .indexed) p x m n a b)
 
       -- enable, the action, and the muxes
-      pub normal-gates : (e g s t r : GatesAt) → ((d : Design) (w : Parts file d) → HasGates e (statusAndEventCost (eventIn (w .rows) (c-matrix file p) (c-event file p))))
-          → HasGates g (boolCost (x .cell .guard)) → s ≡ listGates bits (list file N n maxNest m) → t ≡ both e g 1 0 → r ≡ both t s 0 bits → HasGates r (moverCost bits (cell (x .cell)))
+      pub normal-gates : (e g s t r : GatesAt) → PlaceCounted file p e
+          → HasGates g (boolCost (x .cell .guard)) → s ≡ listGates (H .bits) (list file N n maxNest m) → t ≡ both e g 1 0 → r ≡ both t s 0 (H .bits) → HasGates r (moverCost (H .bits) (cell (x .cell)))
       unfolding moverCost enableCost effectCost
       normal-gates e g s t r f k q u v =
           let is : NormalRead file (trailer file) (names file) (matricesOffset file) (eventIn (x .parts .rows)) p (x .cell) = x .stands .1 .entry .1 in
           let ev = ap statusAndEventCost (is .event) in
           let i = f (x .tree) (x .parts) in
-          let j = known-gates (λ (y : Stmts). statementsCost y bits) _ _ _ s (cells.action-got file table nv nm slots ready p x m n a b) q in
+          let j = known-gates (λ (y : Stmts). statementsCost y (H .bits)) _ _ _ s (indexed.action-got file table H (h .indexed) p x m n a b) q in
           record {
             ands = omega (arith, ap (λ (y : Cost). y .ands) ev, i .ands, k .ands, j .ands, ap (λ (y : GatesAt). y .ands) u, ap (λ (y : GatesAt). y .ands) v);
             wides = omega (arith, ap (λ (y : Cost). y .wides) ev, i .wides, k .wides, j .wides, ap (λ (y : GatesAt). y .wides) u, ap (λ (y : GatesAt). y .wides) v);
@@ -160,37 +161,37 @@ module _ (file table : List ℕ) (nv nm bits : ℕ) (h : Prepared file table nv 
         go (invalid i) s = absurd (s .1 .entry .0 z)
 
     abbrev Right : Bool → GatesAt → Type 0
-    Right t r = (d : Design) (w : Parts file d) (x : Entry) → Standing file (eventIn (w .rows)) p x → HasGates r (entryCost bits t x)
+    Right t r = CellCounted file (H .bits) t p r
 
     no-gates : (r : GatesAt) → r .ands ≡ 0 → r .wides ≡ 0 → HasGates r (cost 0 0)
     no-gates r a b = record { ands = a; wides = b }
 
     pub normal-passed : c-kind file p ≡ 0 → (t : Bool) → t ≡ true → (r : GatesAt) → r .ands ≡ 0 → r .wides ≡ 0 → Right t r
-    normal-passed z t e r a b d w x s = subst (λ (k : Bool). HasGates r (entryCost bits k x)) (sym e) (go x s)
+    normal-passed z t e r a b d w x s = subst (λ (k : Bool). HasGates r (entryCost (H .bits) k x)) (sym e) (go x s)
       where
-        go : (y : Entry) → Standing file (eventIn (w .rows)) p y → HasGates r (entryCost bits true y)
+        go : (y : Entry) → Standing file (eventIn (w .rows)) p y → HasGates r (entryCost (H .bits) true y)
         go (normal c) u = no-gates r a b
         go (invalid i) u = absurd (u .1 .entry .0 z)
 
     pub invalid-passed : (c-kind file p ≡ 0 → ⊥) → (t : Bool) → t ≡ false → (r : GatesAt) → r .ands ≡ 0 → r .wides ≡ 0 → Right t r
-    invalid-passed z t e r a b d w x s = subst (λ (k : Bool). HasGates r (entryCost bits k x)) (sym e) (go x s)
+    invalid-passed z t e r a b d w x s = subst (λ (k : Bool). HasGates r (entryCost (H .bits) k x)) (sym e) (go x s)
       where
-        go : (y : Entry) → Standing file (eventIn (w .rows)) p y → HasGates r (entryCost bits false y)
+        go : (y : Entry) → Standing file (eventIn (w .rows)) p y → HasGates r (entryCost (H .bits) false y)
         go (normal c) u = absurd (z (u .1 .entry .0))
         go (invalid i) u = no-gates r a b
 
-    pub normal-counted : c-kind file p ≡ 0 → (t : Bool) → t ≡ false → (r y : GatesAt) → ((x : NormalCell file p) → HasGates y (moverCost bits (cell (x .cell)))) → r .ands ≡ y .ands → r .wides ≡ y .wides → Right t r
-    normal-counted z t e r y k a b d w x s = subst (λ (i : Bool). HasGates r (entryCost bits i x)) (sym e) (go x s)
+    pub normal-counted : c-kind file p ≡ 0 → (t : Bool) → t ≡ false → (r y : GatesAt) → ((x : NormalCell file p) → HasGates y (moverCost (H .bits) (cell (x .cell)))) → r .ands ≡ y .ands + 0 → r .wides ≡ y .wides → Right t r
+    normal-counted z t e r y k a b d w x s = subst (λ (i : Bool). HasGates r (entryCost (H .bits) i x)) (sym e) (go x s)
       where
-        go : (v : Entry) → Standing file (eventIn (w .rows)) p v → HasGates r (entryCost bits false v)
-        go (normal c) u = let g = k (record { tree = d; parts = w; cell = c; stands = u }) in record { ands = a ∙ g .ands; wides = b ∙ g .wides }
+        go : (v : Entry) → Standing file (eventIn (w .rows)) p v → HasGates r (entryCost (H .bits) false v)
+        go (normal c) u = let g = k (record { tree = d; parts = w; cell = c; stands = u }) in record { ands = omega (arith, g .ands); wides = b ∙ g .wides }
         go (invalid i) u = absurd (u .1 .entry .0 z)
 
-    pub invalid-counted : (c-kind file p ≡ 0 → ⊥) → (t : Bool) → t ≡ true → (r y : GatesAt) → ((d : Design) (w : Parts file d) → HasGates y (statusAndEventCost (eventIn (w .rows) (c-matrix file p) (c-event file p))))
+    pub invalid-counted : (c-kind file p ≡ 0 → ⊥) → (t : Bool) → t ≡ true → (r y : GatesAt) → PlaceCounted file p y
         → r .ands ≡ y .ands + 1 → r .wides ≡ y .wides → Right t r
-    invalid-counted z t e r y k a b d w x s = subst (λ (i : Bool). HasGates r (entryCost bits i x)) (sym e) (go x s)
+    invalid-counted z t e r y k a b d w x s = subst (λ (i : Bool). HasGates r (entryCost (H .bits) i x)) (sym e) (go x s)
       where
-        go : (v : Entry) → Standing file (eventIn (w .rows)) p v → HasGates r (entryCost bits true v)
+        go : (v : Entry) → Standing file (eventIn (w .rows)) p v → HasGates r (entryCost (H .bits) true v)
         go (normal c) u = absurd (z (u .1 .entry .0))
         go (invalid i) u =
             let g = k d w in
@@ -210,17 +211,20 @@ pub record Walking (file : List ℕ) (bits : ℕ) (t : Bool) (left : ℕ) (g : G
   pub of : (d : Design) (w : Parts file d) → CellsLeft file d w bits t left g
 
 module _ (file : List ℕ) (bits : ℕ) (t : Bool) where
-  pub walking-start : (left : ℕ) (g : GatesAt) → left ≡ cellCount file → g .ands ≡ 0 → g .wides ≡ 0 → g .next ≡ cellsOffset file → Walking file bits t left g
-  walking-start left g e a b n = record {
-    of = λ d w. record {
-      rest = w .entries;
-      before = cellsOffset file;
-      run = subst (λ (p : ℕ). Cells file (eventIn (w .rows)) (cellsOffset file) p (w .entries) (invariantOffset file)) (sym n) (w .cell-run);
-      count = w .cell-count ∙ sym e;
-      ands = omega arith;
-      wides = omega arith;
-    };
-  }
+  pub walking-start : (left : ℕ) (g : GatesAt) (at : ℕ) → left ≡ cellCount file → g ≡ noGates at → at ≡ cellsOffset file → Walking file bits t left g
+  walking-start left g at e z q =
+      let (a, b, m) = none-gates g at z in
+      let n = m ∙ q in
+      record {
+        of = λ d w. record {
+          rest = w .entries;
+          before = cellsOffset file;
+          run = subst (λ (p : ℕ). Cells file (eventIn (w .rows)) (cellsOffset file) p (w .entries) (invariantOffset file)) (sym n) (w .cell-run);
+          count = w .cell-count ∙ sym e;
+          ands = omega arith;
+          wides = omega arith;
+        };
+      }
 
   module _ (left : ℕ) (g : GatesAt) (l : 0 < left) (k : Walking file bits t left g) where
     -- the first cell that is left
@@ -255,7 +259,7 @@ module _ (file : List ℕ) (bits : ℕ) (t : Bool) where
     pub walking-here : (d : Design) (w : Parts file d) → CellHere file (g .next)
     walking-here d w = let f = first d w in record { tree = d; parts = w; entry = f .entry; stands = f .stands }
 
-    module _ (x : GatesAt) (n : x .next ≡ c-past file (g .next)) (s : (d : Design) (w : Parts file d) (y : Entry) → Standing file (eventIn (w .rows)) (g .next) y → HasGates x (entryCost bits t y)) where
+    module _ (x : GatesAt) (n : x .next ≡ c-past file (g .next)) (s : CellCounted file bits t (g .next) x) where
       pub walking-within : (d : Design) (w : Parts file d) → (g .ands + x .ands ≤ entriesCost bits t (w .entries) .ands) × (g .wides + x .wides ≤ entriesCost bits t (w .entries) .wides)
       walking-within d w =
           let f = first d w in
@@ -287,28 +291,28 @@ module _ (file : List ℕ) (bits : ℕ) (t : Bool) where
       go (x ∷ xs) c a v = absurd (omega arith)
 
 -- the sums of the loop are few
-module _ (file table : List ℕ) (nv nm bits : ℕ) (h : Prepared file table nv nm bits) (bytes : (i : ℕ) → getD file i 0 < 256) where
+module _ (file table : List ℕ) (H : Shape) (h : Prepared file table H) (bytes : (i : ℕ) → getD file i 0 < 256) where
   tree : Tree file
-  tree = read file (h .accepted)
+  tree = read file (h .indexed .accepted)
 
-  total-few : (t : Bool) → (entriesCost bits t (tree .all .parts .entries) .ands ≤ 14144000) × (entriesCost bits t (tree .all .parts .entries) .wides ≤ 14144000)
-  total-few t = entries-few file (tree .tree) (tree .all .parts) bits (h .state (tree .tree) (tree .all .parts)) (bounded file bytes (tree .tree) (tree .is)) t
+  total-few : (t : Bool) → (entriesCost (H .bits) t (tree .all .parts .entries) .ands ≤ mostGates) × (entriesCost (H .bits) t (tree .all .parts .entries) .wides ≤ mostGates)
+  total-few t = entries-few file (tree .tree) (tree .all .parts) (H .bits) (h .bits .state (tree .tree) (tree .all .parts)) (bounded file bytes (tree .tree) (tree .is)) t
 
   module _ (t : Bool) (left : ℕ) (g : GatesAt) where
-    pub cell-here : 0 < left → Walking file bits t left g → CellHere file (g .next)
-    cell-here l k = walking-here file bits t left g l k (tree .tree) (tree .all .parts)
+    pub cell-here : 0 < left → Walking file (H .bits) t left g → CellHere file (g .next)
+    cell-here l k = walking-here file (H .bits) t left g l k (tree .tree) (tree .all .parts)
 
-    pub sum-few : 0 < left → Walking file bits t left g → (x : GatesAt)
-        → (x .next ≡ c-past file (g .next)) × ((d : Design) (w : Parts file d) (y : Entry) → Standing file (eventIn (w .rows)) (g .next) y → HasGates x (entryCost bits t y))
-        → (g .ands + x .ands ≤ 14144000) × (g .wides + x .wides ≤ 14144000)
+    pub sum-few : 0 < left → Walking file (H .bits) t left g → (x : GatesAt)
+        → (x .next ≡ c-past file (g .next)) × CellCounted file (H .bits) t (g .next) x
+        → (g .ands + x .ands ≤ mostGates) × (g .wides + x .wides ≤ mostGates)
     sum-few l k x s =
-        let f = walking-within file bits t left g l k x (s .0) (s .1) (tree .tree) (tree .all .parts) in
+        let f = walking-within file (H .bits) t left g l k x (s .0) (s .1) (tree .tree) (tree .all .parts) in
         let m = total-few t in
         (omega arith, omega arith)
 
-    pub all-counted : left ≤ 0 → Walking file bits t left g → FewGates g × ((d : Design) (w : Parts file d) → HasGates g (entriesCost bits t (w .entries)))
+    pub all-counted : left ≤ 0 → Walking file (H .bits) t left g → FewGates mostGates g × ((d : Design) (w : Parts file d) → HasGates g (entriesCost (H .bits) t (w .entries)))
     all-counted l k =
-        let e = walking-end file bits t left g l k in
+        let e = walking-end file (H .bits) t left g l k in
         let f = e (tree .tree) (tree .all .parts) in
         let m = total-few t in
         (record { ands = omega (arith, f .ands); wides = omega (arith, f .wides) }, e)

@@ -8,6 +8,7 @@ use lib.Seq.{set-getD}
 use Rattle.design.specs.Tree.{IntExpr, BoolExpr, Stmt, Stmts, constant, variable, status, sum, difference, constantB, variableB, notB, andB, orB, equal, less, assign, assignB, ifElse, done, then, InvalidCell, Design, Mover, cell, raise, movers}
 use Rattle.design.specs.State.{Layout, layout, statusSlot, statusWidth, widths}
 use Rattle.design.specs.WellFormed.{StmtOk, StmtsOk, MoverOk, MoversOk, WellFormed}
+use Rattle.step.specs.Property.{Property, invariant, noInvalidCell}
 use Rattle.clauses.specs.Literal.{Literal, negate, trueLiteral, falseLiteral}
 use Rattle.clauses.specs.Words.{words}
 use Rattle.clauses.specs.Gate.{Gate, and, xor, mux, gatesClauses}
@@ -244,10 +245,10 @@ module _ (ws : List ℕ) (l : Layout) where
     pub statement-costs : (x : Stmt) (s : Slots) (n : ℕ) → Wide s → StmtOk ws l x → Costs n (statement! x l s n) (statementCost x (total ws)) Wide
     statement-costs (assign v e) s n f k =
         costs-same (omega arith) (omega arith) (
-        costs-bind _ _ (int-costs l s e n) λ x k₁ h₁. costs-give _ (set-wide s v x f (h₁ ∙ sym (k .0))))
+        costs-bind _ _ (int-costs l s e n) λ x k₁ h₁. costs-give _ (set-wide s v x f (h₁ ∙ sym (k .0 .width))))
     statement-costs (assignB v e) s n f k =
         costs-same (omega arith) (omega arith) (
-        costs-bind _ _ (bool-costs l s e n) λ x k₁ h₁. costs-give _ (set-wide s v (x ∷ []) f (sym (k .0))))
+        costs-bind _ _ (bool-costs l s e n) λ x k₁ h₁. costs-give _ (set-wide s v (x ∷ []) f (sym (k .0 .width))))
     statement-costs (ifElse c a b) s n f k =
         costs-same (omega arith) (omega arith) (
         costs-bind _ _ (bool-costs l s c n) λ x k₁ h₁.
@@ -274,8 +275,8 @@ module _ (ws : List ℕ) (l : Layout) where
     effect-costs (cell c) n k =
         costs-same (omega arith) (omega arith) (
         costs-bind _ _ (statements-costs (c .action) s n f (k .action)) λ r k₁ h₁.
-        costs-give _ (set-wide r (statusSlot l (c .matrix)) (constantBits statusWidth (c .target)) h₁ (length-constant statusWidth (c .target) ∙ sym (k .matrix))))
-    effect-costs (raise v) n k = costs-give _ (set-wide s v (trueLiteral ∷ []) f (sym k))
+        costs-give _ (set-wide r (statusSlot l (c .matrix)) (constantBits statusWidth (c .target)) h₁ (length-constant statusWidth (c .target) ∙ sym (k .matrix .width))))
+    effect-costs (raise v) n k = costs-give _ (set-wide s v (trueLiteral ∷ []) f (sym (k .width)))
 
     pub mover-costs : (m : Mover) (n : ℕ) → MoverOk ws l m → Costs n (mover! l s m n) (moverCost (total ws) m) Wide
     unfolding mover! moverCost
@@ -294,10 +295,10 @@ module _ (ws : List ℕ) (l : Layout) where
         costs-bind _ _ (movers-costs ms k₁ (k .1)) λ rs k₂ h₂.
         costs-give _ (ap suc h₂))
 
-pub property-costs : (d : Design) (p : ℕ) (s : Slots) (n : ℕ) → Costs n (property! d p s n) (propertyCost d p) Any
+pub property-costs : (d : Design) (p : Property) (s : Slots) (n : ℕ) → Costs n (property! d p s n) (propertyCost d p) Any
 unfolding property! propertyCost
-property-costs d zero s n = bool-costs (layout d) s (d .invariant) n
-property-costs d (suc p) s n = noInvalid-costs (layout d) s (d .invalid) trueLiteral n
+property-costs d (invariant e) s n = bool-costs (layout d) s e n
+property-costs d noInvalidCell s n = noInvalid-costs (layout d) s (d .invalid) trueLiteral n
 
 pub step-costs : (d : Design) → WellFormed d → (s : Slots) (n : ℕ) → map length s ≡ widths d → Costs n (step! d s n) (stepCost d) (λ rs. length rs ≡ length (movers d))
 unfolding step! stepCost S

@@ -9,10 +9,12 @@ use lib.ListN.{length, getD}
 use lib.Seq.{ext-getD}
 use Rattle.design.specs.Tree.{Design}
 use Rattle.design.specs.WellFormed.{WellFormed}
+use Rattle.step.specs.Property.{Property, PropertyOk}
 use Rattle.step.specs.OneStep.{breaks}
+use Rattle.step.specs.Breaking.{Breaking}
 use Rattle.clauses.specs.Meaning.{Assignment, satisfies}
 use Rattle.clauses.specs.Formula.{w, n, formula, choices}
-use Rattle.clauses.specs.Theorem.{Breaking, assignmentOf, Model, In, Distinct, Exactly}
+use Rattle.clauses.specs.Theorem.{assignmentOf, Model, In, Distinct, Exactly}
 use Rattle.clauses.proofs.Definitions.{Same}
 use Rattle.clauses.proofs.Within.{formula-within, satisfies-same}
 use Rattle.clauses.proofs.Decoding.{choices-same}
@@ -37,14 +39,14 @@ values-same : (ρ : Assignment) (m : ℕ) → Same (suc m) (assignmentOf (values
 values-same ρ m zero p h = absurd (omega arith)
 values-same ρ m (suc v) p h = let q : 1 + v ≡ suc v = omega arith in values-at ρ 1 m v (omega arith) ∙ ap ρ q
 
-abbrev decoded : Design → ℕ → ℕ → List Bool → List ℕ
+abbrev decoded : Design → Property → ℕ → List Bool → List ℕ
 decoded d p k bs = choices d p (assignmentOf bs) k
 
-unfoldable pub breakers : Design → ℕ → ℕ → List (List ℕ)
+unfoldable pub breakers : Design → Property → ℕ → List (List ℕ)
 breakers d p k = keep (breaks d p) (lists (w d) k)
 
-breaking : (d : Design) (p k : ℕ) → Exactly (Breaking d p k) (length (breakers d p k))
-unfolding breakers
+breaking : (d : Design) (p : Property) (k : ℕ) → Exactly (Breaking d p k) (length (breakers d p k))
+unfolding breakers w
 breaking d p k = record {
   list = breakers d p k;
   size = refl;
@@ -54,28 +56,28 @@ breaking d p k = record {
   only = λ cs b. keep-in (breaks d p) cs (lists (w d) k) (lists-in (w d) k cs (b .long) (b .movers)) (b .breaks);
 }
 
-module _ (d : Design) (wf : WellFormed d) (p k : ℕ) where
+module _ (d : Design) (wf : WellFormed d) (p : Property) (ok : PropertyOk d p) (k : ℕ) where
   -- the model of a breaking list
   modelOf : (cs : List ℕ) → Breaking d p k cs → List Bool
-  modelOf cs b = valuesFrom (theorem d wf p k .decoded cs b .0) 1 (n d p k)
+  modelOf cs b = valuesFrom (theorem d wf p ok k .decoded cs b .0) 1 (n d p k)
 
   modelOf-model : (cs : List ℕ) (b : Breaking d p k cs) → Model d p k (modelOf cs b)
   unfolding modelOf
   modelOf-model cs b =
-      let r = theorem d wf p k .decoded cs b in
+      let r = theorem d wf p ok k .decoded cs b in
       record {
         long = length-values (r .0) 1 (n d p k);
-        satisfies = satisfies-same (n d p k) _ (r .0) (values-same (r .0) (n d p k)) (formula d p k) (formula-within d wf p k) ∙ r .1;
+        satisfies = satisfies-same (n d p k) _ (r .0) (values-same (r .0) (n d p k)) (formula d p k) (formula-within d wf p ok k) ∙ r .1;
       }
 
   modelOf-decodes : (cs : List ℕ) (b : Breaking d p k cs) → decoded d p k (modelOf cs b) ≡ cs
   unfolding modelOf
-  modelOf-decodes cs b = let r = theorem d wf p k .decoded cs b in choices-same d wf p k _ (r .0) (values-same (r .0) (n d p k)) ∙ r .2
+  modelOf-decodes cs b = let r = theorem d wf p ok k .decoded cs b in choices-same d wf p ok k _ (r .0) (values-same (r .0) (n d p k)) ∙ r .2
 
   at-most-one : (xs bs : List Bool) → Model d p k xs → Model d p k bs → decoded d p k xs ≡ decoded d p k bs → xs ≡ bs
   at-most-one xs bs a b e =
       ext-getD false xs bs (a .long ∙ sym (b .long))
-      (λ i h. theorem d wf p k .once (assignmentOf xs) (assignmentOf bs) (a .satisfies) (b .satisfies) e (suc i) (omega arith) (omega (arith, a .long)))
+      (λ i h. theorem d wf p ok k .once (assignmentOf xs) (assignmentOf bs) (a .satisfies) (b .satisfies) e (suc i) (omega arith) (omega (arith, a .long)))
 
   -- the models of a list of breaking lists
   modelsOf : (ls : List (List ℕ)) → ((cs : List ℕ) → In cs ls → Breaking d p k cs) → List (List Bool)
@@ -121,5 +123,5 @@ module _ (d : Design) (wf : WellFormed d) (p k : ℕ) where
         size = length-models (x .list) (x .all) ∙ x .size ∙ e;
         distinct = distinct-models (x .list) (x .all) (x .distinct);
         all = λ bs h. in-models (x .list) (x .all) bs h .0;
-        only = λ bs b. models-in (x .list) (x .all) bs b (x .only (decoded d p k bs) (theorem d wf p k .decodes (assignmentOf bs) (b .satisfies)));
+        only = λ bs b. models-in (x .list) (x .all) bs b (x .only (decoded d p k bs) (theorem d wf p ok k .decodes (assignmentOf bs) (b .satisfies)));
       }

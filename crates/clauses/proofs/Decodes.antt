@@ -15,9 +15,13 @@ use Rattle.design.specs.Answers.{refusal}
 use Rattle.design.specs.declared.Refusal.{Refusal}
 use Rattle.design.proofs.WellFormed.{well-formed}
 use Rattle.design.proofs.Places.{Read as Tree, read}
+use Rattle.step.specs.Limits.{lastProperty, maxBound}
+use Rattle.step.specs.Property.{Property, propertyOf}
+use Rattle.step.specs.Gate.{gateRefusal}
+use Rattle.step.proofs.Gates.{in-range, gate-refuses}
 use Rattle.clauses.specs.Formula.{S, w, P, F, n, frame}
 use Rattle.clauses.specs.Cost.{gatesIn}
-use Rattle.clauses.specs.Answer.{Answer, refused, answer, need}
+use Rattle.design.specs.Answer.{Answer, refused, answer, need}
 use Rattle.clauses.specs.Decode.{justOne, firstOne, withChoice, flagValues, chosenFrom, choicesToWrite, written, decode}
 use Rattle.clauses.specs.FrameSizes.{costIn, frameSizes, frameLength, variablesOf}
 use Rattle.clauses.specs.Chosen.{chosenIn, flagsFrom, firstBad, chosenList}
@@ -27,10 +31,9 @@ use Rattle.clauses.specs.declared.decode.DecodeReply.{DecodeReply}
 use Rattle.clauses.specs.declared.decode.DecodeReply.the-variants.{Refused, Done}
 use Rattle.clauses.proofs.Frames.{P-is}
 use Rattle.clauses.proofs.FrameNumbers.{length-is, variables-are}
-use Rattle.clauses.proofs.Answers.{on-refused, over-property, over-bound, in-range}
 
 -- the frames of a design, as the loops walk them
-module _ (d : Design) (p : ℕ) (values : List ℕ) where
+module _ (d : Design) (p : Property) (values : List ℕ) where
   abbrev bad : ℕ → ℕ → ℕ → ℕ
   bad m at j = firstBad values (F d p) (w d) m at j
 
@@ -117,82 +120,74 @@ module _ (file : List ℕ) (p k : ℕ) (values choices : List ℕ) where
   unfolding decode
   answer-exit cs e l = ap (λ (i : ℕ). exit Done (cs ++ drop i choices)) (sym l) ∙ sym (ap (λ (x : Answer (List ℕ)). exitOf (written x choices)) e)
 
-  pub decode-refused : (r : Refusal) → r ≡ refusal (check file) → (r .number ≡ 0 → ⊥)
+  pub decode-refused : (r : Refusal) → r ≡ gateRefusal file p k → (r .number ≡ 0 → ⊥)
       → exit (Refused (r .number) (r .place)) choices ≡ DECODE file p k values choices
   unfolding choicesToWrite
-  decode-refused r e z = refused-exit (r .number) (r .place) (on-refused file _ r e z)
+  decode-refused r e z = refused-exit (r .number) (r .place) (gate-refuses file p k _ r e z)
 
   -- what DECODE says of a design, past 13 and 14
-  rest : Design → Answer (List ℕ)
-  rest d = need (leb (n d p k) (length values) && leb k (length choices)) 16 0 (chosenFrom d p values k 0)
+  rest : Design → Property → Answer (List ℕ)
+  rest d q = need (leb (n d q k) (length values) && leb k (length choices)) 16 0 (chosenFrom d q values k 0)
 
   module _ (h : Accepted file) where
-    pub decode-property : 1 < p → exit (Refused 13 0) choices ≡ DECODE file p k values choices
-    unfolding choicesToWrite rest
-    decode-property l = refused-exit 13 0 (over-property file p k rest h l)
-
-    pub decode-bound : p ≤ 1 → 100 < k → exit (Refused 14 0) choices ≡ DECODE file p k values choices
-    unfolding choicesToWrite rest
-    decode-bound a l = refused-exit 14 0 (over-bound file p k rest h a l)
-
     tree : Tree file
     tree = read file h
 
     abbrev d : Design
     d = tree .tree
 
-    module _ (a : p ≤ 1) (b : k ≤ 100) (bytes : (i : ℕ) → getD file i 0 < 256) (s : FrameSizes) (f : (e : Design) → check file ≡ Checked.accepted e → s ≡ frameSizes e p) where
-      inner : choicesToWrite file p k values (length choices) ≡ need (leb (n d p k) (length values) && leb k (length choices)) 16 0 (chosenFrom d p values k 0)
+    module _ (a : p ≤ lastProperty) (b : k ≤ maxBound) (bytes : (i : ℕ) → getD file i 0 < 256) (s : FrameSizes) (f : (e : Design) → check file ≡ Checked.accepted e → s ≡ frameSizes e (propertyOf e p)) where
+      inner : choicesToWrite file p k values (length choices) ≡ need (leb (n d (propertyOf d p) k) (length values) && leb k (length choices)) 16 0 (chosenFrom d (propertyOf d p) values k 0)
       unfolding choicesToWrite rest tree
       inner = in-range file p k rest h a b
 
-      same : s ≡ frameSizes d p
+      same : s ≡ frameSizes d (propertyOf d p)
       same = f d (tree .is)
 
-      n-is : variablesOf s k ≡ n d p k
-      n-is = ap (λ (x : FrameSizes). variablesOf x k) same ∙ variables-are d (well-formed file bytes d (tree .is)) p k
+      n-is : variablesOf s k ≡ n d (propertyOf d p) k
+      n-is = ap (λ (x : FrameSizes). variablesOf x k) same ∙ variables-are d (well-formed file bytes d (tree .is)) (propertyOf d p) k
 
       pub short-values : (m : ℕ) → m ≡ variablesOf s k → length values < m → exit (Refused 16 0) choices ≡ DECODE file p k values choices
       short-values m q l =
-          refused-exit 16 0 (inner ∙ ap (λ (t : Bool). need (t && leb k (length choices)) 16 0 (chosenFrom d p values k 0)) (lt-leb (n d p k) (length values) (omega (arith, n-is))))
+          refused-exit 16 0 (inner ∙ ap (λ (t : Bool). need (t && leb k (length choices)) 16 0 (chosenFrom d (propertyOf d p) values k 0)) (lt-leb (n d (propertyOf d p) k) (length values) (omega (arith, n-is))))
 
       module _ (m : ℕ) (q : m ≡ variablesOf s k) (enough : m ≤ length values) where
-        wide-room : leb (n d p k) (length values) ≡ true
-        wide-room = le-leb (n d p k) (length values) (omega (arith, n-is))
+        wide-room : leb (n d (propertyOf d p) k) (length values) ≡ true
+        wide-room = le-leb (n d (propertyOf d p) k) (length values) (omega (arith, n-is))
 
         pub short-choices : length choices < k → exit (Refused 16 0) choices ≡ DECODE file p k values choices
         short-choices l =
-            refused-exit 16 0 (inner ∙ ap₂ (λ (t u : Bool). need (t && u) 16 0 (chosenFrom d p values k 0)) wide-room (lt-leb k (length choices) l))
+            refused-exit 16 0 (inner ∙ ap₂ (λ (t u : Bool). need (t && u) 16 0 (chosenFrom d (propertyOf d p) values k 0)) wide-room (lt-leb k (length choices) l))
 
         module _ (fits : k ≤ length choices) (size base flags : ℕ) (sz : size ≡ frameLength s) (bs : base ≡ 1 + s .bits + gatesIn (costIn (s .property))) (fl : flags ≡ s .movers) where
-          deep : choicesToWrite file p k values (length choices) ≡ chosenFrom d p values k 0
-          deep = inner ∙ ap₂ (λ (t u : Bool). need (t && u) 16 0 (chosenFrom d p values k 0)) wide-room (le-leb k (length choices) fits)
+          deep : choicesToWrite file p k values (length choices) ≡ chosenFrom d (propertyOf d p) values k 0
+          deep = inner ∙ ap₂ (λ (t u : Bool). need (t && u) 16 0 (chosenFrom d (propertyOf d p) values k 0)) wide-room (le-leb k (length choices) fits)
 
-          size-is : size ≡ F d p
-          size-is = sz ∙ ap frameLength same ∙ length-is d (well-formed file bytes d (tree .is)) p
+          size-is : size ≡ F d (propertyOf d p)
+          size-is = sz ∙ ap frameLength same ∙ length-is d (well-formed file bytes d (tree .is)) (propertyOf d p)
 
-          base-is : base ≡ frame d p 0 + S d + P d p - 1
+          base-is : base ≡ frame d (propertyOf d p) 0 + S d + P d (propertyOf d p) - 1
           unfolding frameSizes
           base-is =
-              bs ∙ ap (λ (x : FrameSizes). 1 + x .bits + gatesIn (costIn (x .property))) same ∙ ap (λ (x : ℕ). 1 + S d + x) (sym (P-is d p))
-              ∙ sym (start-first d p values)
+              bs ∙ ap (λ (x : FrameSizes). 1 + x .bits + gatesIn (costIn (x .property))) same ∙ ap (λ (x : ℕ). 1 + S d + x) (sym (P-is d (propertyOf d p)))
+              ∙ sym (start-first d (propertyOf d p) values)
 
           flags-is : flags ≡ w d
           unfolding frameSizes
           flags-is = fl ∙ ap (λ (x : FrameSizes). x .movers) same
 
-          bad-is : firstBad values size flags k base 0 ≡ firstBad values (F d p) (w d) k base 0
+          bad-is : firstBad values size flags k base 0 ≡ firstBad values (F d (propertyOf d p)) (w d) k base 0
           bad-is = ap₂ (λ (x y : ℕ). firstBad values x y k base 0) size-is flags-is
 
           pub bad-frame : (r : ℕ) → r ≡ firstBad values size flags k base 0 → r < k → exit (Refused 18 r) choices ≡ DECODE file p k values choices
           bad-frame r e l =
-              let z : r ≡ firstBad values (F d p) (w d) k base 0 = e ∙ bad-is in
-              refused-exit 18 r (deep ∙ from-bad d p values k base 0 base-is (omega arith) ∙ ap (refused 18) (sym z))
+              let z : r ≡ firstBad values (F d (propertyOf d p)) (w d) k base 0 = e ∙ bad-is in
+              refused-exit 18 r (deep ∙ from-bad d (propertyOf d p) values k base 0 base-is (omega arith) ∙ ap (refused 18) (sym z))
 
           pub good-frames : (r : ℕ) → r ≡ firstBad values size flags k base 0 → k ≤ r → (after : List ℕ)
               → after ≡ chosenList values size flags k base ++ drop k choices → exit Done after ≡ DECODE file p k values choices
           good-frames r e l after c =
-              let z : r ≡ firstBad values (F d p) (w d) k base 0 = e ∙ bad-is in
-              let u : chosenList values size flags k base ≡ chosenList values (F d p) (w d) k base = ap₂ (λ (x y : ℕ). chosenList values x y k base) size-is flags-is in
+              let z : r ≡ firstBad values (F d (propertyOf d p)) (w d) k base 0 = e ∙ bad-is in
+              let u : chosenList values size flags k base ≡ chosenList values (F d (propertyOf d p)) (w d) k base = ap₂ (λ (x y : ℕ). chosenList values x y k base) size-is flags-is in
               ap (exit Done) (c ∙ ap (λ (xs : List ℕ). xs ++ drop k choices) u)
-              ∙ answer-exit (chosenList values (F d p) (w d) k base) (deep ∙ from-good d p values k base 0 base-is (omega arith)) (list-long values (F d p) (w d) k base)
+              ∙ answer-exit (chosenList values (F d (propertyOf d p)) (w d) k base) (deep ∙ from-good d (propertyOf d p) values k base 0 base-is (omega arith)) (list-long values (F d (propertyOf d p)) (w d) k base)

@@ -8,10 +8,11 @@ use lib.ListN.{length, getD, take, drop, replicate}
 use lib.Seq.{drop-cons}
 use Rattle.design.specs.Tree.{Design, bit}
 use Rattle.design.specs.WellFormed.{WellFormed}
+use Rattle.step.specs.Property.{Property, PropertyOk}
 use Rattle.clauses.specs.Meaning.{Assignment, satisfies}
 use Rattle.clauses.specs.Circuit.{Bits}
 use Rattle.clauses.specs.Formula.{variablesFrom, firstTrue, S, w, propertyAt, flagsAt, P, frame, n, formula, choicesFrom, choices}
-use Rattle.clauses.specs.Answer.{answer}
+use Rattle.design.specs.Answer.{answer}
 use Rattle.clauses.specs.Decode.{allBits, ones, firstOne, justOne, flagValues, chosenFrom}
 use Rattle.clauses.proofs.Arithmetic.{BitsBelow}
 use Rattle.clauses.proofs.Definitions.{Same, literal-same}
@@ -26,14 +27,14 @@ first-same : (m : ℕ) (ρ σ : Assignment) → Same m ρ σ → (fs : Bits) →
 first-same m ρ σ s [] b = refl
 first-same m ρ σ s (f ∷ fs) b = rw (literal-same m ρ σ s f (b .0), first-same m ρ σ s fs (b .1))
 
-module _ (d : Design) (wf : WellFormed d) (p : ℕ) where
+module _ (d : Design) (wf : WellFormed d) (p : Property) (ok : PropertyOk d p) where
   choicesFrom-same : (m : ℕ) (ρ σ : Assignment) → Same m ρ σ → (r j : ℕ) → past d p (j + r) ≤ m → choicesFrom d p ρ r j ≡ choicesFrom d p σ r j
   unfolding choicesFrom
   choicesFrom-same m ρ σ s zero j h = refl
   choicesFrom-same m ρ σ s (suc r) j h =
       let q : j + suc r ≡ suc j + r = omega arith in
       let h′ : past d p (suc j + r) ≤ m = rw q at h in
-      ap₂ _∷_ (first-same m ρ σ s (flagsAt d p (frame d p j)) (flags-below d wf p j m (omega (arith, past-le d p (suc j) r))))
+      ap₂ _∷_ (first-same m ρ σ s (flagsAt d p (frame d p j)) (flags-below d wf p ok j m (omega (arith, past-le d p (suc j) r))))
       (choicesFrom-same m ρ σ s r (suc j) h′)
 
   pub choices-same : (k : ℕ) (ρ σ : Assignment) → Same (suc (n d p k)) ρ σ → choices d p ρ k ≡ choices d p σ k
@@ -78,7 +79,7 @@ module _ (ρ : Assignment) (values : List ℕ) where
       ap (take (suc m)) (drop-cons values v 0 (omega arith))
       ∙ ap₂ _∷_ (f v (omega arith)) (read-values m (suc v) (omega arith) (λ i l. f i (omega arith)))
 
-module _ (d : Design) (wf : WellFormed d) (p : ℕ) (ρ : Assignment) (values : List ℕ) where
+module _ (d : Design) (wf : WellFormed d) (p : Property) (ok : PropertyOk d p) (ρ : Assignment) (values : List ℕ) where
   flags-read : (m j : ℕ) → past d p (suc j) ≤ suc m → m ≤ length values → ((i : ℕ) → i < m → getD values i 0 ≡ bit (ρ (suc i)))
       → flagValues d p values j ≡ map bit (bitsOf ρ (flagsAt d p (frame d p j)))
   unfolding flagValues flagsAt
@@ -111,4 +112,4 @@ module _ (d : Design) (wf : WellFormed d) (p : ℕ) (ρ : Assignment) (values : 
   unfolding choices
   decode-chooses k s l f =
       let q : 0 + k ≡ k = omega arith in
-      chosen-is (n d p k) k 0 (rw q (last-past d p k)) l f (satisfies-frames d wf p k ρ s)
+      chosen-is (n d p k) k 0 (rw q (last-past d p k)) l f (satisfies-frames d wf p ok k ρ s)

@@ -6,46 +6,63 @@ use lib.ListN.{length}
 use Rattle.design.specs.Check.{checking}
 use Rattle.design.specs.DesignA.{bytesA, designA, count}
 use Rattle.design.specs.WellFormed.{WellFormed}
+use Rattle.step.specs.Property.{Property, propertyOf}
 use Rattle.step.specs.OneStep.{stepping}
+use Rattle.step.specs.Gate.{gate}
+use Rattle.step.proofs.Properties.{property-ok}
 use Rattle.clauses.specs.Formula.{F, encoding}
-use Rattle.clauses.specs.Answer.{answer, onDesign}
+use Rattle.design.specs.Answer.{answer, onDesign}
 use Rattle.clauses.specs.Size.{Sizes, sizesOf, size}
 use Rattle.clauses.specs.Theorem.{Model, Exactly}
 use Rattle.clauses.proofs.Counting.{breakers, models}
+
+-- property 0
+abbrev invariantA : Property
+invariantA = propertyOf designA 0
 
 -- "S=21, P=80, w=3, G=371, F=475."
 abbrev sizesA : ℕ → ℕ → ℕ → Sizes
 sizesA variables clauses words = record { stateBits = 21; propertyGates = 80; movers = 3; stepGates = 371; variables = variables; clauses = clauses; words = words }
 
-pub frame-A : F designA 0 ≡ 475
+pub frame-A : F designA invariantA ≡ 475
 unfolding designA encoding
 frame-A = refl
 
 -- "Bound 0: n=102, 295 clauses."
 pub size-A-0 : size bytesA 0 0 ≡ answer (sizesA 102 295 1038)
-unfolding bytesA checking encoding onDesign sizesOf size
+unfolding bytesA checking encoding gate onDesign sizesOf size
 size-A-0 = refl
 
 -- "Bound 3: n=1527, 5413 clauses."
 pub size-A-3 : size bytesA 0 3 ≡ answer (sizesA 1527 5413 20136)
-unfolding bytesA checking encoding onDesign sizesOf size
+unfolding bytesA checking encoding gate onDesign sizesOf size
 size-A-3 = refl
 
 -- "Bound 3 has 1 model; bound 4 has 9."
 well-formed-A : WellFormed designA
 unfolding designA count encoding stepping
-well-formed-A = omega arith
+well-formed-A = record {
+  narrow = omega arith;
+  some-mover = omega arith;
+  few-movers = omega arith;
+  movers = omega arith;
+  counts = omega arith;
+  statuses = omega arith;
+  invalid = omega arith;
+  invariant = omega arith;
+  start = omega arith;
+}
 
-breakers-3 : length (breakers designA 0 3) ≡ 1
+breakers-3 : length (breakers designA invariantA 3) ≡ 1
 unfolding designA count encoding stepping breakers
 breakers-3 = refl
 
-breakers-4 : length (breakers designA 0 4) ≡ 9
+breakers-4 : length (breakers designA invariantA 4) ≡ 9
 unfolding designA count encoding stepping breakers
 breakers-4 = refl
 
-pub models-3 : Exactly (Model designA 0 3) 1
-models-3 = models designA well-formed-A 0 3 1 breakers-3
+pub models-3 : Exactly (Model designA invariantA 3) 1
+models-3 = models designA well-formed-A invariantA (property-ok designA well-formed-A 0) 3 1 breakers-3
 
-pub models-4 : Exactly (Model designA 0 4) 9
-models-4 = models designA well-formed-A 0 4 9 breakers-4
+pub models-4 : Exactly (Model designA invariantA 4) 9
+models-4 = models designA well-formed-A invariantA (property-ok designA well-formed-A 0) 4 9 breakers-4

@@ -1,5 +1,5 @@
 -- Gates of statements and lists of them, over the bytes. Assumes nothing.
-use Prim.Native.Nat.{ℕ, zero, suc, _+_, _-_, _<_, _≤_}
+use Prim.Native.Nat.{ℕ, zero, suc, _+_, _-_, _*_, _<_, _≤_}
 use mathlib.Core.Path.{_≡_, refl, sym, ap, ap₂, subst, _∙_}
 use mathlib.Core.Bool.{Bool, true, false, cond}
 use mathlib.Core.List.{List, [], _∷_}
@@ -10,23 +10,26 @@ use lib.ListN.{length, getD, set}
 use lib.IntN.{ℤ}
 use borrow.Author.Tests.{ltb-true, lt-ltb, eq-eqb, ne-eqb}
 use Rattle.design.specs.Tree.{IntExpr, BoolExpr, Stmt, Stmts, assign, assignB, ifElse, done, then}
-use Rattle.design.specs.Limits.{maxDepth}
+use Rattle.design.specs.Limits.{maxDepth, maxBits}
 use Rattle.design.specs.Reading.{got, bad, Reader, provided}
 use Rattle.design.specs.Expression.{Names, byte, intExpr, boolExpr}
 use Rattle.design.specs.Action.{stmtOp, value, assignment, statements, listOf, conditional, statement, list}
 use Rattle.design.specs.State.{Layout}
 use Rattle.design.specs.Check.{namesOf}
+use Rattle.design.specs.declared.shape.Shape.{Shape}
 use Rattle.design.specs.Answers.{found}
 use Rattle.design.proofs.Forward.{bool-on, list-on, stmt-on}
 use Rattle.clauses.specs.Literal.{Literal}
 use Rattle.clauses.specs.Circuit.{Build, give, _>>=_, Bits}
 use Rattle.clauses.specs.Expression.{Slots, int!, bool! }
 use Rattle.clauses.specs.Action.{muxes!, statement!, statements! }
-use Rattle.clauses.specs.Writing.{Emits}
-use Rattle.clauses.specs.FlatState.{slotsOf, layoutOf, Reads}
+use Rattle.clauses.specs.Writing.{fromCode, fromCodes, Emits}
+use Rattle.clauses.specs.FlatState.{slotsOf, layoutOf}
+use Rattle.clauses.specs.Encoded.{Writes, Here, Encodes, intsAt, boolsAt, assignsAt, stmtsAt, listsAt, IntHere, BoolHere}
+use Rattle.clauses.specs.declared.gate.Cursor.{Cursor}
 use Rattle.clauses.proofs.EmitBuilds.{emits-same, emits-bind, Left, left-start, left-on, left-same, left-end}
 use Rattle.clauses.proofs.EmitReads.{provided-got, Bound, bind-got, got-same, OneRead, one-read}
-use Rattle.clauses.proofs.EmitExpressions.{Wrote}
+use Rattle.clauses.proofs.EmitExpressions.{Wrote, one-reads, one-emits}
 
 bad-got : {A : Type 0} {a : A} {n : ℕ} → bad ≡ got a n → ⊥
 bad-got e = let z : _≡_ {A = ℕ} 0 1 = cc in omega arith
@@ -193,64 +196,157 @@ module _ (l : Layout) (s : Slots) where
         h3 .1,
       )
 
--- the walk of a list
-module _ (file : List ℕ) (nv nm end : ℕ) where
+-- What stands where a statement is read, for every end and number of levels with which it is read.
+module _ (file : List ℕ) (shape : Shape) where
   abbrev N : Names
-  N = namesOf file nv nm
+  N = namesOf file shape
 
   abbrev SL : List ℕ → Slots
-  SL codes = slotsOf file nv nm codes
+  SL codes = slotsOf file shape codes
 
-  pub record Listing (k at : ℕ) (codes₀ : List ℕ) (n₀ : ℕ) (xs₀ : List ℤ) (cur₀ : ℕ) (count p : ℕ) (codes : List ℕ) (xs : List ℤ) (cur v : ℕ) : Type 0 where
-    pub size : length codes ≡ 544
+  abbrev SG : List ℕ → Stmt → Build Slots
+  SG codes t = statement! t (layoutOf shape) (SL codes)
+
+  abbrev LG : List ℕ → Stmts → Build Slots
+  LG codes ts = statements! ts (layoutOf shape) (SL codes)
+
+  module _ {at : ℕ} (h : Here file (assignsAt file file shape) at) where
+    reads-here : assignment file N (h .end) at ≡ got (h .read .tree) (h .read .past)
+    reads-here = h .read .reads
+
+    pub assign-here : (at < length file) × (getD file at 0 < shape .variables)
+    assign-here = let k = assign-live file N (h .end) at _ _ reads-here in (omega (arith, k .0, h .inside), k .1)
+
+    pub assign-int-here : getD file (3 * getD file at 0) 0 ≡ 1 → IntHere file file shape (at + 1)
+    assign-int-here k = record { end = h .end; levels = maxDepth; inside = h .inside; read = one-reads (assign-int file N (h .end) at _ _ reads-here k) }
+
+    pub assign-flag-here : (getD file (3 * getD file at 0) 0 ≡ 1 → ⊥) → BoolHere file file shape (at + 1)
+    assign-flag-here k = record { end = h .end; levels = maxDepth; inside = h .inside; read = one-reads (assign-flag file N (h .end) at _ _ reads-here k) }
+
+  module _ {at : ℕ} (codes codes′ : List ℕ) {pen p1 : Cursor} {xs ys : List ℤ} {m : ℕ} where
+    pub assign-int-node : (x : List ℕ) → getD file (3 * getD file at 0) 0 ≡ 1 → Encodes file (intsAt file file shape) (int! (layoutOf shape) (SL codes)) (at + 1) pen xs ys (fromCodes x) p1 m
+        → SL codes′ ≡ set (SL codes) (getD file at 0) (fromCodes x) → Encodes file (assignsAt file file shape) (SG codes) at pen xs ys (SL codes′) p1 m
+    assign-int-node x k w e = record {
+      encodes = λ end levels t n i h.
+          one-emits (intExpr file N end maxDepth) (assign (getD file at 0)) (int! (layoutOf shape) (SL codes)) (SG codes) (λ (b : Bits). set (SL codes) (getD file at 0) b)
+          (assign-tree (layoutOf shape) (SL codes) (getD file at 0)) (assign-int file N end at t n h k) (SL codes′) (λ a j q. w .encodes end maxDepth a j i q) e;
+    }
+
+    pub assign-flag-node : (x : ℕ) → (getD file (3 * getD file at 0) 0 ≡ 1 → ⊥) → Encodes file (boolsAt file file shape) (bool! (layoutOf shape) (SL codes)) (at + 1) pen xs ys (fromCode x) p1 m
+        → SL codes′ ≡ set (SL codes) (getD file at 0) (fromCode x ∷ []) → Encodes file (assignsAt file file shape) (SG codes) at pen xs ys (SL codes′) p1 m
+    assign-flag-node x k w e = record {
+      encodes = λ end levels t n i h.
+          one-emits (boolExpr file N end maxDepth) (assignB (getD file at 0)) (bool! (layoutOf shape) (SL codes)) (SG codes) (λ (b : Literal). set (SL codes) (getD file at 0) (b ∷ []))
+          (flag-tree (layoutOf shape) (SL codes) (getD file at 0)) (assign-flag file N end at t n h k) (SL codes′) (λ a j q. w .encodes end maxDepth a j i q) e;
+    }
+
+    -- a statement that is an assignment
+    pub stmt-assign-node : getD file at 0 ≡ 0x20 → Encodes file (assignsAt file file shape) (SG codes) (at + 1) pen xs ys (SL codes′) p1 m → Encodes file (stmtsAt file file shape) (SG codes) at pen xs ys (SL codes′) p1 m
+    stmt-assign-node e w = record { encodes = λ end levels t n i h. w .encodes end levels t n i (stmt-assign file N end levels at t n h e) }
+
+  module _ {at : ℕ} (h : Here file (stmtsAt file file shape) at) where
+    stmt-reads : statement file N (h .end) (h .levels) at ≡ got (h .read .tree) (h .read .past)
+    stmt-reads = h .read .reads
+
+    pub stmt-here : at < length file
+    stmt-here = omega (arith, stmt-live file N (h .end) (h .levels) at _ _ stmt-reads, h .inside)
+
+    pub stmt-assign-here : getD file at 0 ≡ 0x20 → Here file (assignsAt file file shape) (at + 1)
+    stmt-assign-here e = record { end = h .end; levels = h .levels; inside = h .inside; read = record { tree = h .read .tree; past = h .read .past; reads = stmt-assign file N (h .end) (h .levels) at _ _ stmt-reads e } }
+
+    module _ (z : getD file at 0 ≡ 0x20 → ⊥) where
+      parts : IfRead (boolExpr file N (h .end) maxDepth) (list file N (h .end) (h .levels - 1)) (at + 1) (h .read .tree) (h .read .past)
+      parts = stmt-if file N (h .end) (h .levels) at _ _ stmt-reads z .1
+
+      pub if-test-here : BoolHere file file shape (at + 1)
+      if-test-here = record { end = h .end; levels = maxDepth; inside = h .inside; read = record { tree = parts .test; past = parts .first; reads = parts .reads } }
+
+      module _ (codes : List ℕ) {pen p1 : Cursor} {xs ys : List ℤ} {out : Literal} {m : ℕ} (w : Encodes file (boolsAt file file shape) (bool! (layoutOf shape) (SL codes)) (at + 1) pen xs ys out p1 m) where
+        first-at : m ≡ parts .first
+        first-at = w .encodes (h .end) maxDepth _ _ (h .inside) (parts .reads) .1
+
+        pub if-first-here : Here file (listsAt file file shape) m
+        if-first-here = record { end = h .end; levels = h .levels - 1; inside = h .inside; read = record { tree = parts .yes; past = parts .second; reads = ap (list file N (h .end) (h .levels - 1)) first-at ∙ parts .then } }
+
+        pub if-first-on : at < m
+        if-first-on = omega (arith, first-at, ahead-bool file N (h .end) maxDepth (at + 1) (parts .test) (parts .first) (parts .reads))
+
+        module _ {q1 : Cursor} {zs : List ℤ} {slots : Slots} {m2 : ℕ} (u : Encodes file (listsAt file file shape) (LG codes) m p1 ys zs slots q1 m2) where
+          second-at : m2 ≡ parts .second
+          second-at = u .encodes (h .end) (h .levels - 1) _ _ (h .inside) (ap (list file N (h .end) (h .levels - 1)) first-at ∙ parts .then) .1
+
+          pub if-second-here : Here file (listsAt file file shape) m2
+          if-second-here = record { end = h .end; levels = h .levels - 1; inside = h .inside; read = record { tree = parts .no; past = h .read .past; reads = ap (list file N (h .end) (h .levels - 1)) second-at ∙ parts .else } }
+
+          pub if-second-on : at < m2
+          if-second-on = omega (arith, if-first-on, second-at, first-at, ahead-list file N (h .end) (h .levels - 1) (parts .first) (parts .yes) (parts .second) (parts .then))
+
+  pub if-node : {at : ℕ} (codes : List ℕ) (y z r : List ℕ) {x : Literal} {pen p1 p2 p3 p4 : Cursor} {x0 x1 x2 x3 x4 : List ℤ} {m1 m2 m3 : ℕ} → (getD file at 0 ≡ 0x20 → ⊥)
+      → Encodes file (boolsAt file file shape) (bool! (layoutOf shape) (SL codes)) (at + 1) pen x0 x1 x p1 m1 → Encodes file (listsAt file file shape) (LG codes) m1 p1 x1 x2 (SL y) p2 m2
+      → Encodes file (listsAt file file shape) (LG codes) m2 p2 x2 x3 (SL z) p3 m3 → Writes p3 (muxes! x (SL y) (SL z)) x3 x4 (SL r) p4 → Encodes file (stmtsAt file file shape) (SG codes) at pen x0 x4 (SL r) p4 m3
+  if-node codes y z r ne w1 w2 w3 u = record {
+    encodes = λ end levels t n i h.
+        if-emits (layoutOf shape) (SL codes) (stmt-if file N end levels _ t n h ne .1) (λ a j q. w1 .encodes end maxDepth a j i q) (λ a j q. w2 .encodes end (levels - 1) a j i q) (λ a j q. w3 .encodes end (levels - 1) a j i q) u;
+  }
+
+  -- the walk of a list
+  pub record Listing (at : ℕ) (codes₀ : List ℕ) (n₀ : ℕ) (xs₀ : List ℤ) (cur₀ : ℕ) (count p : ℕ) (codes : List ℕ) (xs : List ℤ) (cur v : ℕ) : Type 0 where
+    pub size : length codes ≡ maxBits
     pub ahead : at < p
-    pub live : Reads (Q file N end k count p)
-    pub left : (ts rs : Stmts) (n : ℕ) → L file N end k at ≡ got ts n → Q file N end k count p ≡ got rs n → Left n₀ (statements! ts (layoutOf nv) (SL codes₀) n₀) xs₀ cur₀ v (statements! rs (layoutOf nv) (SL codes) v) xs cur (λ (x : Slots). x)
-    pub past : (ts : Stmts) (n : ℕ) → L file N end k at ≡ got ts n → (rs : Stmts) × (Q file N end k count p ≡ got rs n)
+    pub here : Here file (λ (end k : ℕ). Q file N end k count) p
+    pub left : (end k : ℕ) (ts rs : Stmts) (n : ℕ) → end ≤ length file → L file N end k at ≡ got ts n → Q file N end k count p ≡ got rs n → Left n₀ (LG codes₀ ts n₀) xs₀ cur₀ v (LG codes rs v) xs cur (λ (x : Slots). x)
+    pub past : (end k : ℕ) (ts : Stmts) (n : ℕ) → end ≤ length file → L file N end k at ≡ got ts n → (rs : Stmts) × (Q file N end k count p ≡ got rs n)
 
-  pub listing-start : (k at : ℕ) (codes : List ℕ) (n : ℕ) (xs : List ℤ) (cur count : ℕ) → count ≡ getD file at 0 → length codes ≡ 544 → Reads (L file N end k at) → Listing k at codes n xs cur count (at + 1) codes xs cur n
-  listing-start k at codes n xs cur count e h r =
-      let q : (ts : Stmts) (m : ℕ) → L file N end k at ≡ got ts m → Q file N end k count (at + 1) ≡ got ts m = (λ ts m w. ap (λ (j : ℕ). Q file N end k j (at + 1)) e ∙ list-in file N end k at ts m w .1) in
+  pub list-here : {at : ℕ} → Here file (listsAt file file shape) at → at < length file
+  list-here {at} h = omega (arith, list-in file N (h .end) (h .levels) at _ _ (h .read .reads) .0, h .inside)
+
+  pub listing-start : (at : ℕ) (codes : List ℕ) (n : ℕ) (xs : List ℤ) (cur count : ℕ) → count ≡ getD file at 0 → length codes ≡ maxBits → Here file (listsAt file file shape) at → Listing at codes n xs cur count (at + 1) codes xs cur n
+  listing-start at codes n xs cur count e h r =
+      let q : (end k : ℕ) (ts : Stmts) (m : ℕ) → L file N end k at ≡ got ts m → Q file N end k count (at + 1) ≡ got ts m = (λ end k ts m w. ap (λ (j : ℕ). Q file N end k j (at + 1)) e ∙ list-in file N end k at ts m w .1) in
       record {
         size = h;
         ahead = omega arith;
-        live = record { tree = r .tree; past = r .past; reads = q (r .tree) (r .past) (r .reads) };
-        left = λ ts rs m w u. left-same _ _ (ap (λ (x : Stmts). statements! x (layoutOf nv) (SL codes) n) (sym (got-same _ _ _ _ (sym (q ts m w) ∙ u) .0))) (left-start n (statements! ts (layoutOf nv) (SL codes) n) xs cur);
-        past = λ ts m w. (ts, q ts m w);
+        here = record { end = r .end; levels = r .levels; inside = r .inside; read = record { tree = r .read .tree; past = r .read .past; reads = q (r .end) (r .levels) (r .read .tree) (r .read .past) (r .read .reads) } };
+        left = λ end k ts rs m i w u. left-same _ _ (ap (λ (x : Stmts). LG codes x n) (sym (got-same _ _ _ _ (sym (q end k ts m w) ∙ u) .0))) (left-start n (LG codes ts n) xs cur);
+        past = λ end k ts m i w. (ts, q end k ts m w);
       }
 
-  pub listing-reads : {k at : ℕ} {codes₀ : List ℕ} {n₀ : ℕ} {xs₀ : List ℤ} {cur₀ count p : ℕ} {codes : List ℕ} {xs : List ℤ} {cur v : ℕ} → 0 < count → Listing k at codes₀ n₀ xs₀ cur₀ count p codes xs cur v → Reads (S file N end k p)
-  listing-reads {k} {at} {count = count} {p = p} h l =
-      let m = more-in file N end k count p _ _ h (l .live .reads) in
-      record { tree = m .head; past = m .middle; reads = m .reads }
+  module _ {at : ℕ} {codes₀ : List ℕ} {n₀ : ℕ} {xs₀ : List ℤ} {cur₀ count p : ℕ} {codes : List ℕ} {xs : List ℤ} {cur v : ℕ} (l : Listing at codes₀ n₀ xs₀ cur₀ count p codes xs cur v) where
+    pub listing-here : 0 < count → Here file (stmtsAt file file shape) p
+    listing-here h =
+        let r = l .here in
+        let m = more-in file N (r .end) (r .levels) count p _ _ h (r .read .reads) in
+        record { end = r .end; levels = r .levels; inside = r .inside; read = record { tree = m .head; past = m .middle; reads = m .reads } }
 
-  pub listing-on : {k at : ℕ} {codes₀ : List ℕ} {n₀ : ℕ} {xs₀ : List ℤ} {cur₀ count p : ℕ} {codes : List ℕ} {xs : List ℤ} {cur v : ℕ} → 0 < count → Listing k at codes₀ n₀ xs₀ cur₀ count p codes xs cur v
-      → {ys : List ℤ} {codes′ : List ℕ} {cur′ v′ q : ℕ} → Wrote (S file N end k) (λ (t : Stmt). statement! t (layoutOf nv) (SL codes)) p v xs ys cur (SL codes′) cur′ v′ q × (length codes′ ≡ 544) → Listing k at codes₀ n₀ xs₀ cur₀ (count - 1) q codes′ ys cur′ v′
-  listing-on {k} {at} {count = count} {p = p} {codes = codes} {v = v} h l {codes′ = codes′} {v′ = v′} {q = q} w =
-      let step : (rs : Stmts) (n : ℕ) → Q file N end k count p ≡ got rs n → MoreRead (S file N end k) (Q file N end k (count - 1)) p rs n = (λ rs n u. more-in file N end k count p rs n h u) in
-      let m = step _ _ (l .live .reads) in
-      let on : (rs : Stmts) (n : ℕ) (u : Q file N end k count p ≡ got rs n) → q ≡ step rs n u .middle = (λ rs n u. w .0 _ _ (step rs n u .reads) .1) in
+    pub listing-on : 0 < count → {ys : List ℤ} (codes′ : List ℕ) {p1 : Cursor} {q : ℕ}
+        → Encodes file (stmtsAt file file shape) (SG codes) p (record { cur = cur; var = v }) xs ys (SL codes′) p1 q × (length codes′ ≡ maxBits) → Listing at codes₀ n₀ xs₀ cur₀ (count - 1) q codes′ ys (p1 .cur) (p1 .var)
+    listing-on h codes′ {p1 = p1} {q = q} w =
+        let r = l .here in
+        let step : (end k : ℕ) (rs : Stmts) (n : ℕ) → Q file N end k count p ≡ got rs n → MoreRead (S file N end k) (Q file N end k (count - 1)) p rs n = (λ end k rs n u. more-in file N end k count p rs n h u) in
+        let on : (end k : ℕ) (rs : Stmts) (n : ℕ) → end ≤ length file → (u : Q file N end k count p ≡ got rs n) → q ≡ step end k rs n u .middle = (λ end k rs n i u. w .0 .encodes end k _ _ i (step end k rs n u .reads) .1) in
+        let m = step (r .end) (r .levels) _ _ (r .read .reads) in
+        record {
+          size = w .1;
+          ahead = omega (arith, l .ahead, ahead-stmt file N (r .end) (r .levels) p _ _ (m .reads), on (r .end) (r .levels) _ _ (r .inside) (r .read .reads));
+          here = record { end = r .end; levels = r .levels; inside = r .inside; read = record { tree = m .tail; past = r .read .past; reads = ap (Q file N (r .end) (r .levels) (count - 1)) (on (r .end) (r .levels) _ _ (r .inside) (r .read .reads)) ∙ m .then } };
+          left = λ end k ts rs n i a u.
+              let b = l .past end k ts n i a in
+              let d = step end k (b .0) n (b .1) in
+              let same : d .tail ≡ rs = sym (got-same _ _ _ _ (sym (ap (Q file N end k (count - 1)) (on end k _ _ i (b .1)) ∙ d .then) ∙ u) .0) in
+              left-same _ _ (ap (λ (x : Stmts). LG codes′ x (p1 .var)) same)
+              (left-on (SG codes (d .head)) (λ (r : Slots). statements! (d .tail) (layoutOf shape) r)
+              (left-same _ _ (ap (λ (x : Stmts). LG codes x v) (d .tree) ∙ ap (λ (x : Build Slots). x v) (then-tree (layoutOf shape) (SL codes) (d .head) (d .tail))) (l .left end k ts (b .0) n i a (b .1)))
+              (w .0 .encodes end k _ _ i (d .reads) .0));
+          past = λ end k ts n i a. let b = l .past end k ts n i a in let d = step end k (b .0) n (b .1) in (d .tail, ap (Q file N end k (count - 1)) (on end k _ _ i (b .1)) ∙ d .then);
+        }
+
+    pub listing-end : count ≤ 0 → Encodes file (listsAt file file shape) (LG codes₀) at (record { cur = cur₀; var = n₀ }) xs₀ xs (SL codes) (record { cur = cur; var = v }) p × (length codes ≡ maxBits)
+    listing-end h = (
       record {
-        size = w .1;
-        ahead = omega (arith, l .ahead, ahead-stmt file N end k p _ _ (m .reads), on _ _ (l .live .reads));
-        live = record { tree = m .tail; past = l .live .past; reads = ap (Q file N end k (count - 1)) (on _ _ (l .live .reads)) ∙ m .then };
-        left = λ ts rs n a u.
-            let b = l .past ts n a in
-            let d = step (b .0) n (b .1) in
-            let same : d .tail ≡ rs = sym (got-same _ _ _ _ (sym (ap (Q file N end k (count - 1)) (on _ _ (b .1)) ∙ d .then) ∙ u) .0) in
-            left-same _ _ (ap (λ (x : Stmts). statements! x (layoutOf nv) (SL codes′) v′) same)
-            (left-on (statement! (d .head) (layoutOf nv) (SL codes)) (λ (r : Slots). statements! (d .tail) (layoutOf nv) r)
-            (left-same _ _ (ap (λ (x : Stmts). statements! x (layoutOf nv) (SL codes) v) (d .tree) ∙ ap (λ (x : Build Slots). x v) (then-tree (layoutOf nv) (SL codes) (d .head) (d .tail))) (l .left ts (b .0) n a (b .1)))
-            (w .0 _ _ (d .reads) .0));
-        past = λ ts n a. let b = l .past ts n a in let d = step (b .0) n (b .1) in (d .tail, ap (Q file N end k (count - 1)) (on _ _ (b .1)) ∙ d .then);
-      }
-
-  pub listing-end : {k at : ℕ} {codes₀ : List ℕ} {n₀ : ℕ} {xs₀ : List ℤ} {cur₀ count p : ℕ} {codes : List ℕ} {xs : List ℤ} {cur v : ℕ} → count ≤ 0 → Listing k at codes₀ n₀ xs₀ cur₀ count p codes xs cur v
-      → Wrote (L file N end k) (λ (ts : Stmts). statements! ts (layoutOf nv) (SL codes₀)) at n₀ xs₀ xs cur₀ (SL codes) cur v p × (length codes ≡ 544)
-  listing-end {k} {at} {count = count} {p = p} {codes = codes} {v = v} h l = (
-    (λ ts n a.
-        let b = l .past ts n a in
-        let e = none-in file N end k count p (b .0) n h (b .1) in
-        (left-end (SL codes) (left-same _ _ (ap (λ (x : Stmts). statements! x (layoutOf nv) (SL codes) v) (e .0) ∙ done-tree (layoutOf nv) (SL codes) v) (l .left ts (b .0) n a (b .1))), sym (e .1))),
-    l .size,
-  )
+        encodes = λ end k ts n i a.
+            let b = l .past end k ts n i a in
+            let e = none-in file N end k count p (b .0) n h (b .1) in
+            (left-end (SL codes) (left-same _ _ (ap (λ (x : Stmts). LG codes x v) (e .0) ∙ done-tree (layoutOf shape) (SL codes) v) (l .left end k ts (b .0) n i a (b .1))), sym (e .1));
+      },
+      l .size,
+    )

@@ -10,49 +10,61 @@ use lib.Dec.{eqb}
 use lib.IntN.{ℤ}
 use borrow.Author.Tests.{eqb-true}
 use Rattle.design.specs.Tree.{BoolExpr, constantB, boolean, Cell, Design, cell, raise, truth}
-use Rattle.design.specs.Limits.{maxDepth, maxNest}
+use Rattle.design.specs.Limits.{maxBytes, maxVariables, maxMatrices, maxDepth, maxNest, maxBits, eventPlaces}
 use Rattle.design.specs.State.{Layout, statusSlot, statusWidth}
 use Rattle.design.specs.Reading.{Read, got, bad}
 use Rattle.design.specs.Expression.{Names, boolExpr}
 use Rattle.design.specs.Action.{list}
 use Rattle.design.specs.DesignFile.{item, filling, guard, normal, c-matrix, c-status, c-event, c-guard, c-middle, c-past, events}
-use Rattle.design.specs.Check.{namesOf, names, trailer, variableCount, matricesOffset, eventIn}
-use Rattle.design.specs.Places.{pastEvents, eventsStart}
+use Rattle.design.specs.Check.{namesIn, namesOf, names, trailer, variableCount, matricesOffset, eventIn}
+use Rattle.design.specs.Places.{EventsIndexed, pastEvents, eventsStart}
+use Rattle.design.specs.declared.shape.Shape.{Shape}
 use Rattle.design.specs.Answers.{walked}
 use Rattle.design.specs.Sections.{Parts, NormalRead, EventRead, CellFields}
 use Rattle.design.proofs.Sections.{need-inv, item-same}
+use Rattle.design.proofs.Widths.{state-size, variables-small}
 use Rattle.design.proofs.Items.{variable-ends}
 use Rattle.design.proofs.Positions.{variable-stands}
 use Rattle.design.proofs.Places.{Read as Tree, read, event-stands, cell-fields}
 use Rattle.design.proofs.Tables.{few-events}
-use Rattle.step.specs.Ready.{NormalCell}
+use Rattle.design.specs.Sections.{NormalCell}
 use Rattle.clauses.specs.Literal.{Literal, positive, negate, trueLiteral, literalOf}
 use Rattle.clauses.specs.Circuit.{Built, give, _>>=_, and!, mux!, equal!, Bits}
 use Rattle.clauses.specs.Expression.{Slots, constantBits, integerAt, booleanAt, bool! }
 use Rattle.clauses.specs.Action.{muxBits!, muxes!, statements!, statusAndEvent!, enable!, effect!, mover! }
 use Rattle.clauses.specs.Formula.{total, variablesFrom}
 use Rattle.clauses.specs.Writing.{fromCode, fromCodes, Emits}
-use Rattle.clauses.specs.FlatState.{widthsFrom, widthsOf, cut, slotsOf, over, Slotted, Reads}
-use Rattle.clauses.specs.Ready.{Ready, resultFrom}
+use Rattle.clauses.specs.FlatState.{widthsFrom, widthsIn, layoutOf, cut, slotsOf, over, Slotted}
+use Rattle.clauses.specs.Encoded.{Writes, Here, listsAt, BoolHere, BoolEncoded, ListEncoded}
+use Rattle.clauses.specs.Ready.{ShapedFile, resultFrom}
+use Rattle.clauses.specs.declared.gate.Cursor.{Cursor}
+use Rattle.clauses.specs.declared.expression.BoolOut.{BoolOut}
+use Rattle.clauses.specs.declared.action.Done.{Done}
 use Rattle.clauses.proofs.EmitWords.{code-yes}
 use Rattle.clauses.proofs.EmitLists.{codes-length, codes-take}
 use Rattle.clauses.proofs.EmitBuilds.{emits-same, emits-result, emits-give, emits-bind, emits-map}
-use Rattle.clauses.proofs.EmitStates.{state-size, variables-small, muxes-flat, status-over}
+use Rattle.clauses.proofs.EmitStates.{muxes-flat, status-over}
 
-module _ (file table : List ℕ) (nv nm : ℕ) (h : Ready file table nv nm) where
+module _ {file : List ℕ} {shape : Shape} (h : ShapedFile file shape) where
+  abbrev nv : ℕ
+  nv = shape .variables
+
+  abbrev nm : ℕ
+  nm = shape .matrices
+
   abbrev E : ℕ
   E = trailer file
 
   abbrev N : Names
-  N = namesOf file nv nm
+  N = namesOf file shape
 
   names-here : N ≡ names file
-  names-here = ap₂ (namesOf file) (h .variables) (h .matrices)
+  names-here = ap₂ (namesIn file) (h .variables) (h .matrices)
 
   tree : Tree file
   tree = read file (h .accepted)
 
-  pub sizes : (16 ≤ length file) × (length file ≤ 16384) × (nm ≤ 8) × (nv ≤ 32)
+  pub sizes : (16 ≤ length file) × (length file ≤ maxBytes) × (nm ≤ maxMatrices) × (nv ≤ maxVariables)
   sizes = let b = tree .all in (b .long, b .short, omega (arith, b .matrices, h .matrices), omega (arith, b .variables, h .variables))
 
   -- the variables stand in the file
@@ -67,28 +79,33 @@ module _ (file table : List ℕ) (nv nm : ℕ) (h : Ready file table nv nm) wher
           let k = variable-ends file E (3 * n) (3 * n + 3) (sym (ap walked v)) in
           omega (arith, k .1, sizes)
 
-  pub few-bits : total (widthsOf file nv nm) ≤ 544
+  pub few-bits : total (widthsIn file shape) ≤ maxBits
   few-bits = omega (arith, sizes, state-size file nv nm (total (widthsFrom file 0 nv)) refl, variables-small file 0 nv)
 
-  pub slotted : (codes : List ℕ) → length codes ≡ 544 → Slotted file nv nm codes
+  pub bits-few : shape .bits ≤ maxBits
+  bits-few = omega (arith, few-bits, h .bits)
+
+  pub slotted : (codes : List ℕ) → length codes ≡ maxBits → Slotted file shape codes
   slotted codes e = record {
     kinds = kinds;
     variables = sizes .3;
     matrices = sizes .2;
+    sum = h .bits;
+    few = bits-few;
     bits = omega (arith, few-bits);
   }
 
   -- event e of matrix m
-  module _ (m e : ℕ) (a : m < nm) (b : e < events file (matricesOffset file) m) where
+  module _ {table : List ℕ} (ev : EventsIndexed file table) (m e : ℕ) (a : m < nm) (b : e < events file (matricesOffset file) m) where
     abbrev place : ℕ
     place = getD table (16 * m + e) 0
 
-    pub event-slot : 16 * m + e < 128
+    pub event-slot : 16 * m + e < eventPlaces
     event-slot = omega (arith, few-events file (h .accepted) m (omega (arith, h .matrices)), sizes)
 
     module _ (d : Design) (w : Parts file d) where
       event-read : EventRead file E (names file) place (eventIn (w .rows) m e) (pastEvents file (suc e) (eventsStart file m))
-      event-read = subst (λ (p : ℕ). EventRead file E (names file) p (eventIn (w .rows) m e) (pastEvents file (suc e) (eventsStart file m))) (sym (h .events .entry m e (omega (arith, h .matrices)) b)) (event-stands file d w m e (omega (arith, h .matrices)) b)
+      event-read = subst (λ (p : ℕ). EventRead file E (names file) p (eventIn (w .rows) m e) (pastEvents file (suc e) (eventsStart file m))) (sym (ev .entry m e (omega (arith, h .matrices)) b)) (event-stands file d w m e (omega (arith, h .matrices)) b)
 
       pub event-got : (n at : ℕ) → n ≡ place + 1 + getD file place 0 → at ≡ place + 1 → boolExpr file N n maxDepth at ≡ got (eventIn (w .rows) m e) n
       event-got n at p q =
@@ -99,8 +116,20 @@ module _ (file table : List ℕ) (nv nm : ℕ) (h : Ready file table nv nm) wher
     pub event-inside : place + 1 + getD file place 0 ≤ E
     event-inside = let t = event-read (tree .tree) (tree .all .parts) in omega (arith, t .past, t .inside)
 
-    pub event-reads : (n at : ℕ) → n ≡ place + 1 + getD file place 0 → at ≡ place + 1 → Reads (boolExpr file N n maxDepth at)
-    event-reads n at p q = record { tree = eventIn (tree .all .parts .rows) m e; past = n; reads = event-got (tree .tree) (tree .all .parts) n at p q }
+    pub event-here : (at : ℕ) → at ≡ place → BoolHere file file shape (at + 1)
+    event-here at q = record {
+      end = place + 1 + getD file place 0;
+      levels = maxDepth;
+      inside = omega (arith, event-inside, sizes);
+      read = record { tree = eventIn (tree .all .parts .rows) m e; past = place + 1 + getD file place 0; reads = event-got (tree .tree) (tree .all .parts) _ (at + 1) refl (ap (λ (k : ℕ). k + 1) q) };
+    }
+
+    -- its gates, where the cell names it by bytes
+    pub event-writes : (m′ e′ at : ℕ) → m ≡ m′ → e ≡ e′ → at ≡ place → (codes : List ℕ) {pen : Cursor} {xs ys : List ℤ} (r : BoolOut) → BoolEncoded file file shape codes (at + 1) pen xs ys r
+        → (d : Design) (w : Parts file d) → Writes pen (bool! (layoutOf shape) (slotsOf file shape codes) (eventIn (w .rows) m′ e′)) xs ys (fromCode (r .lit)) (r .pen)
+    event-writes m′ e′ at em ee q codes {pen = pen} r k d w =
+        emits-same _ _ (ap₂ (λ (a b : ℕ). bool! (layoutOf shape) (slotsOf file shape codes) (eventIn (w .rows) a b) (pen .var)) em ee)
+        (k .encodes (place + 1 + getD file place 0) maxDepth _ _ (omega (arith, event-inside, sizes)) (event-got d w _ (at + 1) refl (ap (λ (k : ℕ). k + 1) q)) .0)
 
   -- a normal cell
   module _ (p : ℕ) (x : NormalCell file p) where
@@ -132,6 +161,21 @@ module _ (file table : List ℕ) (nv nm : ℕ) (h : Ready file table nv nm) wher
     action-got m n a b =
         ap (λ (y : Names). list file y n maxNest m) names-here ∙ ap (λ (j : ℕ). list file (names file) j maxNest m) b ∙ ap (list file (names file) (c-past file p) maxNest) a ∙ is .action ∙ ap (got (x .cell .action)) (sym b)
 
+    -- a guard that is there, and the action
+    pub guard-here : (n : ℕ) → n ≡ c-guard file p → (n ≡ 0 → ⊥) → BoolHere file file shape (p + 8)
+    guard-here n e z = record { end = p + 8 + n; levels = maxDepth; inside = omega (arith, normal-fields .past, sizes); read = record { tree = x .cell .guard; past = c-middle file p; reads = guard-got n e z } }
+
+    pub guard-writes : (n : ℕ) → n ≡ c-guard file p → (n ≡ 0 → ⊥) → (codes : List ℕ) {pen : Cursor} {xs ys : List ℤ} (r : BoolOut) → BoolEncoded file file shape codes (p + 8) pen xs ys r
+        → Writes pen (bool! (layoutOf shape) (slotsOf file shape codes) (x .cell .guard)) xs ys (fromCode (r .lit)) (r .pen)
+    guard-writes n e z codes r k = k .encodes (p + 8 + n) maxDepth _ _ (omega (arith, normal-fields .past, sizes)) (guard-got n e z) .0
+
+    pub action-here : (m : ℕ) → m ≡ c-middle file p → Here file (listsAt file file shape) m
+    action-here m a = record { end = c-past file p; levels = maxNest; inside = omega (arith, normal-fields .past, sizes); read = record { tree = x .cell .action; past = c-past file p; reads = action-got m (c-past file p) a refl } }
+
+    pub action-writes : (m : ℕ) → m ≡ c-middle file p → (codes after : List ℕ) {pen : Cursor} {xs ys : List ℤ} (r : Done) → ListEncoded file shape codes after m pen xs ys r
+        → Writes pen (statements! (x .cell .action) (layoutOf shape) (slotsOf file shape codes)) xs ys (slotsOf file shape after) (r .pen)
+    action-writes m a codes after r k = k .encodes (c-past file p) maxNest _ _ (omega (arith, normal-fields .past, sizes)) (action-got m (c-past file p) a refl) .0
+
 -- gates of a cell's parts
 pub event-emits : (l : Layout) (s : Slots) (m st : ℕ) (event : BoolExpr) (x k : Bits) (q v r : Literal) {n : ℕ} {x0 x1 x2 x3 : List ℤ} {c0 c1 c2 c3 v1 v2 v3 : ℕ} → x ≡ integerAt s (statusSlot l m) → k ≡ constantBits 16 st
     → Emits n (equal! x k n) x0 x1 c0 q c1 v1 → Emits v1 (bool! l s event v1) x1 x2 c1 v c2 v2 → Emits v2 (and! q v v2) x2 x3 c2 r c3 v3 → Emits n (statusAndEvent! l s m st event n) x0 x3 c0 r c3 v3
@@ -156,11 +200,11 @@ bits-out c [] ys n e = refl
 bits-out c (x ∷ xs) [] n e = absurd (omega arith)
 bits-out c (x ∷ xs) (y ∷ ys) n e = ap (λ (r : Bits). positive n ∷ r) (bits-out c xs ys (suc n) (omega arith))
 
-module _ (file : List ℕ) (nv nm : ℕ) where
-  pub muxes-result : (c : Literal) (a b : List ℕ) (n : ℕ) → total (widthsOf file nv nm) ≤ length a → total (widthsOf file nv nm) ≤ length b → (muxes! c (slotsOf file nv nm a) (slotsOf file nv nm b) n) .out ≡ resultFrom file nv nm n
+module _ (file : List ℕ) (shape : Shape) where
+  pub muxes-result : (c : Literal) (a b : List ℕ) (n : ℕ) → total (widthsIn file shape) ≤ length a → total (widthsIn file shape) ≤ length b → (muxes! c (slotsOf file shape a) (slotsOf file shape b) n) .out ≡ resultFrom file shape n
   unfolding slotsOf resultFrom _>>=_ give
   muxes-result c a b n p q =
-      let ws = widthsOf file nv nm in
+      let ws = widthsIn file shape in
       let T = total ws in
       let la : length (take T (fromCodes a)) ≡ T = length-take-le T (fromCodes a) (omega (arith, codes-length a)) in
       let lb : length (take T (fromCodes b)) ≡ T = length-take-le T (fromCodes b) (omega (arith, codes-length b)) in
@@ -168,8 +212,8 @@ module _ (file : List ℕ) (nv nm : ℕ) where
       ∙ ap (cut ws) (bits-out c (take T (fromCodes a)) (take T (fromCodes b)) n (la ∙ sym lb) ∙ ap (variablesFrom n) la)
 
   -- so the result may be named by the first of them
-  pub muxes-first : (c : Literal) (a b : List ℕ) {n : ℕ} {xs ys : List ℤ} {cur : ℕ} {out : Slots} {c′ v′ : ℕ} → total (widthsOf file nv nm) ≤ 544 → length a ≡ 544 → length b ≡ 544
-      → Emits n (muxes! c (slotsOf file nv nm a) (slotsOf file nv nm b) n) xs ys cur out c′ v′ → Emits n (muxes! c (slotsOf file nv nm a) (slotsOf file nv nm b) n) xs ys cur (resultFrom file nv nm n) c′ v′
+  pub muxes-first : (c : Literal) (a b : List ℕ) {n : ℕ} {xs ys : List ℤ} {cur : ℕ} {out : Slots} {c′ v′ : ℕ} → total (widthsIn file shape) ≤ maxBits → length a ≡ maxBits → length b ≡ maxBits
+      → Emits n (muxes! c (slotsOf file shape a) (slotsOf file shape b) n) xs ys cur out c′ v′ → Emits n (muxes! c (slotsOf file shape a) (slotsOf file shape b) n) xs ys cur (resultFrom file shape n) c′ v′
   muxes-first c a b {n = n} t p q w = record {
     emits = λ r.
         let k = w .emits r in
@@ -184,14 +228,14 @@ take-bits zero k n = none (constantBits (0 + k) n)
     none (x ∷ l) = refl
 take-bits (suc w) k n = ap (λ (j : ℕ). take (suc w) (constantBits j n)) (let q : suc w + k ≡ suc (w + k) = omega arith in q) ∙ ap (λ (r : Bits). literalOf (truth (n % 2)) ∷ r) (take-bits w k (n / 2))
 
-module _ (file : List ℕ) (nv nm : ℕ) (codes : List ℕ) (few : total (widthsOf file nv nm) ≤ 544) (size : length codes ≡ 544) where
+module _ (file : List ℕ) (shape : Shape) (codes : List ℕ) (few : total (widthsIn file shape) ≤ maxBits) (size : length codes ≡ maxBits) where
   -- the target stored into the state
-  pub target-set : (m m′ o t t′ : ℕ) (x s : List ℕ) → m′ ≡ m → t′ ≡ t → m < nm → o ≡ total (widthsFrom file 0 nv) + 4 * m′ → fromCodes x ≡ constantBits 16 t′ → length x ≡ 16 → s ≡ over o (take 4 x) codes
-      → slotsOf file nv nm s ≡ set (slotsOf file nv nm codes) (nv + m) (constantBits statusWidth t)
+  pub target-set : (m m′ o t t′ : ℕ) (x s : List ℕ) → m′ ≡ m → t′ ≡ t → m < shape .matrices → o ≡ total (widthsFrom file 0 (shape .variables)) + 4 * m′ → fromCodes x ≡ constantBits 16 t′ → length x ≡ 16 → s ≡ over o (take 4 x) codes
+      → slotsOf file shape s ≡ set (slotsOf file shape codes) (shape .variables + m) (constantBits statusWidth t)
   target-set m m′ o t t′ x s em et l e k lx w =
-      ap (slotsOf file nv nm) w
-      ∙ status-over file nv nm m o (take 4 x) codes l (e ∙ ap (λ (j : ℕ). total (widthsFrom file 0 nv) + 4 * j) em) (length-take-le 4 x (omega arith)) (omega arith)
-      ∙ ap (set (slotsOf file nv nm codes) (nv + m)) (codes-take 4 x ∙ ap (take 4) k ∙ take-bits 4 12 t′ ∙ ap (constantBits 4) et)
+      ap (slotsOf file shape) w
+      ∙ status-over file shape m o (take 4 x) codes l (e ∙ ap (λ (j : ℕ). total (widthsFrom file 0 (shape .variables)) + 4 * j) em) (length-take-le 4 x (omega arith)) (omega arith)
+      ∙ ap (set (slotsOf file shape codes) (shape .variables + m)) (codes-take 4 x ∙ ap (take 4) k ∙ take-bits 4 12 t′ ∙ ap (constantBits 4) et)
 
 -- a mover, from its parts
 pub cell-emits : (l : Layout) (s : Slots) (c : Cell) {e : Literal} {r r′ out : Slots} {n : ℕ} {x0 x1 x2 x3 : List ℤ} {c0 c1 c2 c3 v1 v2 v3 : ℕ}
@@ -211,9 +255,9 @@ external-emits l s v e r {n = n} {x0 = x0} {c0 = c0} p q w =
     (emits-same _ _ (ap₂ (λ (a : Literal) (b : Slots). muxes! a b s n) p q) w))
 
 -- what a cell's bytes name is what its tree has
-module _ (file table : List ℕ) (nv nm : ℕ) (h : Ready file table nv nm) (p : ℕ) (x : NormalCell file p) (l : Layout) (s : Slots) (n : ℕ) where
+module _ {file : List ℕ} {shape : Shape} (h : ShapedFile file shape) (p : ℕ) (x : NormalCell file p) (l : Layout) (s : Slots) (n : ℕ) where
   pub cell-event : statusAndEvent! l s (c-matrix file p) (c-status file p) (eventIn (x .parts .rows) (c-matrix file p) (c-event file p)) n ≡ statusAndEvent! l s (x .cell .matrix) (x .cell .status) (x .cell .event) n
   cell-event =
-      let i = is file table nv nm h p x in
+      let i = is h p x in
       ap₂ (λ (a b : ℕ). statusAndEvent! l s a b (eventIn (x .parts .rows) (c-matrix file p) (c-event file p)) n) (sym (i .matrix)) (sym (i .status))
       ∙ ap (λ (e : BoolExpr). statusAndEvent! l s (x .cell .matrix) (x .cell .status) e n) (sym (i .event))

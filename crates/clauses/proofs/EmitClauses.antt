@@ -8,6 +8,7 @@ use native.Mathlib.Numerals.{add-one}
 use lib.ListN.{length, take, set, length-set}
 use lib.Seq.{take-suc-set}
 use lib.IntN.{ℤ, pos}
+use Rattle.design.specs.Limits.{maxBits}
 use Rattle.design.specs.Tree.{truth}
 use Rattle.clauses.specs.Literal.{Literal, positive, negate, Clause}
 use Rattle.clauses.specs.Words.{wordOf, clauseWords, words}
@@ -57,17 +58,17 @@ along-less l h a = let q = a .here h in omega arith
 -- the literals of variables
 pub record Listing (v n : ℕ) (out : List ℕ) (x i : ℕ) : Type 0 where
   pub along : Along v n x i
-  pub size : length out ≡ 544
+  pub size : length out ≡ maxBits
   pub same : v + n ≤ variableLimit → fromCodes (take i out) ++ variablesFrom x (n - i) ≡ variablesFrom v n
 
-pub listing-start : (v n : ℕ) (out : List ℕ) → length out ≡ 544 → Listing v n out v 0
+pub listing-start : (v n : ℕ) (out : List ℕ) → length out ≡ maxBits → Listing v n out v 0
 listing-start v n out e = record { along = along-start v n; size = e; same = λ h. ap₂ (λ (l : List ℕ) (k : ℕ). fromCodes l ++ variablesFrom v k) (none out) (let q : n - 0 ≡ n = omega arith in q) }
   where
     none : (l : List ℕ) → take 0 l ≡ []
     none [] = refl
     none (x ∷ l) = refl
 
-pub listing-on : {v n : ℕ} (out : List ℕ) {x i : ℕ} (c y : ℕ) → n ≤ 544 → i < n → Listing v n out x i → (x < variableLimit → fromCode c ≡ positive x) → (x < variableLimit → y ≡ x + 1) → Listing v n (set out i c) y (i + 1)
+pub listing-on : {v n : ℕ} (out : List ℕ) {x i : ℕ} (c y : ℕ) → n ≤ maxBits → i < n → Listing v n out x i → (x < variableLimit → fromCode c ≡ positive x) → (x < variableLimit → y ≡ x + 1) → Listing v n (set out i c) y (i + 1)
 listing-on {v} {n} out {x} {i} c y few l k ec ey = record {
   along = along-on y l (k .along) ey;
   size = length-set out i c ∙ k .size;

@@ -9,6 +9,8 @@ use native.Mathlib.Numerals.{add-one}
 use lib.ListN.{length, getD, take}
 use lib.IntN.{ℤ}
 use borrow.Author.Tests.{le-leb, lt-leb, le-ltb, lt-ltb}
+use Rattle.step.specs.Property.{Property, propertyOf}
+use Rattle.design.proofs.Widths.{bits-are as bits-by-bytes}
 use Rattle.design.specs.Tree.{Design, movers}
 use Rattle.design.specs.Check.{Checked, check, variableCount, matrixCount}
 use Rattle.design.specs.Places.{Accepted, EventsIndexed, CellsIndexed}
@@ -17,35 +19,38 @@ use Rattle.design.proofs.WellFormed.{well-formed}
 use Rattle.design.specs.Sections.{Parts}
 use Rattle.design.proofs.Sections.{whole}
 use Rattle.design.proofs.Places.{read}
-use Rattle.step.specs.Ready.{externalsFrom}
+use Rattle.design.specs.Limits.{maxMovers, maxBits}
+use Rattle.design.specs.declared.shape.Shape.{Shape}
+use Rattle.design.proofs.Externals.{mover-count}
 use Rattle.clauses.specs.Literal.{Literal, Clause}
 use Rattle.clauses.specs.Words.{clauseWords, words}
 use Rattle.clauses.specs.Expression.{Slots}
 use Rattle.clauses.specs.Action.{movers! }
 use Rattle.clauses.specs.Formula.{variablesFrom, flat, pairs, allTies, S, w, P, G, F, n, property!, stateAt, frame, firstPart, propertyClauses, stepClauses, framePart, lastClause, part, partsFrom, formula}
-use Rattle.clauses.specs.Writing.{fromCodes, Puts, Emits}
+use Rattle.clauses.specs.Writing.{variableLimit, fromCodes, Puts, Emits}
 use Rattle.clauses.specs.FlatState.{slotsOf, layoutOf}
 use Rattle.clauses.specs.FrameSizes.{frameSizes, SmallFrame, frameLength}
-use Rattle.clauses.specs.Ready.{Ready, FrameReady, resultFrom}
+use Rattle.clauses.specs.Ready.{FrameReady, resultFrom}
+use Rattle.step.specs.Limits.{maxBound}
 use Rattle.clauses.specs.declared.frame.FrameSizes.{FrameSizes}
 use Rattle.clauses.proofs.Frames.{P-is, G-is}
 use Rattle.clauses.proofs.Within.{frame-suc, last-past}
 use Rattle.clauses.proofs.Limits.{small-of-file}
 use Rattle.clauses.proofs.FrameNumbers.{length-is}
 use Rattle.clauses.proofs.EmitWords.{append-nil, puts-same, words-append}
-use Rattle.clauses.proofs.EmitSteps.{layout-is, mover-total}
+use Rattle.clauses.proofs.EmitSteps.{layout-is}
 use Rattle.clauses.proofs.EmitClauses.{PutsLeft, puts-start, puts-on, puts-end}
 use Rattle.clauses.proofs.EmitFrames.{state-is, result-bits, firsts-within}
 use Rattle.clauses.proofs.EmitRoom.{puts-clauses, property-puts, step-puts}
 
 -- the numbers of a frame
-pub record Numbers (d : Design) (p : ℕ) (s : FrameSizes) : Type 0 where
+pub record Numbers (d : Design) (p : Property) (s : FrameSizes) : Type 0 where
   pub bits : s .bits ≡ S d
   pub movers : s .movers ≡ w d
   pub property : s .property .ands + s .property .wides ≡ P d p
   pub length : frameLength s ≡ S d + P d p + w d + G d p
 
-pub numbers : (d : Design) (p : ℕ) (s : FrameSizes) → WellFormed d → s ≡ frameSizes d p → Numbers d p s
+pub numbers : (d : Design) (p : Property) (s : FrameSizes) → WellFormed d → s ≡ frameSizes d p → Numbers d p s
 unfolding frameSizes
 numbers d p s wf e = subst (Numbers d p) (sym e) (record {
   bits = refl;
@@ -54,7 +59,7 @@ numbers d p s wf e = subst (Numbers d p) (sym e) (record {
   length = omega (arith, P-is d p, G-is d wf p);
 })
 
-pub frame-starts : (d : Design) (p : ℕ) (s : FrameSizes) → WellFormed d → s ≡ frameSizes d p → (j : ℕ) → 2 + j * frameLength s ≡ frame d p j
+pub frame-starts : (d : Design) (p : Property) (s : FrameSizes) → WellFormed d → s ≡ frameSizes d p → (j : ℕ) → 2 + j * frameLength s ≡ frame d p j
 unfolding frame F
 frame-starts d p s wf e j = ap (λ (k : ℕ). 2 + j * k) (numbers d p s wf e .length)
 
@@ -66,65 +71,70 @@ start-is s h j l t few e q =
     let m : j * frameLength s ≤ 100 * 14144608 = mul-le-mul few f in
     (z, omega arith)
 
-module _ (file events cells : List ℕ) (count nv nm : ℕ) (s : FrameSizes) (h : FrameReady file events cells count nv nm s) where
+module _ {file events cells : List ℕ} {shape : Shape} {s : FrameSizes} (h : FrameReady file events cells shape s) where
   -- the step out of the frame at v
   pub step-written : (v flags after var all bits : ℕ) (codes firsts : List ℕ) {x0 x1 x2 x3 x4 : List ℤ} {c0 c1 c2 c3 c4 u : ℕ}
-      → all ≡ s .movers → bits ≡ s .bits → flags ≡ v + (s .bits + s .property .ands + s .property .wides) → after ≡ v + frameLength s → var ≡ flags + all → length firsts ≡ 64
-      → (flags + all ≤ 2147483648 → Puts (clauseWords (variablesFrom flags all)) x0 x1 c0 c1)
-      → (flags + all ≤ 2147483648 → Puts (words (pairs (variablesFrom flags all))) x1 x2 c1 c2)
-      → ((d : Design) (w : Parts file d) → Emits var (movers! (layoutOf nv) (slotsOf file nv nm codes) (movers d) var) x2 x3 c2 (map (resultFrom file nv nm) (take all firsts)) c3 u)
-      → (flags + all ≤ 2147483648 → after + bits ≤ 2147483648 → ((k : ℕ) → k < all → getD firsts k 0 + bits ≤ 2147483648) → (R : ℕ → Slots) → ((v : ℕ) → flat (R v) ≡ variablesFrom v bits)
+      → all ≡ s .movers → bits ≡ s .bits → flags ≡ v + (s .bits + s .property .ands + s .property .wides) → after ≡ v + frameLength s → var ≡ flags + all → length firsts ≡ maxMovers
+      → (flags + all ≤ variableLimit → Puts (clauseWords (variablesFrom flags all)) x0 x1 c0 c1)
+      → (flags + all ≤ variableLimit → Puts (words (pairs (variablesFrom flags all))) x1 x2 c1 c2)
+      → ((d : Design) (w : Parts file d) → Emits var (movers! (layoutOf shape) (slotsOf file shape codes) (movers d) var) x2 x3 c2 (map (resultFrom file shape) (take (shape .normals + shape .externals) firsts)) c3 u)
+      → (flags + all ≤ variableLimit → after + bits ≤ variableLimit → ((k : ℕ) → k < all → getD firsts k 0 + bits ≤ variableLimit) → (R : ℕ → Slots) → ((v : ℕ) → flat (R v) ≡ variablesFrom v bits)
       → Puts (words (allTies (variablesFrom flags all) (map R (take all firsts)) (variablesFrom after bits))) x3 x4 c3 c4)
-      → (d : Design) (p j : ℕ) → check file ≡ Checked.accepted d → s ≡ frameSizes d p → j < 100 → v ≡ frame d p j → slotsOf file nv nm codes ≡ stateAt d v → Puts (words (stepClauses d p j)) x0 x4 c0 c4
+      → (d : Design) (p j : ℕ) → check file ≡ Checked.accepted d → s ≡ frameSizes d (propertyOf d p) → j < maxBound → v ≡ frame d (propertyOf d p) j → slotsOf file shape codes ≡ stateAt d v → Puts (words (stepClauses d (propertyOf d p) j)) x0 x4 c0 c4
   unfolding w
   step-written v flags after var all bits codes firsts {x0} {x1} {x2} {x3} {x4} {c0} {c1} {c2} {c3} {c4} {u} ea eb ef et ev long any prs gates ties d p j ok es low at state =
       let wf = well-formed file (h .bytes) d ok in
       let ps = whole file d ok .parts in
-      let N = numbers d p s wf es in
+      let N = numbers d (propertyOf d p) s wf es in
       let few = small-of-file file (h .bytes) d ok p (suc j) (omega arith) .variables in
       let q : all ≡ w d = ea ∙ N .movers in
       let r : bits ≡ S d = eb ∙ N .bits in
-      let fl : flags ≡ frame d p j + S d + P d p = omega (arith, N .bits, N .property) in
-      let ft : after ≡ frame d p (suc j) = omega (arith, N .length, frame-suc d p j) in
-      let fit : flags + all ≤ 2147483648 = omega (arith, last-past d p (suc j), frame-suc d p j) in
-      let fit′ : after + bits ≤ 2147483648 = omega (arith, last-past d p (suc j)) in
-      let R = resultFrom file nv nm in
+      let fl : flags ≡ frame d (propertyOf d p) j + S d + P d (propertyOf d p) = omega (arith, N .bits, N .property) in
+      let ft : after ≡ frame d (propertyOf d p) (suc j) = omega (arith, N .length, frame-suc d (propertyOf d p) j) in
+      let fit : flags + all ≤ variableLimit = omega (arith, last-past d (propertyOf d p) (suc j), frame-suc d (propertyOf d p) j) in
+      let fit′ : after + bits ≤ variableLimit = omega (arith, last-past d (propertyOf d p) (suc j)) in
+      let R = resultFrom file shape in
       let sl = state ∙ ap (stateAt d) at in
-      step-puts d p j flags after var (layoutOf nv) (slotsOf file nv nm codes) (map R (take all firsts)) wf few sl (layout-is file events nv nm (h .ready) d ps) fl ft (omega arith)
+      step-puts d (propertyOf d p) j flags after var (layoutOf shape) (slotsOf file shape codes) (map R (take all firsts)) wf few sl (layout-is (h .ready .shaped) d ps) fl ft (omega arith)
       (subst (λ (k : ℕ). Puts (clauseWords (variablesFrom flags k)) x0 x1 c0 c1) q (any fit))
       (subst (λ (k : ℕ). Puts (words (pairs (variablesFrom flags k))) x1 x2 c1 c2) q (prs fit))
-      (gates d ps)
+      (subst (λ (k : ℕ). Emits var (movers! (layoutOf shape) (slotsOf file shape codes) (movers d) var) x2 x3 c2 (map R (take k firsts)) c3 u) (sym (ea ∙ h .movers)) (gates d ps))
       (λ out room. subst (λ (k : ℕ). Puts (words (allTies (variablesFrom flags k) (map R (take all firsts)) (variablesFrom after (S d)))) x3 x4 c3 c4) q
       (subst (λ (k : ℕ). Puts (words (allTies (variablesFrom flags all) (map R (take all firsts)) (variablesFrom after k))) x3 x4 c3 c4) r
       (ties fit fit′
-      (λ k l. let z = firsts-within file events nv nm (h .ready) d ps wf v (slotsOf file nv nm codes) var all firsts state q (omega arith) out room k l in omega arith)
-      R (λ x. result-bits file events nv nm (h .ready) d ps x ∙ ap (variablesFrom x) (sym r)))))
+      (λ k l. let z = firsts-within (h .ready .shaped) d ps wf v (slotsOf file shape codes) var all firsts state q (omega arith) out room k l in omega arith)
+      R (λ x. result-bits (h .ready .shaped) d ps x ∙ ap (variablesFrom x) (sym r)))))
 
   -- the state's literals of frame j, and its property's gates
-  module _ (p j v bits : ℕ) (codes : List ℕ) (ev : v ≡ 2 + j * frameLength s) (eb : bits ≡ s .bits) (few : j ≤ 100) (long : length codes ≡ 544)
-      (vars : v + bits ≤ 2147483648 → take bits (fromCodes codes) ≡ variablesFrom v bits) (d : Design) (ok : check file ≡ Checked.accepted d) (es : s ≡ frameSizes d p) where
+  module _ (p j v bits : ℕ) (codes : List ℕ) (ev : v ≡ 2 + j * frameLength s) (eb : bits ≡ s .bits) (few : j ≤ maxBound) (long : length codes ≡ maxBits)
+      (vars : v + bits ≤ variableLimit → take bits (fromCodes codes) ≡ variablesFrom v bits) (d : Design) (ok : check file ≡ Checked.accepted d) (es : s ≡ frameSizes d (propertyOf d p)) where
     wf : WellFormed d
     wf = well-formed file (h .bytes) d ok
 
-    pub frame-at : v ≡ frame d p j
-    frame-at = ev ∙ frame-starts d p s wf es j
+    pub frame-at : v ≡ frame d (propertyOf d p) j
+    frame-at = ev ∙ frame-starts d (propertyOf d p) s wf es j
 
-    low : n d p j < 2 ^ 31
+    low : n d (propertyOf d p) j < 2 ^ 31
     low = small-of-file file (h .bytes) d ok p j few .variables
 
-    pub state-at : slotsOf file nv nm codes ≡ stateAt d v
+    pub state-at : slotsOf file shape codes ≡ stateAt d v
     state-at =
-        let r : bits ≡ S d = eb ∙ numbers d p s wf es .bits in
-        let t = vars (omega (arith, last-past d p j, low, frame-at)) in
-        state-is file events nv nm (h .ready) d (whole file d ok .parts) codes v long (subst (λ (k : ℕ). take k (fromCodes codes) ≡ variablesFrom v k) r t)
+        let r : bits ≡ S d = eb ∙ numbers d (propertyOf d p) s wf es .bits in
+        let t = vars (omega (arith, last-past d (propertyOf d p) j, low, frame-at)) in
+        state-is (h .ready .shaped) d (whole file d ok .parts) codes v long (subst (λ (k : ℕ). take k (fromCodes codes) ≡ variablesFrom v k) r t)
 
     pub property-written : {var : ℕ} {xs ys : List ℤ} {cur : ℕ} {out : Literal} {c u : ℕ} → var ≡ v + bits
-        → ((d : Design) (w : Parts file d) → Emits var (property! d p (slotsOf file nv nm codes) var) xs ys cur out c u) → Puts (words (propertyClauses d p j)) xs ys cur c
+        → ((d : Design) (w : Parts file d) → Emits var (property! d (propertyOf d p) (slotsOf file shape codes) var) xs ys cur out c u) → Puts (words (propertyClauses d (propertyOf d p) j)) xs ys cur c
     property-written {var} e gates =
-        property-puts d p j var (slotsOf file nv nm codes) low (state-at ∙ ap (stateAt d) frame-at) (omega (arith, numbers d p s wf es .bits, frame-at)) (gates d (whole file d ok .parts))
+        property-puts d (propertyOf d p) j var (slotsOf file shape codes) low (state-at ∙ ap (stateAt d) frame-at) (omega (arith, numbers d (propertyOf d p) s wf es .bits, frame-at)) (gates d (whole file d ok .parts))
+
+  pub step-state : (v bits : ℕ) (codes : List ℕ) → bits ≡ s .bits → length codes ≡ maxBits → (v + bits ≤ variableLimit → take bits (fromCodes codes) ≡ variablesFrom v bits)
+      → (d : Design) (p j : ℕ) → check file ≡ Checked.accepted d → s ≡ frameSizes d (propertyOf d p) → j < maxBound → v ≡ frame d (propertyOf d p) j → slotsOf file shape codes ≡ stateAt d v
+  step-state v bits codes eb long vars d p j ok es low at =
+      state-at p j v bits codes (at ∙ sym (frame-starts d (propertyOf d p) s (well-formed file (h .bytes) d ok) es j)) eb (omega arith) long vars d ok es
 
 -- a frame's part
-module _ (d : Design) (p k j : ℕ) {xs ys : List ℤ} {cur c : ℕ} (a : Puts (words (propertyClauses d p j)) xs ys cur c) where
+module _ (d : Design) (p : Property) (k j : ℕ) {xs ys : List ℤ} {cur c : ℕ} (a : Puts (words (propertyClauses d p j)) xs ys cur c) where
   pub frame-last : k ≤ j → Puts (words (framePart d p k j)) xs ys cur c
   unfolding framePart
   frame-last l = subst (λ (cs : List Clause). Puts (words cs) xs ys cur c) (sym (ap (λ (t : Bool). propertyClauses d p j ++ cond t (stepClauses d p j) []) (le-ltb j k l) ∙ append-nil (propertyClauses d p j))) a
@@ -134,7 +144,7 @@ module _ (d : Design) (p k j : ℕ) {xs ys : List ℤ} {cur c : ℕ} (a : Puts (
   frame-more l {zs} {c′} b = subst (λ (cs : List Clause). Puts (words cs) xs zs cur c′) (sym (ap (λ (t : Bool). propertyClauses d p j ++ cond t (stepClauses d p j) []) (lt-ltb j k l))) (puts-clauses (propertyClauses d p j) (stepClauses d p j) a b)
 
 -- a part by its number
-module _ (d : Design) (p k : ℕ) where
+module _ (d : Design) (p : Property) (k : ℕ) where
   first-is : (i : ℕ) → i ≡ 0 → firstPart d p ≡ part d p k i
   unfolding part
   first-is zero e = refl
@@ -152,60 +162,76 @@ module _ (d : Design) (p k : ℕ) where
   last-is zero l = absurd (omega arith)
   last-is (suc j) l = sym (ap (λ (t : Bool). cond t (framePart d p k j) (lastClause d p k ∷ [])) (lt-leb j k (let q : k < j = omega arith in q)))
 
-module _ (file events cells : List ℕ) (count nv nm : ℕ) (s : FrameSizes) (h : FrameReady file events cells count nv nm s) (p k i : ℕ)
-    {xs ys : List ℤ} {cur c : ℕ} (d : Design) (ok : check file ≡ Checked.accepted d) (es : s ≡ frameSizes d p) where
-  pub first-part : i ≡ 0 → ((d : Design) (w : Parts file d) (p : ℕ) → Puts (words (firstPart d p)) xs ys cur c) → Puts (words (part d p k i)) xs ys cur c
-  first-part e f = puts-same (ap words (first-is d p k i e)) (f d (whole file d ok .parts) p)
+module _ {file events cells : List ℕ} {shape : Shape} {s : FrameSizes} (h : FrameReady file events cells shape s) (p k i : ℕ)
+    {xs ys : List ℤ} {cur c : ℕ} (d : Design) (ok : check file ≡ Checked.accepted d) (es : s ≡ frameSizes d (propertyOf d p)) where
+  pub first-part : i ≡ 0 → ((d : Design) (w : Parts file d) (q : Property) → Puts (words (firstPart d q)) xs ys cur c) → Puts (words (part d (propertyOf d p) k i)) xs ys cur c
+  first-part e f = puts-same (ap words (first-is d (propertyOf d p) k i e)) (f d (whole file d ok .parts) (propertyOf d p))
 
-  pub frame-part : (i ≡ 0 → ⊥) → i ≤ k + 1 → ((d : Design) → check file ≡ Checked.accepted d → s ≡ frameSizes d p → Puts (words (framePart d p k (i - 1))) xs ys cur c) → Puts (words (part d p k i)) xs ys cur c
-  frame-part z l f = puts-same (ap words (frame-is d p k i z l)) (f d ok es)
+  pub frame-part : (i ≡ 0 → ⊥) → i ≤ k + 1 → ((d : Design) → check file ≡ Checked.accepted d → s ≡ frameSizes d (propertyOf d p) → Puts (words (framePart d (propertyOf d p) k (i - 1))) xs ys cur c) → Puts (words (part d (propertyOf d p) k i)) xs ys cur c
+  frame-part z l f = puts-same (ap words (frame-is d (propertyOf d p) k i z l)) (f d ok es)
 
-  pub last-part : (stride : ℕ) → stride ≡ frameLength s → k ≤ 100 → k + 1 < i
-      → ((d : Design) (w : Parts file d) → stride ≡ F d p → n d p k < 2147483648 → Puts (words (lastClause d p k ∷ [])) xs ys cur c) → Puts (words (part d p k i)) xs ys cur c
+  pub last-part : (stride : ℕ) → stride ≡ frameLength s → k ≤ maxBound → k + 1 < i
+      → ((d : Design) (w : Parts file d) → stride ≡ F d (propertyOf d p) → n d (propertyOf d p) k < variableLimit → Puts (words (lastClause d (propertyOf d p) k ∷ [])) xs ys cur c) → Puts (words (part d (propertyOf d p) k i)) xs ys cur c
   last-part stride e few l f =
-      let q : stride ≡ F d p = e ∙ ap frameLength es ∙ length-is d (well-formed file (h .bytes) d ok) p in
-      puts-same (ap words (last-is d p k i l)) (f d (whole file d ok .parts) q (omega (arith, small-of-file file (h .bytes) d ok p k few .variables)))
+      let q : stride ≡ F d (propertyOf d p) = e ∙ ap frameLength es ∙ length-is d (well-formed file (h .bytes) d ok) (propertyOf d p) in
+      puts-same (ap words (last-is d (propertyOf d p) k i l)) (f d (whole file d ok .parts) q (omega (arith, small-of-file file (h .bytes) d ok p k few .variables)))
 
 -- All parts, one after the other.
 module _ (file : List ℕ) (s : FrameSizes) (p k : ℕ) (xs₀ : List ℤ) where
   pub record PartsLeft (xs : List ℤ) (cur i : ℕ) : Type 0 where
     pub within : i ≤ k + 3
     pub long : length xs ≡ length xs₀
-    pub left : (d : Design) → check file ≡ Checked.accepted d → s ≡ frameSizes d p → PutsLeft (words (formula d p k)) xs₀ 0 (words (partsFrom d p k (k + 3 - i) i)) xs cur
+    pub left : (d : Design) → check file ≡ Checked.accepted d → s ≡ frameSizes d (propertyOf d p) → PutsLeft (words (formula d (propertyOf d p) k)) xs₀ 0 (words (partsFrom d (propertyOf d p) k (k + 3 - i) i)) xs cur
 
   pub parts-start : PartsLeft xs₀ 0 0
   unfolding formula
   parts-start = record {
     within = omega arith;
     long = refl;
-    left = λ d ok es. subst (λ (m : ℕ). PutsLeft (words (formula d p k)) xs₀ 0 (words (partsFrom d p k m 0)) xs₀ 0) (let q : k + 3 ≡ k + 3 - 0 = omega arith in q) (puts-start (words (formula d p k)) xs₀ 0);
+    left = λ d ok es. subst (λ (m : ℕ). PutsLeft (words (formula d (propertyOf d p) k)) xs₀ 0 (words (partsFrom d (propertyOf d p) k m 0)) xs₀ 0) (let q : k + 3 ≡ k + 3 - 0 = omega arith in q) (puts-start (words (formula d (propertyOf d p) k)) xs₀ 0);
   }
 
   pub parts-on : {xs ys : List ℤ} {cur i c : ℕ} → i < k + 3 → PartsLeft xs cur i → length ys ≡ length xs
-      → ((d : Design) → check file ≡ Checked.accepted d → s ≡ frameSizes d p → Puts (words (part d p k i)) xs ys cur c) → PartsLeft ys c (i + 1)
+      → ((d : Design) → check file ≡ Checked.accepted d → s ≡ frameSizes d (propertyOf d p) → Puts (words (part d (propertyOf d p) k i)) xs ys cur c) → PartsLeft ys c (i + 1)
   unfolding partsFrom
   parts-on {i = i} l g e f = record {
     within = omega arith;
     long = e ∙ g .long;
     left = λ d ok es.
         let m = k + 3 - (i + 1) in
-        let one : words (partsFrom d p k (k + 3 - i) i) ≡ words (part d p k i) ++ words (partsFrom d p k m (i + 1)) =
-        ap (λ (j : ℕ). words (partsFrom d p k j i)) (let q : k + 3 - i ≡ suc (k + 3 - (i + 1)) = omega arith in q)
-        ∙ words-append (part d p k i) (partsFrom d p k m (suc i)) ∙ ap (λ (j : ℕ). words (part d p k i) ++ words (partsFrom d p k m j)) (sym (add-one i)) in
-        puts-on (words (part d p k i)) (words (partsFrom d p k m (i + 1))) one (g .left d ok es) (f d ok es);
+        let one : words (partsFrom d (propertyOf d p) k (k + 3 - i) i) ≡ words (part d (propertyOf d p) k i) ++ words (partsFrom d (propertyOf d p) k m (i + 1)) =
+        ap (λ (j : ℕ). words (partsFrom d (propertyOf d p) k j i)) (let q : k + 3 - i ≡ suc (k + 3 - (i + 1)) = omega arith in q)
+        ∙ words-append (part d (propertyOf d p) k i) (partsFrom d (propertyOf d p) k m (suc i)) ∙ ap (λ (j : ℕ). words (part d (propertyOf d p) k i) ++ words (partsFrom d (propertyOf d p) k m j)) (sym (add-one i)) in
+        puts-on (words (part d (propertyOf d p) k i)) (words (partsFrom d (propertyOf d p) k m (i + 1))) one (g .left d ok es) (f d ok es);
   }
 
-  pub parts-end : {xs : List ℤ} {cur i : ℕ} → k + 3 ≤ i → PartsLeft xs cur i → (d : Design) → check file ≡ Checked.accepted d → s ≡ frameSizes d p → Puts (words (formula d p k)) xs₀ xs 0 cur
+  pub parts-end : {xs : List ℤ} {cur i : ℕ} → k + 3 ≤ i → PartsLeft xs cur i → (d : Design) → check file ≡ Checked.accepted d → s ≡ frameSizes d (propertyOf d p) → Puts (words (formula d (propertyOf d p) k)) xs₀ xs 0 cur
   unfolding partsFrom
-  parts-end {i = i} l g d ok es = puts-end (ap (λ (j : ℕ). words (partsFrom d p k j i)) (let q : k + 3 - i ≡ 0 = omega arith in q)) (g .left d ok es)
+  parts-end {i = i} l g d ok es = puts-end (ap (λ (j : ℕ). words (partsFrom d (propertyOf d p) k j i)) (let q : k + 3 - i ≡ 0 = omega arith in q)) (g .left d ok es)
 
 -- what the writer of parts is given, from the tables that were made
-pub frame-ready : (file events cells : List ℕ) (count nv nm p : ℕ) (s : FrameSizes) → Accepted file → ((i : ℕ) → getD file i 0 < 256) → EventsIndexed file events → nv ≡ variableCount file → nm ≡ matrixCount file
-    → CellsIndexed file cells count → SmallFrame s → ((d : Design) → check file ≡ Checked.accepted d → s ≡ frameSizes d p) → FrameReady file events cells count nv nm s
+pub frame-ready : {file events cells : List ℕ} {shape : Shape} (p count : ℕ) (s : FrameSizes) → Accepted file → ((i : ℕ) → getD file i 0 < 256) → EventsIndexed file events → CellsIndexed file cells count → SmallFrame s
+    → ((d : Design) → check file ≡ Checked.accepted d → s ≡ frameSizes d (propertyOf d p))
+    → shape ≡ record { variables = variableCount file; matrices = matrixCount file; normals = count; externals = s .movers - count; bits = s .bits } → FrameReady file events cells shape s
 unfolding w
-frame-ready file events cells count nv nm p s h bytes ei v m ci small sizes =
-    let r : Ready file events nv nm = record { accepted = h; events = ei; variables = v; matrices = m } in
+frame-ready {file} {events} {cells} {shape} p count s h bytes ei ci small sizes e =
     let t = read file h in
-    let wf = well-formed file bytes (t .tree) (t .is) in
-    let q = mover-total file events nv nm r cells count (count + length (externalsFrom file 0 nv)) ci refl (t .tree) (t .all .parts) in
-    record { ready = r; bytes = bytes; normals = ci; small = small; movers = numbers (t .tree) p s wf (sizes (t .tree) (t .is)) .movers ∙ q }
+    let d = t .tree in
+    let wf = well-formed file bytes d (t .is) in
+    let N = numbers d (propertyOf d p) s wf (sizes d (t .is)) in
+    let many = mover-count file d (t .all .parts) in
+    subst (λ (z : Shape). FrameReady file events cells z s) (sym e) (record {
+      ready = record { shaped = record { accepted = h; variables = refl; matrices = refl; externals = omega (arith, N .movers, many, ci .count); bits = N .bits ∙ sym (bits-by-bytes file d (t .all .parts) (variableCount file) (matrixCount file) refl refl) }; events = ei };
+      bytes = bytes;
+      normals = ci;
+      small = small;
+      movers = omega (arith, N .movers, many, ci .count);
+    })
+
+-- the normal cells are among the movers
+pub normals-few : {file cells : List ℕ} (p count : ℕ) (s : FrameSizes) → Accepted file → ((i : ℕ) → getD file i 0 < 256) → CellsIndexed file cells count → ((d : Design) → check file ≡ Checked.accepted d → s ≡ frameSizes d (propertyOf d p)) → count ≤ s .movers
+unfolding w
+normals-few {file} p count s h bytes ci sizes =
+    let t = read file h in
+    let N = numbers (t .tree) (propertyOf (t .tree) p) s (well-formed file bytes (t .tree) (t .is)) (sizes (t .tree) (t .is)) in
+    omega (arith, N .movers, mover-count file (t .tree) (t .all .parts), ci .count)

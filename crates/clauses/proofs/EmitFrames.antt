@@ -1,22 +1,21 @@
 -- The state's variables of a frame, as the file and as the design name them; the ties of all movers. Assumes nothing.
-use Prim.Native.Nat.{ℕ, zero, suc, _+_, _-_, _*_, _<_, _≤_}
+use Prim.Native.Nat.{ℕ, zero, suc, _+_, _-_, _<_, _≤_}
 use mathlib.Core.Path.{_≡_, refl, sym, ap, ap₂, subst, _∙_}
-use mathlib.Core.Bool.{cond}
 use mathlib.Core.List.{List, [], _∷_, _++_, map}
 use native.Mathlib.Omega.{arith}
-use lib.Dec.{eqb}
-use lib.ListN.{length, getD, take, drop, replicate}
+use lib.ListN.{length, getD, take, drop}
 use lib.Seq.{take-at, drop-at, getD-take, length-take-le}
 use lib.IntN.{ℤ}
-use Rattle.design.specs.Tree.{Variable, Design, Mover, movers}
-use Rattle.design.specs.State.{Layout, width, statusWidth, widths}
+use Rattle.design.specs.Tree.{Design, Mover, movers}
+use Rattle.design.specs.State.{Layout, widths}
 use Rattle.design.specs.WellFormed.{MoversOk, WellFormed}
 use Rattle.design.specs.DesignFile.{kind, at8, variableAt}
-use Rattle.design.specs.Check.{trailer}
+use Rattle.design.specs.Check.{trailer, variableCount, matrixCount}
 use Rattle.design.specs.Sections.{Run, Parts}
 use Rattle.design.proofs.Places.{read}
-use Rattle.step.proofs.Externals.{variable-is}
-use Rattle.step.proofs.Replays.{matrix-count}
+use Rattle.design.specs.Limits.{maxBits}
+use Rattle.design.specs.declared.shape.Shape.{Shape}
+use Rattle.design.proofs.Widths.{state-size, widths-are as widths-by-bytes, bits-are as bits-by-bytes}
 use Rattle.clauses.specs.Literal.{positive}
 use Rattle.clauses.specs.Words.{words}
 use Rattle.clauses.specs.Circuit.{Bits}
@@ -25,8 +24,8 @@ use Rattle.clauses.specs.Action.{movers! }
 use Rattle.clauses.specs.Formula.{total, variablesFrom, slotsFrom, flat, ties, allTies, S, stateAt}
 use Rattle.clauses.specs.Cost.{gatesIn, moverCost, moversCost}
 use Rattle.clauses.specs.Writing.{fromCodes, variableLimit, Puts}
-use Rattle.clauses.specs.FlatState.{widthsFrom, widthsOf, cut, slotsOf, layoutOf}
-use Rattle.clauses.specs.Ready.{Ready, resultFrom}
+use Rattle.clauses.specs.FlatState.{widthsFrom, widthsOf, widthsIn, cut, slotsOf, layoutOf}
+use Rattle.clauses.specs.Ready.{ShapedFile, resultFrom}
 use Rattle.clauses.proofs.Costs.{movers-costs, gates-counted}
 use Rattle.clauses.proofs.StateBits.{length-variables, variables-append, flat-slots}
 use Rattle.clauses.proofs.Frames.{state-wide}
@@ -34,24 +33,10 @@ use Rattle.clauses.proofs.Runs.{S-is}
 use Rattle.clauses.proofs.Results.{movers-out, resultFrom as firstMux}
 use Rattle.clauses.proofs.EmitWords.{words-append}
 use Rattle.clauses.proofs.EmitLists.{codes-length, drop-one, drop-none}
-use Rattle.clauses.proofs.EmitStates.{cut-take, state-size}
+use Rattle.clauses.proofs.EmitStates.{cut-take}
 use Rattle.clauses.proofs.EmitCells.{few-bits}
 use Rattle.clauses.proofs.EmitSteps.{layout-is}
 use Rattle.clauses.proofs.EmitClauses.{PutsLeft, puts-start, puts-on, puts-end, one-more, no-more, Along, along-start, along-on, along-less}
-
--- the widths that the kind bytes say are those of the tree
-pub kind-width : (k : ℕ) → k ≤ 2 → cond (eqb k 1) 16 1 ≡ width (kind k)
-kind-width zero h = refl
-kind-width (suc zero) h = refl
-kind-width (suc (suc zero)) h = refl
-kind-width (suc (suc (suc k))) h = absurd (omega arith)
-
-pub widths-run : (file : List ℕ) (end v at past : ℕ) (xs : List Variable) → at ≡ 3 * v → Run (variableAt file end) at xs past → widthsFrom file v (length xs) ≡ map (λ (x : Variable). width (x .kind)) xs
-unfolding widthsFrom
-widths-run file end v at past [] q r = refl
-widths-run file end v at past (x ∷ xs) q r =
-    let (k, s, n) = variable-is file end at (r .0) x (r .1) in
-    ap₂ (λ (a : ℕ) (l : List ℕ). a ∷ l) (ap (λ (j : ℕ). cond (eqb (getD file j 0) 1) 16 1) (sym q) ∙ kind-width (at8 file at) s ∙ ap width (sym k)) (widths-run file end (suc v) (r .0) past xs (omega arith) (r .2))
 
 -- consecutive variables, cut into slots
 pub cut-variables : (ws : List ℕ) (v : ℕ) → cut ws (variablesFrom v (total ws)) ≡ slotsFrom v ws
@@ -64,36 +49,32 @@ cut-variables (w ∷ ws) v =
     ∙ ap₂ (λ (x y : Bits). x ∷ cut ws y) (take-at a b w (length-variables v w)) (drop-at a b w (length-variables v w))
     ∙ ap (λ (r : Slots). a ∷ r) (cut-variables ws (v + w))
 
-module _ (file : List ℕ) (nv nm : ℕ) where
-  pub result-slots : (v : ℕ) → resultFrom file nv nm v ≡ slotsFrom v (widthsOf file nv nm)
+module _ (file : List ℕ) (shape : Shape) where
+  pub result-slots : (v : ℕ) → resultFrom file shape v ≡ slotsFrom v (widthsIn file shape)
   unfolding resultFrom
-  result-slots v = cut-variables (widthsOf file nv nm) v
+  result-slots v = cut-variables (widthsIn file shape) v
 
-  pub result-flat : (v : ℕ) → flat (resultFrom file nv nm v) ≡ variablesFrom v (total (widthsOf file nv nm))
-  result-flat v = ap flat (result-slots v) ∙ flat-slots v (widthsOf file nv nm)
+  pub result-flat : (v : ℕ) → flat (resultFrom file shape v) ≡ variablesFrom v (total (widthsIn file shape))
+  result-flat v = ap flat (result-slots v) ∙ flat-slots v (widthsIn file shape)
 
-module _ (file table : List ℕ) (nv nm : ℕ) (h : Ready file table nv nm) (d : Design) (w : Parts file d) where
-  pub widths-are : widthsOf file nv nm ≡ widths d
-  unfolding widthsOf widths
-  widths-are =
-      ap₂ (λ (a b : List ℕ). a ++ b) (ap (widthsFrom file 0) (h .variables ∙ sym (w .variable-count)) ∙ widths-run file (trailer file) 0 0 _ (d .variables) refl (w .variable-run))
-      (ap (λ (n : ℕ). replicate n statusWidth) (h .matrices ∙ sym (matrix-count file d w)))
+module _ {file : List ℕ} {shape : Shape} (h : ShapedFile file shape) (d : Design) (w : Parts file d) where
+  widths-are : widthsIn file shape ≡ widths d
+  widths-are = widths-by-bytes file d w (shape .variables) (shape .matrices) (h .variables) (h .matrices)
 
-  pub bits-are : total (widthsOf file nv nm) ≡ S d
-  unfolding S
-  bits-are = ap total widths-are
+  pub bits-are : total (widthsIn file shape) ≡ S d
+  bits-are = bits-by-bytes file d w (shape .variables) (shape .matrices) (h .variables) (h .matrices)
 
   -- a frame's state, from the literals of its variables
-  pub state-is : (codes : List ℕ) (v : ℕ) → length codes ≡ 544 → take (S d) (fromCodes codes) ≡ variablesFrom v (S d) → slotsOf file nv nm codes ≡ stateAt d v
+  pub state-is : (codes : List ℕ) (v : ℕ) → length codes ≡ maxBits → take (S d) (fromCodes codes) ≡ variablesFrom v (S d) → slotsOf file shape codes ≡ stateAt d v
   unfolding slotsOf stateAt
   state-is codes v l e =
-      let ws = widthsOf file nv nm in
-      cut-take ws (fromCodes codes) (omega (arith, few-bits file table nv nm h, codes-length codes))
+      let ws = widthsIn file shape in
+      cut-take ws (fromCodes codes) (omega (arith, few-bits h, codes-length codes))
       ∙ ap (cut ws) (ap (λ (k : ℕ). take k (fromCodes codes)) bits-are ∙ e ∙ ap (variablesFrom v) (sym bits-are))
       ∙ cut-variables ws v ∙ ap (slotsFrom v) widths-are
 
-  pub result-bits : (v : ℕ) → flat (resultFrom file nv nm v) ≡ variablesFrom v (S d)
-  result-bits v = result-flat file nv nm v ∙ ap (variablesFrom v) bits-are
+  pub result-bits : (v : ℕ) → flat (resultFrom file shape v) ≡ variablesFrom v (S d)
+  result-bits v = result-flat file shape v ∙ ap (variablesFrom v) bits-are
 
 -- The ties of all movers, a mover at a time. `R` names a result by its first variable.
 pub record Tied (f all b n : ℕ) (firsts : List ℕ) (xs₀ : List ℤ) (cur₀ : ℕ) (xs : List ℤ) (cur x i : ℕ) : Type 0 where
@@ -156,23 +137,23 @@ map-at R [] c h = absurd (omega arith)
 map-at R (x ∷ l) zero h = refl
 map-at R (x ∷ l) (suc c) h = map-at R l c (omega arith)
 
-module _ (file table : List ℕ) (nv nm : ℕ) (h : Ready file table nv nm) (d : Design) (w : Parts file d) (wf : WellFormed d) where
+module _ {file : List ℕ} {shape : Shape} (h : ShapedFile file shape) (d : Design) (w : Parts file d) (wf : WellFormed d) where
   some-bits : 0 < S d
-  some-bits = omega (arith, bits-are file table nv nm h d w, state-size file nv nm (total (widthsFrom file 0 nv)) refl, read file (h .accepted) .all .matrix, h .matrices)
+  some-bits = omega (arith, bits-are h d w, state-size file (shape .variables) (shape .matrices) (total (widthsFrom file 0 (shape .variables))) refl, read file (h .accepted) .all .matrix, h .matrices)
 
   pub firsts-within : (v : ℕ) (s : Slots) (n all : ℕ) (firsts : List ℕ) → s ≡ stateAt d v → all ≡ length (movers d) → all ≤ length firsts
-      → map (resultFrom file nv nm) (take all firsts) ≡ (movers! (layoutOf nv) s (movers d) n) .out → n + length ((movers! (layoutOf nv) s (movers d) n) .gates) ≤ variableLimit
+      → map (resultFrom file shape) (take all firsts) ≡ (movers! (layoutOf shape) s (movers d) n) .out → n + length ((movers! (layoutOf shape) s (movers d) n) .gates) ≤ variableLimit
       → (k : ℕ) → k < all → getD firsts k 0 + S d ≤ variableLimit
   firsts-within v s n all firsts es ea few out room k l =
       let ws = widths d in
-      let L = layout-is file table nv nm h d w in
+      let L = layout-is h d w in
       let wide : map length s ≡ ws = ap (map length) es ∙ state-wide d v in
-      let b = movers! (layoutOf nv) s (movers d) n in
+      let b = movers! (layoutOf shape) s (movers d) n in
       let c = subst (λ (y : Layout). MoversOk ws y (movers d)) L (wf .movers) in
-      let costs = movers-costs ws (layoutOf nv) s wide (movers d) n c in
-      let one : flat (getD (b .out) k []) ≡ variablesFrom (firstMux (total ws) (movers d) k n) (S d) = movers-out ws (layoutOf nv) s wide (movers d) k n (omega arith) c ∙ ap (variablesFrom (firstMux (total ws) (movers d) k n)) (S-is d) in
+      let costs = movers-costs ws (layoutOf shape) s wide (movers d) n c in
+      let one : flat (getD (b .out) k []) ≡ variablesFrom (firstMux (total ws) (movers d) k n) (S d) = movers-out ws (layoutOf shape) s wide (movers d) k n (omega arith) c ∙ ap (variablesFrom (firstMux (total ws) (movers d) k n)) (S-is d) in
       let two : flat (getD (b .out) k []) ≡ variablesFrom (getD firsts k 0) (S d) =
-      ap (λ (o : List Slots). flat (getD o k [])) (sym out) ∙ ap flat (map-at (resultFrom file nv nm) (take all firsts) k (omega (arith, length-take-le all firsts few)) ∙ ap (resultFrom file nv nm) (getD-take all firsts k 0 l))
-      ∙ result-bits file table nv nm h d w (getD firsts k 0) in
+      ap (λ (o : List Slots). flat (getD o k [])) (sym out) ∙ ap flat (map-at (resultFrom file shape) (take all firsts) k (omega (arith, length-take-le all firsts few)) ∙ ap (resultFrom file shape) (getD-take all firsts k 0 l))
+      ∙ result-bits h d w (getD firsts k 0) in
       let q = same-first (getD firsts k 0) (firstMux (total ws) (movers d) k n) (S d) some-bits (sym two ∙ one) in
       omega (arith, last-mux (total ws) (movers d) k n (omega arith), gates-counted (b .gates), costs .ands, costs .wides, S-is d)

@@ -18,17 +18,19 @@ use Rattle.design.specs.Sections.{Parts}
 use Rattle.design.proofs.Sections.{need-inv, item-same}
 use Rattle.design.proofs.Positions.{variable-stands}
 use Rattle.design.proofs.Places.{read}
-use Rattle.step.proofs.Cells.{variables-inside}
-use Rattle.step.proofs.Externals.{variable-is}
-use Rattle.step.proofs.Replays.{matrix-count}
+use Rattle.design.specs.Limits.{maxBits}
+use Rattle.design.specs.declared.shape.Shape.{Shape}
+use Rattle.design.proofs.Indexed.{variables-inside}
+use Rattle.step.specs.Property.{Property, propertyOf}
+use Rattle.design.proofs.Widths.{width-bound, variables-small, variable-is, kind-width, widths-run, matrix-count}
 use Rattle.clauses.specs.Literal.{Literal, negate, trueLiteral, Clause}
 use Rattle.clauses.specs.Words.{wordOf, clauseWords, words}
 use Rattle.clauses.specs.Circuit.{Bits}
 use Rattle.clauses.specs.Expression.{Slots}
 use Rattle.clauses.specs.Formula.{total, variablesFrom, slotsFrom, unitsOf, initialUnits, S, stateAt, property!, propertyAt, P, F, frame, n, firstPart, negatedFrom, lastClause}
-use Rattle.clauses.specs.Writing.{fromCode, fromCodes, gateWords, variableLimit, Puts, Emits}
-use Rattle.clauses.specs.FlatState.{widthsFrom, widthsOf, slotsOf}
-use Rattle.clauses.specs.Ready.{Ready}
+use Rattle.clauses.specs.Writing.{fromCode, fromCodes, gateWords, variableLimit, strideLimit, Puts, Emits}
+use Rattle.clauses.specs.FlatState.{widthsFrom, slotsOf}
+use Rattle.clauses.specs.Ready.{ShapedFile}
 use Rattle.clauses.proofs.Costs.{gates-counted, words-counted}
 use Rattle.clauses.proofs.StateBits.{variables-append}
 use Rattle.clauses.proofs.Frames.{property-costs-at, P-is}
@@ -37,10 +39,8 @@ use Rattle.clauses.proofs.Within.{past-le, last-past}
 use Rattle.clauses.proofs.EmitWords.{puts-then, puts-same, words-append, append-nil, code-yes}
 use Rattle.clauses.proofs.EmitLists.{drop-all, drop-none}
 use Rattle.clauses.proofs.EmitBuilds.{emits-same}
-use Rattle.clauses.proofs.EmitSlots.{wd-bound}
-use Rattle.clauses.proofs.EmitStates.{variables-small}
 use Rattle.clauses.proofs.EmitClauses.{PutsLeft, puts-start, puts-on, puts-end}
-use Rattle.clauses.proofs.EmitFrames.{kind-width, widths-run, bits-are, state-is}
+use Rattle.clauses.proofs.EmitFrames.{bits-are, state-is}
 
 abbrev widthsIn : List Variable → List ℕ
 widthsIn vs = map (λ (x : Variable). width (x .kind)) vs
@@ -81,7 +81,7 @@ module _ (file : List ℕ) (a : Accepted file) (nv : ℕ) (e : nv ≡ variableCo
       → {ys : List ℤ} {c : ℕ} → (x + n ≤ variableLimit → Puts (words (unitsOf (variablesFrom x n) value)) xs ys cur c) → Valuing file nv xs₀ cur₀ ys c y (v + 1)
   valuing-on {xs₀} {cur₀} {xs} {cur} {x} {v} l k n value y en ev ey {ys} {c} p = record {
     within = omega arith;
-    small = omega (arith, k .small, wd-bound file v n en);
+    small = omega (arith, k .small, width-bound file v n en);
     left = λ d w.
         let vs = d .variables in
         let none : Variable = record { kind = boolean; initial = 0 } in
@@ -98,7 +98,7 @@ module _ (file : List ℕ) (a : Accepted file) (nv : ℕ) (e : nv ≡ variableCo
         ∙ words-append (unitsOf (variablesFrom x (width (u .kind))) (u .initial)) (initialUnits (slotsFrom (x + width (u .kind)) (widthsIn rest)) (valuesIn rest))
         ∙ ap₂ (λ (i j : ℕ). words (unitsOf (variablesFrom x i) j) ++ unitsIn (x + i) rest) wide given in
         subst (λ (j : ℕ). PutsLeft (unitsIn 2 vs) xs₀ cur₀ (unitsIn j rest) ys c) (sym ey)
-        (puts-on one (unitsIn (x + n) rest) e1 (k .left d w) (p (omega (arith, k .small, wd-bound file v n en, values-inside v l .1))));
+        (puts-on one (unitsIn (x + n) rest) e1 (k .left d w) (p (omega (arith, k .small, width-bound file v n en, values-inside v l .1))));
   }
 
   pub valuing-end : {xs₀ : List ℤ} {cur₀ : ℕ} {xs : List ℤ} {cur x v : ℕ} → nv ≤ v → Valuing file nv xs₀ cur₀ xs cur x v → (d : Design) (w : Parts file d) → Puts (unitsIn 2 (d .variables)) xs₀ xs cur₀ cur
@@ -129,7 +129,7 @@ module _ (file : List ℕ) (h : Accepted file) (nv nm : ℕ) (e : nv ≡ variabl
   first-small = let b = variables-inside file h in let t = read file h .all in (omega (arith, variables-small file 0 nv, t .variables), omega (arith, t .matrices), omega (arith, t .variables), omega (arith, t .long))
 
   pub first-puts : {x0 x1 x2 x3 : List ℤ} {c0 c1 c2 c3 : ℕ} (y : ℕ) → y ≡ 2 + x → Puts (clauseWords (fromCode 2 ∷ [])) x0 x1 c0 c1 → ((d : Design) (w : Parts file d) → Puts (unitsIn 2 (d .variables)) x1 x2 c1 c2)
-      → (y + 4 * nm ≤ variableLimit → Puts (words (unitsOf (variablesFrom y (4 * nm)) 0)) x2 x3 c2 c3) → (d : Design) (w : Parts file d) (p : ℕ) → Puts (words (firstPart d p)) x0 x3 c0 c3
+      → (y + 4 * nm ≤ variableLimit → Puts (words (unitsOf (variablesFrom y (4 * nm)) 0)) x2 x3 c2 c3) → (d : Design) (w : Parts file d) (p : Property) → Puts (words (firstPart d p)) x0 x3 c0 c3
   unfolding firstPart stateAt start widths
   first-puts y ey p1 p2 p3 d w p =
       let vs = d .variables in
@@ -144,30 +144,30 @@ module _ (file : List ℕ) (h : Accepted file) (nv nm : ℕ) (e : nv ≡ variabl
       (puts-then one (puts-same (sym both) (puts-then (p2 d w) (p3 (omega (arith, first-small))))))
 
 -- the property's literal at a frame
-pub property-out : (file table : List ℕ) (nv nm : ℕ) (h : Ready file table nv nm) (codes : List ℕ) (p v n y r : ℕ) → length codes ≡ 544 → n ≡ total (widthsOf file nv nm) → (v + n ≤ variableLimit → take n (fromCodes codes) ≡ variablesFrom v n) → y ≡ v + n
-    → {xs ys : List ℤ} {c k : ℕ} → ((d : Design) (w : Parts file d) → Emits y (property! d p (slotsOf file nv nm codes) y) xs ys 0 (fromCode r) c k)
-    → (d : Design) (w : Parts file d) → v + n + P d p ≤ variableLimit → fromCode r ≡ (propertyAt d p v) .out
+pub property-out : {file : List ℕ} {shape : Shape} (h : ShapedFile file shape) (codes : List ℕ) (p v n y r : ℕ) → length codes ≡ maxBits → n ≡ shape .bits → (v + n ≤ variableLimit → take n (fromCodes codes) ≡ variablesFrom v n) → y ≡ v + n
+    → {xs ys : List ℤ} {c k : ℕ} → ((d : Design) (w : Parts file d) → Emits y (property! d (propertyOf d p) (slotsOf file shape codes) y) xs ys 0 (fromCode r) c k)
+    → (d : Design) (w : Parts file d) → v + n + P d (propertyOf d p) ≤ variableLimit → fromCode r ≡ (propertyAt d (propertyOf d p) v) .out
 unfolding propertyAt gateWords
-property-out file table nv nm h codes p v n y r size en taken ey f d w room =
-    let s : n ≡ S d = en ∙ bits-are file table nv nm h d w in
-    let state = state-is file table nv nm h d w codes v size (ap (λ (k : ℕ). take k (fromCodes codes)) (sym s) ∙ taken (omega arith) ∙ ap (variablesFrom v) s) in
-    let same : property! d p (slotsOf file nv nm codes) y ≡ property! d p (stateAt d v) (v + S d) = ap₂ (λ (a : Slots) (k : ℕ). property! d p a k) state (ey ∙ ap (λ (k : ℕ). v + k) s) in
-    let b = property! d p (stateAt d v) (v + S d) in
-    let costs = property-costs-at d p v in
+property-out {file} {shape} h codes p v n y r size en taken ey f d w room =
+    let s : n ≡ S d = en ∙ h .bits ∙ bits-are h d w in
+    let state = state-is h d w codes v size (ap (λ (k : ℕ). take k (fromCodes codes)) (sym s) ∙ taken (omega arith) ∙ ap (variablesFrom v) s) in
+    let same : property! d (propertyOf d p) (slotsOf file shape codes) y ≡ property! d (propertyOf d p) (stateAt d v) (v + S d) = ap₂ (λ (a : Slots) (k : ℕ). property! d (propertyOf d p) a k) state (ey ∙ ap (λ (k : ℕ). v + k) s) in
+    let b = property! d (propertyOf d p) (stateAt d v) (v + S d) in
+    let costs = property-costs-at d (propertyOf d p) v in
     let g = gates-counted (b .gates) in
     let ws = words-counted (b .gates) in
-    emits-same _ _ same (f d w) .emits (record { numbers = omega (arith, costs .ands, costs .wides, P-is d p); words = omega (arith, costs .ands, costs .wides, P-is d p) }) .result
+    emits-same _ _ same (f d w) .emits (record { numbers = omega (arith, costs .ands, costs .wides, P-is d (propertyOf d p)); words = omega (arith, costs .ands, costs .wides, P-is d (propertyOf d p)) }) .result
 
 -- the last clause, a frame at a time
-next-frame : (d : Design) (p stride x y j : ℕ) → stride ≡ F d p → x ≡ frame d p j → y ≡ x + stride → y ≡ frame d p (j + 1)
+next-frame : (d : Design) (p : Property) (stride x y j : ℕ) → stride ≡ F d p → x ≡ frame d p j → y ≡ x + stride → y ≡ frame d p (j + 1)
 unfolding frame
 next-frame d p stride x y j e at ey = ey ∙ ap₂ (λ (a b : ℕ). a + b) at e ∙ (let q : 2 + j * F d p + F d p ≡ 2 + suc j * F d p = omega arith in q) ∙ ap (λ (i : ℕ). 2 + i * F d p) (sym (add-one j))
 
 pub record Closing (file : List ℕ) (p stride bound : ℕ) (xs₀ : List ℤ) (cur₀ : ℕ) (xs : List ℤ) (cur x j : ℕ) : Type 0 where
   pub within : j ≤ bound + 1
-  pub small : x ≤ 2 + 16777216 * j
-  pub here : (d : Design) → stride ≡ F d p → x ≡ frame d p j
-  pub left : (d : Design) (w : Parts file d) → stride ≡ F d p → n d p bound < variableLimit → PutsLeft (clauseWords (lastClause d p bound)) xs₀ cur₀ (clauseWords (negatedFrom d p (bound + 1 - j) j)) xs cur
+  pub small : x ≤ 2 + strideLimit * j
+  pub here : (d : Design) → stride ≡ F d (propertyOf d p) → x ≡ frame d (propertyOf d p) j
+  pub left : (d : Design) (w : Parts file d) → stride ≡ F d (propertyOf d p) → n d (propertyOf d p) bound < variableLimit → PutsLeft (clauseWords (lastClause d (propertyOf d p) bound)) xs₀ cur₀ (clauseWords (negatedFrom d (propertyOf d p) (bound + 1 - j) j)) xs cur
 
 module _ (file : List ℕ) (p stride bound : ℕ) (xs₀ : List ℤ) (cur₀ : ℕ) where
   pub closing-start : Closing file p stride bound xs₀ cur₀ xs₀ cur₀ 2 0
@@ -176,33 +176,33 @@ module _ (file : List ℕ) (p stride bound : ℕ) (xs₀ : List ℤ) (cur₀ : �
     within = omega arith;
     small = omega arith;
     here = λ d e. omega arith;
-    left = λ d w e k. subst (λ (m : ℕ). PutsLeft (clauseWords (negatedFrom d p (suc bound) 0)) xs₀ cur₀ (clauseWords (negatedFrom d p m 0)) xs₀ cur₀) (let q : suc bound ≡ bound + 1 - 0 = omega arith in q) (puts-start _ xs₀ cur₀);
+    left = λ d w e k. subst (λ (m : ℕ). PutsLeft (clauseWords (negatedFrom d (propertyOf d p) (suc bound) 0)) xs₀ cur₀ (clauseWords (negatedFrom d (propertyOf d p) m 0)) xs₀ cur₀) (let q : suc bound ≡ bound + 1 - 0 = omega arith in q) (puts-start _ xs₀ cur₀);
   }
 
-  pub closing-on : {xs : List ℤ} {cur x j : ℕ} → j ≤ bound → stride ≤ 16777216 → Closing file p stride bound xs₀ cur₀ xs cur x j → (n y : ℕ) (l m : Literal) → ((d : Design) (w : Parts file d) → n ≡ S d) → y ≡ x + stride
-      → ((d : Design) (w : Parts file d) → x + n + P d p ≤ variableLimit → l ≡ (propertyAt d p x) .out) → m ≡ negate l → {ys : List ℤ} {c : ℕ} → Puts (wordOf m ∷ []) xs ys cur c → Closing file p stride bound xs₀ cur₀ ys c y (j + 1)
+  pub closing-on : {xs : List ℤ} {cur x j : ℕ} → j ≤ bound → stride ≤ strideLimit → Closing file p stride bound xs₀ cur₀ xs cur x j → (n y : ℕ) (l m : Literal) → ((d : Design) (w : Parts file d) → n ≡ S d) → y ≡ x + stride
+      → ((d : Design) (w : Parts file d) → x + n + P d (propertyOf d p) ≤ variableLimit → l ≡ (propertyAt d (propertyOf d p) x) .out) → m ≡ negate l → {ys : List ℤ} {c : ℕ} → Puts (wordOf m ∷ []) xs ys cur c → Closing file p stride bound xs₀ cur₀ ys c y (j + 1)
   unfolding negatedFrom
   closing-on {xs} {cur} {x} {j} le few k bits y l m eb ey el em {ys} {c} puts = record {
     within = omega arith;
     small = omega (arith, k .small);
-    here = λ d e. next-frame d p stride x y j e (k .here d e) ey;
+    here = λ d e. next-frame d (propertyOf d p) stride x y j e (k .here d e) ey;
     left = λ d w e room.
         let at = k .here d e in
         let inside = inside-frame d room in
-        let lit : l ≡ (propertyAt d p (frame d p j)) .out = el d w (omega (arith, eb d w)) ∙ ap (λ (v : ℕ). (propertyAt d p v) .out) at in
-        let one : wordOf m ∷ [] ≡ wordOf (negate ((propertyAt d p (frame d p j)) .out)) ∷ [] = ap (λ (t : Literal). wordOf t ∷ []) (em ∙ ap negate lit) in
-        let rest = clauseWords (negatedFrom d p (bound - j) (suc j)) in
-        let e1 : clauseWords (negatedFrom d p (bound + 1 - j) j) ≡ (wordOf (negate ((propertyAt d p (frame d p j)) .out)) ∷ []) ++ rest = ap (λ (i : ℕ). clauseWords (negatedFrom d p i j)) (let q : bound + 1 - j ≡ suc (bound - j) = omega arith in q) in
-        subst (λ (t : List ℤ). PutsLeft (clauseWords (lastClause d p bound)) xs₀ cur₀ t ys c) (ap₂ (λ (i v : ℕ). clauseWords (negatedFrom d p i v)) (let q : bound - j ≡ bound + 1 - (j + 1) = omega arith in q) (sym (add-one j)))
-        (puts-on (wordOf (negate ((propertyAt d p (frame d p j)) .out)) ∷ []) rest e1 (k .left d w e room) (puts-same one puts));
+        let lit : l ≡ (propertyAt d (propertyOf d p) (frame d (propertyOf d p) j)) .out = el d w (omega (arith, eb d w)) ∙ ap (λ (v : ℕ). (propertyAt d (propertyOf d p) v) .out) at in
+        let one : wordOf m ∷ [] ≡ wordOf (negate ((propertyAt d (propertyOf d p) (frame d (propertyOf d p) j)) .out)) ∷ [] = ap (λ (t : Literal). wordOf t ∷ []) (em ∙ ap negate lit) in
+        let rest = clauseWords (negatedFrom d (propertyOf d p) (bound - j) (suc j)) in
+        let e1 : clauseWords (negatedFrom d (propertyOf d p) (bound + 1 - j) j) ≡ (wordOf (negate ((propertyAt d (propertyOf d p) (frame d (propertyOf d p) j)) .out)) ∷ []) ++ rest = ap (λ (i : ℕ). clauseWords (negatedFrom d (propertyOf d p) i j)) (let q : bound + 1 - j ≡ suc (bound - j) = omega arith in q) in
+        subst (λ (t : List ℤ). PutsLeft (clauseWords (lastClause d (propertyOf d p) bound)) xs₀ cur₀ t ys c) (ap₂ (λ (i v : ℕ). clauseWords (negatedFrom d (propertyOf d p) i v)) (let q : bound - j ≡ bound + 1 - (j + 1) = omega arith in q) (sym (add-one j)))
+        (puts-on (wordOf (negate ((propertyAt d (propertyOf d p) (frame d (propertyOf d p) j)) .out)) ∷ []) rest e1 (k .left d w e room) (puts-same one puts));
   }
     where
-      inside-frame : (d : Design) → n d p bound < variableLimit → frame d p j + S d + P d p ≤ variableLimit
-      inside-frame d room = let q : j + (bound - j) ≡ bound = omega arith in omega (arith, rw q at (past-le d p j (bound - j)), last-past d p bound)
+      inside-frame : (d : Design) → n d (propertyOf d p) bound < variableLimit → frame d (propertyOf d p) j + S d + P d (propertyOf d p) ≤ variableLimit
+      inside-frame d room = let q : j + (bound - j) ≡ bound = omega arith in omega (arith, rw q at (past-le d (propertyOf d p) j (bound - j)), last-past d (propertyOf d p) bound)
 
   pub closing-end : {xs : List ℤ} {cur x j : ℕ} → bound < j → Closing file p stride bound xs₀ cur₀ xs cur x j → {ys : List ℤ} {c : ℕ} → Puts (pos 0 ∷ []) xs ys cur c
-      → (d : Design) (w : Parts file d) → stride ≡ F d p → n d p bound < variableLimit → Puts (words (lastClause d p bound ∷ [])) xs₀ ys cur₀ c
+      → (d : Design) (w : Parts file d) → stride ≡ F d (propertyOf d p) → n d (propertyOf d p) bound < variableLimit → Puts (words (lastClause d (propertyOf d p) bound ∷ [])) xs₀ ys cur₀ c
   unfolding negatedFrom
   closing-end {j = j} l k puts d w e room =
       let q : bound + 1 - j ≡ 0 = omega (arith, k .within) in
-      puts-same (sym (append-nil (clauseWords (lastClause d p bound)))) (k .left d w e room .then _ _ (puts-same (sym (ap (λ (i : ℕ). clauseWords (negatedFrom d p i j)) q)) puts))
+      puts-same (sym (append-nil (clauseWords (lastClause d (propertyOf d p) bound)))) (k .left d w e room .then _ _ (puts-same (sym (ap (λ (i : ℕ). clauseWords (negatedFrom d (propertyOf d p) i j)) q)) puts))

@@ -6,6 +6,7 @@ use mathlib.Core.Logic.{_⊎_, inl, inr, ⊎-elim}
 use mathlib.Core.List.{List}
 use native.Mathlib.Omega.{arith}
 use native.Mathlib.Nat.{eq-or-lt-of-le}
+use native.Mathlib.Numerals.{sub-one}
 use lib.ListN.{getD}
 use lib.Dec.{ltb, leb, eqb}
 use borrow.Author.Tests.{ltb-true, ltb-false, leb-true, eqb-true, eqb-false, not-true, ne-eqb}
@@ -154,6 +155,26 @@ module _ (text : List ℕ) (names : Names) (end : ℕ) where
         none : (getD text at 0 ≡ 4 → ⊥) → (getD text at 0 ≡ 5 → ⊥) → intOp (getD text at 0) ≡ IntOp.op-unknown
         none h4 h5 = simp (ne-eqb _ _ h1, ne-eqb _ _ h2, ne-eqb _ _ h3, ne-eqb _ _ h4, ne-eqb _ _ h5)
 
+    -- below the operators there is only the status left
+    pub is-status : getD text at 0 < 4 → (getD text at 0 ≡ 1 → ⊥) → (getD text at 0 ≡ 2 → ⊥) → getD text at 0 ≡ 3
+    unfolding intOp
+    is-status l h1 h2 =
+        ⊎-elim (λ (q : getD text at 0 ≡ 0). absurd (bad-got (int-as IntOp.op-unknown (ap intOp q)))) (λ h0.
+        let g = above _ _ h2 (above _ _ h1 (above _ _ h0 (let z : 0 ≤ getD text at 0 = omega arith in z))) in
+        let q : getD text at 0 ≡ 3 = omega arith in
+        q) (test (getD text at 0) 0)
+
+  -- reading goes forward
+  pub int-ahead : (d at : ℕ) (e : IntExpr) (n : ℕ) → I d at ≡ got e n → at ≤ n
+  int-ahead zero at e n h = absurd (let q = int-live zero at e n h .0 in omega arith)
+  int-ahead (suc d) at e n h =
+      ⊎-elim (λ (q : getD text at 0 ≡ 1). omega (arith, read-constant (suc d) at e n h q .2)) (λ h1.
+      ⊎-elim (λ (q : getD text at 0 ≡ 2). omega (arith, read-variable (suc d) at e n h q .4)) (λ h2.
+      ⊎-elim (λ (q : getD text at 0 ≡ 3). omega (arith, read-status (suc d) at e n h q .3)) (λ h3.
+      let p : TwoRead (I d) (arithmeticOf (getD text at 0)) (at + 1) e n = subst (λ (k : ℕ). TwoRead (I k) (arithmeticOf (getD text at 0)) (at + 1) e n) (sub-one (suc d)) (read-arithmetic (suc d) at e n h h1 h2 h3) in
+      omega (arith, int-ahead d (at + 1) (p .first) (p .middle) (p .reads), int-ahead d (p .middle) (p .second) n (p .then)))
+      (test (getD text at 0) 3)) (test (getD text at 0) 2)) (test (getD text at 0) 1)
+
   module _ (d at : ℕ) (e : BoolExpr) (n : ℕ) (h : B d at ≡ got e n) where
     bool-as : (o : BoolOp) → boolOp (getD text at 0) ≡ o → boolOf text names end (I (d - 1)) (B (d - 1)) o (at + 1) ≡ got e n
     bool-as o q = let l = bool-live d at e n h in sym (bool-step text names end d at (λ z. omega arith) (omega arith) o q) ∙ h
@@ -190,6 +211,14 @@ module _ (text : List ℕ) (names : Names) (end : ℕ) where
 
     inside : (getD text at 0 < 0x10) ⊎ (0x17 ≤ getD text at 0) → ⊥
     inside s = bad-got (bool-as BoolOp.op-unknown (bool-none (getD text at 0) s))
+
+    -- below the operators there is only the Boolean left
+    pub is-flag : getD text at 0 < 0x12 → (getD text at 0 ≡ 0x10 → ⊥) → getD text at 0 ≡ 0x11
+    is-flag l h0 =
+        let lo : 0x10 ≤ getD text at 0 = ⊎-elim (λ k. absurd (inside (inl k))) (λ g. g) (below (getD text at 0) 0x10) in
+        let g = above _ _ h0 lo in
+        let q : getD text at 0 ≡ 0x11 = omega arith in
+        q
 
     pub read-logic : (getD text at 0 ≡ 0x10 → ⊥) → (getD text at 0 ≡ 0x11 → ⊥) → (getD text at 0 ≡ 0x12 → ⊥) → getD text at 0 < 0x15 → TwoRead (B (d - 1)) (logicOf (getD text at 0)) (at + 1) e n
     unfolding boolOp

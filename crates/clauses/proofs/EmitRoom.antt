@@ -8,6 +8,7 @@ use lib.IntN.{ℤ}
 use Rattle.design.specs.Tree.{Design, movers}
 use Rattle.design.specs.State.{Layout, layout}
 use Rattle.design.specs.WellFormed.{WellFormed}
+use Rattle.step.specs.Property.{Property}
 use Rattle.clauses.specs.Literal.{Literal, Clause}
 use Rattle.clauses.specs.Words.{clauseWords, words}
 use Rattle.clauses.specs.Gate.{gatesClauses}
@@ -42,7 +43,7 @@ words-lengths : (xs ys zs : List Clause) → length (words (xs ++ (ys ++ zs))) �
 words-lengths xs ys zs = words-length xs (ys ++ zs) ∙ ap (λ (k : ℕ). length (words xs) + k) (words-length ys zs)
 
 -- The variables of frame j are within the limit.
-module _ (d : Design) (p : ℕ) where
+module _ (d : Design) (p : Property) where
   property-gates : (v : ℕ) → length ((propertyAt d p v) .gates) ≡ P d p
   property-gates v = let c = property-costs-at d p v in omega (arith, gates-counted ((propertyAt d p v) .gates), c .ands, c .wides, P-is d p)
 

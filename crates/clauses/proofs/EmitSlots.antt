@@ -1,7 +1,7 @@
 -- The state's literals in a flat list: widths, offsets, slots. Assumes nothing.
 use Prim.Native.Nat.{ℕ, zero, suc, _+_, _-_, _*_, _/_, _%_, _<_, _≤_}
 use mathlib.Core.Path.{_≡_, refl, sym, ap, ap₂, _∙_}
-use mathlib.Core.Bool.{Bool, true, false, cond}
+use mathlib.Core.Bool.{Bool, cond}
 use mathlib.Core.List.{List, [], _∷_, _++_, append-assoc}
 use native.Mathlib.Omega.{arith}
 use native.Mathlib.Numerals.{add-one}
@@ -9,49 +9,16 @@ use lib.Dec.{eqb}
 use borrow.Author.Tests.{eq-eqb, ne-eqb}
 use lib.ListN.{length, getD, take, drop, set, replicate, length-append, length-set, length-replicate, length-drop, getD-replicate, List·getD-append}
 use lib.Seq.{take-suc, drop-drop, getD-drop, take-append-le, take-append-add, getD-append-add, length-take-le}
+use Rattle.design.proofs.Widths.{widthAt, total-append}
 use Rattle.design.specs.Tree.{truth}
+use Rattle.design.specs.declared.shape.Shape.{Shape}
 use Rattle.clauses.specs.Literal.{Literal, literalOf}
 use Rattle.clauses.specs.Expression.{pad, constantBits, lowest}
 use Rattle.clauses.specs.Formula.{total}
 use Rattle.clauses.specs.Writing.{fromCode, fromCodes}
-use Rattle.clauses.specs.FlatState.{widthsFrom, widthsOf, cut, slotsOf}
+use Rattle.clauses.specs.FlatState.{widthsFrom, widthsOf, widthsIn, cut, slotsOf}
 use Rattle.clauses.proofs.EmitWords.{code-no, code-yes, append-nil}
 use Rattle.clauses.proofs.EmitLists.{codes-take, codes-drop, codes-more, take-all, take-none, drop-none}
-
-abbrev wd : List ℕ → ℕ → ℕ
-wd file v = cond (eqb (getD file (3 * v) 0) 1) 16 1
-
-wd-small : (t : Bool) → cond t 16 1 ≤ 16
-wd-small true = omega arith
-wd-small false = omega arith
-
-total-more : (file : List ℕ) (u n : ℕ) → total (widthsFrom file u (suc n)) ≡ total (widthsFrom file u n) + wd file (u + n)
-unfolding widthsFrom
-total-more file u zero = let q : u ≡ u + 0 = omega arith in omega (arith, ap (wd file) q)
-total-more file u (suc n) = let q : suc u + n ≡ u + suc n = omega arith in omega (arith, total-more file (suc u) n, ap (wd file) q)
-
-pub record Adding (file : List ℕ) (v sum i : ℕ) : Type 0 where
-  pub within : i ≤ v
-  pub same : sum ≡ total (widthsFrom file 0 i)
-  pub small : sum ≤ 16 * i
-
-pub adding-start : (file : List ℕ) (v : ℕ) → Adding file v 0 0
-unfolding widthsFrom
-adding-start file v = record { within = omega arith; same = refl; small = omega arith }
-
-pub adding-on : (file : List ℕ) (v sum i w : ℕ) → i < v → w ≡ wd file i → Adding file v sum i → Adding file v (sum + w) (i + 1)
-adding-on file v sum i w h e l =
-    record {
-      within = omega arith;
-      same = ap₂ (λ (a b : ℕ). a + b) (l .same) e ∙ ap (λ (k : ℕ). total (widthsFrom file 0 i) + wd file k) (let q : i ≡ 0 + i = omega arith in q) ∙ sym (total-more file 0 i) ∙ ap (λ (k : ℕ). total (widthsFrom file 0 k)) (sym (add-one i));
-      small = omega (arith, l .small, e, wd-small (eqb (getD file (3 * i) 0) 1));
-    }
-
-pub wd-bound : (file : List ℕ) (i w : ℕ) → w ≡ wd file i → w ≤ 16
-wd-bound file i w e = omega (arith, wd-small (eqb (getD file (3 * i) 0) 1), e)
-
-pub adding-end : (file : List ℕ) (v sum i : ℕ) → v ≤ i → Adding file v sum i → sum ≡ total (widthsFrom file 0 v)
-adding-end file v sum i h l = l .same ∙ ap (λ (k : ℕ). total (widthsFrom file 0 k)) (let q : i ≡ v = omega (arith, l .within) in q)
 
 -- slots of a flat list
 cut-get : (ws : List ℕ) (v : ℕ) (xs : List Literal) → v < length ws → getD (cut ws xs) v [] ≡ take (getD ws v 0) (drop (total (take v ws)) xs)
@@ -70,22 +37,18 @@ unfolding widthsFrom
 from-length file u zero = refl
 from-length file u (suc n) = ap suc (from-length file (suc u) n)
 
-from-get : (file : List ℕ) (u n v : ℕ) → v < n → getD (widthsFrom file u n) v 0 ≡ wd file (u + v)
+from-get : (file : List ℕ) (u n v : ℕ) → v < n → getD (widthsFrom file u n) v 0 ≡ widthAt file (u + v)
 unfolding widthsFrom
 from-get file u zero v h = absurd (omega arith)
-from-get file u (suc n) zero h = ap (wd file) (let q : u ≡ u + 0 = omega arith in q)
-from-get file u (suc n) (suc v) h = from-get file (suc u) n v (omega arith) ∙ ap (wd file) (let q : suc u + v ≡ u + suc v = omega arith in q)
+from-get file u (suc n) zero h = ap (widthAt file) (let q : u ≡ u + 0 = omega arith in q)
+from-get file u (suc n) (suc v) h = from-get file (suc u) n v (omega arith) ∙ ap (widthAt file) (let q : suc u + v ≡ u + suc v = omega arith in q)
 
 from-take : (file : List ℕ) (u n v : ℕ) → v ≤ n → take v (widthsFrom file u n) ≡ widthsFrom file u v
 unfolding widthsFrom
 from-take file u zero zero h = refl
 from-take file u zero (suc v) h = absurd (omega arith)
 from-take file u (suc n) zero h = refl
-from-take file u (suc n) (suc v) h = ap (λ (r : List ℕ). wd file u ∷ r) (from-take file (suc u) n v (omega arith))
-
-total-append : (a b : List ℕ) → total (a ++ b) ≡ total a + total b
-total-append [] b = omega arith
-total-append (x ∷ a) b = omega (arith, total-append a b)
+from-take file u (suc n) (suc v) h = ap (λ (r : List ℕ). widthAt file u ∷ r) (from-take file (suc u) n v (omega arith))
 
 total-fours : (m n : ℕ) → m ≤ n → total (take m (replicate n 4)) ≡ 4 * m
 total-fours zero zero h = refl
@@ -98,9 +61,9 @@ module _ (file : List ℕ) (nv nm : ℕ) where
   unfolding widthsOf
   widths-length = length-append (widthsFrom file 0 nv) (replicate nm 4) ∙ omega (arith, from-length file 0 nv, length-replicate {A = ℕ} nm 4)
 
-  pub variable-width : (v : ℕ) → v < nv → getD (widthsOf file nv nm) v 0 ≡ wd file v
+  pub variable-width : (v : ℕ) → v < nv → getD (widthsOf file nv nm) v 0 ≡ widthAt file v
   unfolding widthsOf
-  variable-width v h = List·getD-append (widthsFrom file 0 nv) (replicate nm 4) 0 v (omega (arith, from-length file 0 nv)) ∙ from-get file 0 nv v h ∙ ap (wd file) (let q : 0 + v ≡ v = omega arith in q)
+  variable-width v h = List·getD-append (widthsFrom file 0 nv) (replicate nm 4) 0 v (omega (arith, from-length file 0 nv)) ∙ from-get file 0 nv v h ∙ ap (widthAt file) (let q : 0 + v ≡ v = omega arith in q)
 
   pub variable-start : (v : ℕ) → v < nv → total (take v (widthsOf file nv nm)) ≡ total (widthsFrom file 0 v)
   unfolding widthsOf
@@ -117,21 +80,27 @@ module _ (file : List ℕ) (nv nm : ℕ) where
       ∙ ap total (take-append-add (widthsFrom file 0 nv) (replicate nm 4) m)
       ∙ total-append (widthsFrom file 0 nv) (take m (replicate nm 4)) ∙ ap (λ (k : ℕ). total (widthsFrom file 0 nv) + k) (total-fours m nm (omega arith))
 
-  module _ (codes : List ℕ) where
-    -- the slot of a variable, or of a status, and that it lies within the state
-    pub variable-slot : (v o w : ℕ) → v < nv → o ≡ total (widthsFrom file 0 v) → w ≡ wd file v → getD (slotsOf file nv nm codes) v [] ≡ take w (drop o (fromCodes codes))
-    unfolding slotsOf
-    variable-slot v o w h e q = cut-get (widthsOf file nv nm) v (fromCodes codes) (omega (arith, widths-length)) ∙ ap₂ (λ (a b : ℕ). take a (drop b (fromCodes codes))) (variable-width v h ∙ sym q) (variable-start v h ∙ sym e)
-
-    pub status-slot : (m o : ℕ) → m < nm → o ≡ total (widthsFrom file 0 nv) + 4 * m → getD (slotsOf file nv nm codes) (nv + m) [] ≡ take 4 (drop o (fromCodes codes))
-    unfolding slotsOf
-    status-slot m o h e = cut-get (widthsOf file nv nm) (nv + m) (fromCodes codes) (omega (arith, widths-length)) ∙ ap₂ (λ (a b : ℕ). take a (drop b (fromCodes codes))) (status-width m h) (status-start m h ∙ sym e)
-
-  pub variable-room : (v o w : ℕ) → v < nv → o ≡ total (widthsFrom file 0 v) → w ≡ wd file v → o + w ≤ total (widthsOf file nv nm)
+  pub variable-room : (v o w : ℕ) → v < nv → o ≡ total (widthsFrom file 0 v) → w ≡ widthAt file v → o + w ≤ total (widthsOf file nv nm)
   variable-room v o w h e q = omega (arith, cut-room (widthsOf file nv nm) v (omega (arith, widths-length)), variable-width v h, variable-start v h)
 
   pub status-room : (m o : ℕ) → m < nm → o ≡ total (widthsFrom file 0 nv) + 4 * m → o + 4 ≤ total (widthsOf file nv nm)
   status-room m o h e = omega (arith, cut-room (widthsOf file nv nm) (nv + m) (omega (arith, widths-length)), status-width m h, status-start m h)
+
+module _ (file : List ℕ) (shape : Shape) (codes : List ℕ) where
+  abbrev nv : ℕ
+  nv = shape .variables
+
+  abbrev nm : ℕ
+  nm = shape .matrices
+
+  -- the slot of a variable, or of a status
+  pub variable-slot : (v o w : ℕ) → v < nv → o ≡ total (widthsFrom file 0 v) → w ≡ widthAt file v → getD (slotsOf file shape codes) v [] ≡ take w (drop o (fromCodes codes))
+  unfolding slotsOf
+  variable-slot v o w h e q = cut-get (widthsIn file shape) v (fromCodes codes) (omega (arith, widths-length file nv nm)) ∙ ap₂ (λ (a b : ℕ). take a (drop b (fromCodes codes))) (variable-width file nv nm v h ∙ sym q) (variable-start file nv nm v h ∙ sym e)
+
+  pub status-slot : (m o : ℕ) → m < nm → o ≡ total (widthsFrom file 0 nv) + 4 * m → getD (slotsOf file shape codes) (nv + m) [] ≡ take 4 (drop o (fromCodes codes))
+  unfolding slotsOf
+  status-slot m o h e = cut-get (widthsIn file shape) (nv + m) (fromCodes codes) (omega (arith, widths-length file nv nm)) ∙ ap₂ (λ (a b : ℕ). take a (drop b (fromCodes codes))) (status-width file nv nm m h) (status-start file nv nm m h ∙ sym e)
 
 pub integer-width : (file : List ℕ) (v : ℕ) → getD file (3 * v) 0 ≡ 1 → _≡_ {A = ℕ} 16 (cond (eqb (getD file (3 * v) 0) 1) 16 1)
 integer-width file v e = ap {B = ℕ} (λ (t : Bool). cond t 16 1) (sym (eq-eqb (getD file (3 * v) 0) 1 e))

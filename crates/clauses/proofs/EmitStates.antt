@@ -1,14 +1,15 @@
 -- The flat state: a slot set, and all bits muxed. Assumes nothing.
 use Prim.Native.Nat.{ℕ, zero, suc, _+_, _-_, _*_, _<_, _≤_}
 use mathlib.Core.Path.{_≡_, refl, sym, ap, ap₂, _∙_}
-use mathlib.Core.Bool.{Bool, true, false, cond}
+use mathlib.Core.Bool.{cond}
 use mathlib.Core.List.{List, [], _∷_, _++_, append-assoc}
 use native.Mathlib.Omega.{arith}
 use native.Mathlib.Numerals.{add-one}
 use lib.Dec.{eqb}
-use lib.ListN.{length, getD, take, drop, set, replicate, length-append, length-set, length-drop, take-append-drop}
+use lib.ListN.{length, getD, take, drop, set, length-append, length-set, length-drop, take-append-drop}
 use lib.Seq.{take-at, drop-at, drop-drop, take-add, length-take-le, set-split, take-suc, drop-cons, getD-set-other, getD-take}
 use lib.IntN.{ℤ}
+use Rattle.design.specs.declared.shape.Shape.{Shape}
 use Rattle.clauses.specs.Literal.{Literal, positive}
 use Rattle.clauses.specs.Gate.{Gate, mux}
 use Rattle.clauses.specs.Circuit.{Built, give, _>>=_, mux!, Bits}
@@ -16,7 +17,7 @@ use Rattle.clauses.specs.Expression.{Slots}
 use Rattle.clauses.specs.Action.{muxBits!, muxes! }
 use Rattle.clauses.specs.Formula.{total}
 use Rattle.clauses.specs.Writing.{fromCode, fromCodes, Emits}
-use Rattle.clauses.specs.FlatState.{widthsFrom, widthsOf, cut, slotsOf, over, Slotted}
+use Rattle.clauses.specs.FlatState.{widthsFrom, widthsOf, widthsIn, cut, slotsOf, over, Slotted}
 use Rattle.clauses.proofs.EmitWords.{append-nil}
 use Rattle.clauses.proofs.EmitLists.{codes-append, codes-length, codes-take, codes-drop, take-all, take-none}
 use Rattle.clauses.proofs.EmitBuilds.{emits-same, emits-result, emits-map}
@@ -159,96 +160,79 @@ codes-over o x codes =
     codes-append (take o codes) (x ++ drop (o + length x) codes)
     ∙ ap₂ (λ (a b : Bits). a ++ b) (codes-take o codes) (codes-append x (drop (o + length x) codes) ∙ ap (λ (t : Bits). fromCodes x ++ t) (codes-drop (o + length x) codes ∙ ap (λ (k : ℕ). drop (o + k) (fromCodes codes)) (sym (codes-length x))))
 
-module _ (file : List ℕ) (nv nm : ℕ) where
-  slot-over : (v o : ℕ) (x codes : List ℕ) → v < nv + nm → o ≡ total (take v (widthsOf file nv nm)) → length x ≡ getD (widthsOf file nv nm) v 0 → total (widthsOf file nv nm) ≤ length codes
-      → slotsOf file nv nm (over o x codes) ≡ set (slotsOf file nv nm codes) v (fromCodes x)
+module _ (file : List ℕ) (shape : Shape) where
+  abbrev nv : ℕ
+  nv = shape .variables
+
+  abbrev nm : ℕ
+  nm = shape .matrices
+
+  slot-over : (v o : ℕ) (x codes : List ℕ) → v < nv + nm → o ≡ total (take v (widthsIn file shape)) → length x ≡ getD (widthsIn file shape) v 0 → total (widthsIn file shape) ≤ length codes
+      → slotsOf file shape (over o x codes) ≡ set (slotsOf file shape codes) v (fromCodes x)
   unfolding slotsOf
   slot-over v o x codes h q l room =
-      let ws = widthsOf file nv nm in
+      let ws = widthsIn file shape in
       ap (cut ws) (codes-over o x codes ∙ ap (λ (k : ℕ). take k (fromCodes codes) ++ (fromCodes x ++ drop (k + length (fromCodes x)) (fromCodes codes))) q)
       ∙ cut-set ws v (fromCodes codes) (fromCodes x) (omega (arith, widths-length file nv nm)) (codes-length x ∙ l) (omega (arith, codes-length codes))
 
-  pub variable-over : (v o : ℕ) (x codes : List ℕ) → v < nv → o ≡ total (widthsFrom file 0 v) → length x ≡ cond (eqb (getD file (3 * v) 0) 1) 16 1 → total (widthsOf file nv nm) ≤ length codes
-      → slotsOf file nv nm (over o x codes) ≡ set (slotsOf file nv nm codes) v (fromCodes x)
+  pub variable-over : (v o : ℕ) (x codes : List ℕ) → v < nv → o ≡ total (widthsFrom file 0 v) → length x ≡ cond (eqb (getD file (3 * v) 0) 1) 16 1 → total (widthsIn file shape) ≤ length codes
+      → slotsOf file shape (over o x codes) ≡ set (slotsOf file shape codes) v (fromCodes x)
   variable-over v o x codes h e l room = slot-over v o x codes (omega arith) (e ∙ sym (variable-start file nv nm v h)) (l ∙ sym (variable-width file nv nm v h)) room
 
-  pub status-over : (m o : ℕ) (x codes : List ℕ) → m < nm → o ≡ total (widthsFrom file 0 nv) + 4 * m → length x ≡ 4 → total (widthsOf file nv nm) ≤ length codes
-      → slotsOf file nv nm (over o x codes) ≡ set (slotsOf file nv nm codes) (nv + m) (fromCodes x)
+  pub status-over : (m o : ℕ) (x codes : List ℕ) → m < nm → o ≡ total (widthsFrom file 0 nv) + 4 * m → length x ≡ 4 → total (widthsIn file shape) ≤ length codes
+      → slotsOf file shape (over o x codes) ≡ set (slotsOf file shape codes) (nv + m) (fromCodes x)
   status-over m o x codes h e l room = slot-over (nv + m) o x codes (omega arith) (e ∙ sym (status-start file nv nm m h)) (l ∙ sym (status-width file nv nm m h)) room
 
-  -- the muxes of all bits
-  abbrev T : ℕ
-  T = total (widthsOf file nv nm)
+-- the muxes of all bits, T in number
+pub record Muxing (T : ℕ) (c : Literal) (a b : List ℕ) (n₀ : ℕ) (xs₀ : List ℤ) (cur₀ : ℕ) (xs : List ℤ) (s : List ℕ) (cur n i : ℕ) : Type 0 where
+  pub row : Rowing (muxBits! c) T (take T a) (take T b) n₀ xs₀ cur₀ xs s cur n i
+  pub size : length s ≡ length a
+  pub rest : (j : ℕ) → i ≤ j → getD s j 0 ≡ getD a j 0
 
-  pub record Muxing (c : Literal) (a b : List ℕ) (n₀ : ℕ) (xs₀ : List ℤ) (cur₀ : ℕ) (xs : List ℤ) (s : List ℕ) (cur n i : ℕ) : Type 0 where
-    pub row : Rowing (muxBits! c) T (take T a) (take T b) n₀ xs₀ cur₀ xs s cur n i
-    pub size : length s ≡ length a
-    pub rest : (j : ℕ) → i ≤ j → getD s j 0 ≡ getD a j 0
+module _ (T : ℕ) (c : Literal) (a b : List ℕ) (p : T ≤ length a) (q : T ≤ length b) (n₀ : ℕ) (xs₀ : List ℤ) (cur₀ : ℕ) where
+  pub muxing-start : Muxing T c a b n₀ xs₀ cur₀ xs₀ a cur₀ n₀ 0
+  muxing-start = record { row = rowing-start (mux! c) (muxBits! c) (mux-row c) T (take T a) (take T b) (length-take-le T a p) (length-take-le T b q) n₀ xs₀ cur₀ a; size = refl; rest = λ j h. refl }
 
-  module _ (c : Literal) (a b : List ℕ) (p : T ≤ length a) (q : T ≤ length b) (n₀ : ℕ) (xs₀ : List ℤ) (cur₀ : ℕ) where
-    pub muxing-start : Muxing c a b n₀ xs₀ cur₀ xs₀ a cur₀ n₀ 0
-    muxing-start = record { row = rowing-start (mux! c) (muxBits! c) (mux-row c) T (take T a) (take T b) (length-take-le T a p) (length-take-le T b q) n₀ xs₀ cur₀ a; size = refl; rest = λ j h. refl }
+  pub muxing-on : {xs : List ℤ} (s : List ℕ) {cur n i : ℕ} → i < T → Muxing T c a b n₀ xs₀ cur₀ xs s cur n i
+      → {ys : List ℤ} (r : ℕ) {cur′ n′ : ℕ} → Emits n (mux! c (fromCode (getD s i 0)) (fromCode (getD b i 0)) n) xs ys cur (fromCode r) cur′ n′ → Muxing T c a b n₀ xs₀ cur₀ ys (set s i r) cur′ n′ (i + 1)
+  muxing-on s {i = i} h l r w =
+      record {
+        row = rowing-on (mux! c) (muxBits! c) (mux-row c) T (take T a) (take T b) (length-take-le T a p) (length-take-le T b q) n₀ xs₀ cur₀ s h (omega (arith, l .size)) (l .row) (fromCode (getD s i 0)) (fromCode (getD b i 0)) r (ap fromCode (l .rest i (omega arith) ∙ sym (getD-take T a i 0 h))) (ap fromCode (sym (getD-take T b i 0 h))) w;
+        size = length-set s i r ∙ l .size;
+        rest = λ j k. getD-set-other s i j r 0 (λ e. omega arith) ∙ l .rest j (omega arith);
+      }
 
-    pub muxing-on : {xs : List ℤ} (s : List ℕ) {cur n i : ℕ} → i < T → Muxing c a b n₀ xs₀ cur₀ xs s cur n i
-        → {ys : List ℤ} (r : ℕ) {cur′ n′ : ℕ} → Emits n (mux! c (fromCode (getD s i 0)) (fromCode (getD b i 0)) n) xs ys cur (fromCode r) cur′ n′ → Muxing c a b n₀ xs₀ cur₀ ys (set s i r) cur′ n′ (i + 1)
-    muxing-on s {i = i} h l r w =
-        record {
-          row = rowing-on (mux! c) (muxBits! c) (mux-row c) T (take T a) (take T b) (length-take-le T a p) (length-take-le T b q) n₀ xs₀ cur₀ s h (omega (arith, l .size)) (l .row) (fromCode (getD s i 0)) (fromCode (getD b i 0)) r (ap fromCode (l .rest i (omega arith) ∙ sym (getD-take T a i 0 h))) (ap fromCode (sym (getD-take T b i 0 h))) w;
-          size = length-set s i r ∙ l .size;
-          rest = λ j k. getD-set-other s i j r 0 (λ e. omega arith) ∙ l .rest j (omega arith);
-        }
+  pub muxing-end : {xs : List ℤ} (s : List ℕ) {cur n i : ℕ} → T ≤ i → Muxing T c a b n₀ xs₀ cur₀ xs s cur n i → (file : List ℕ) (shape : Shape) → T ≡ total (widthsIn file shape)
+      → Emits n₀ (muxes! c (slotsOf file shape a) (slotsOf file shape b) n₀) xs₀ xs cur₀ (slotsOf file shape s) cur n
+  unfolding slotsOf
+  muxing-end s {i = i} h l file shape z =
+      let ws = widthsIn file shape in
+      let w = rowing-end (mux! c) (muxBits! c) (mux-row c) T (take T a) (take T b) (length-take-le T a p) (length-take-le T b q) n₀ xs₀ cur₀ s h (l .row) in
+      let w2 = emits-same _ _ (ap₂ (λ (x y : Bits). muxBits! c x y n₀) (codes-take T a ∙ ap (λ (k : ℕ). take k (fromCodes a)) z) (codes-take T b ∙ ap (λ (k : ℕ). take k (fromCodes b)) z)) w in
+      let w3 = emits-map (muxBits! c (take (total ws) (fromCodes a)) (take (total ws) (fromCodes b))) (cut ws) w2 in
+      let w4 = emits-same _ _ (sym (muxes-flat c ws (fromCodes a) (fromCodes b) n₀ (omega (arith, codes-length a)) (omega (arith, codes-length b)))) w3 in
+      let e : cut ws (fromCodes s) ≡ cut ws (fromCodes (take T s)) = cut-take ws (fromCodes s) (omega (arith, codes-length s, l .size)) ∙ ap (cut ws) (ap (λ (k : ℕ). take k (fromCodes s)) (sym z) ∙ sym (codes-take T s)) in
+      emits-result _ (sym e) w4
 
-    pub muxing-end : {xs : List ℤ} (s : List ℕ) {cur n i : ℕ} → T ≤ i → Muxing c a b n₀ xs₀ cur₀ xs s cur n i → Emits n₀ (muxes! c (slotsOf file nv nm a) (slotsOf file nv nm b) n₀) xs₀ xs cur₀ (slotsOf file nv nm s) cur n
-    unfolding slotsOf
-    muxing-end s {i = i} h l =
-        let w = rowing-end (mux! c) (muxBits! c) (mux-row c) T (take T a) (take T b) (length-take-le T a p) (length-take-le T b q) n₀ xs₀ cur₀ s h (l .row) in
-        let w2 = emits-same _ _ (ap₂ (λ (x y : Bits). muxBits! c x y n₀) (codes-take T a) (codes-take T b)) w in
-        let w3 = emits-map (muxBits! c (take T (fromCodes a)) (take T (fromCodes b))) (cut (widthsOf file nv nm)) w2 in
-        let w4 = emits-same _ _ (sym (muxes-flat c (widthsOf file nv nm) (fromCodes a) (fromCodes b) n₀ (omega (arith, codes-length a)) (omega (arith, codes-length b)))) w3 in
-        let e : cut (widthsOf file nv nm) (fromCodes s) ≡ cut (widthsOf file nv nm) (fromCodes (take T s)) = cut-take (widthsOf file nv nm) (fromCodes s) (omega (arith, codes-length s, l .size)) ∙ ap (cut (widthsOf file nv nm)) (sym (codes-take T s)) in
-        emits-result _ (sym e) w4
-
--- how many bits the state has
-sum-append : (a b : List ℕ) → total (a ++ b) ≡ total a + total b
-sum-append [] b = omega arith
-sum-append (x ∷ a) b = omega (arith, sum-append a b)
-
-sum-fours : (n : ℕ) → total (replicate n 4) ≡ 4 * n
-sum-fours zero = refl
-sum-fours (suc n) = omega (arith, sum-fours n)
-
-pub state-size : (file : List ℕ) (nv nm o : ℕ) → o ≡ total (widthsFrom file 0 nv) → o + 4 * nm ≡ total (widthsOf file nv nm)
-unfolding widthsOf
-state-size file nv nm o e = omega (arith, sum-append (widthsFrom file 0 nv) (replicate nm 4), sum-fours nm)
-
-few : (t : Bool) → cond t 16 1 ≤ 16
-few true = omega arith
-few false = omega arith
-
-pub variables-small : (file : List ℕ) (v n : ℕ) → total (widthsFrom file v n) ≤ 16 * n
-unfolding widthsFrom
-variables-small file v zero = omega arith
-variables-small file v (suc n) = omega (arith, few (eqb (getD file (3 * v) 0) 1), variables-small file (suc v) n)
-
-pub slotted-again : {file : List ℕ} {nv nm : ℕ} {a b : List ℕ} → Slotted file nv nm a → length a ≡ length b → Slotted file nv nm b
-slotted-again s e = record { kinds = s .kinds; variables = s .variables; matrices = s .matrices; bits = omega (arith, s .bits) }
+pub slotted-again : {file : List ℕ} {shape : Shape} {a b : List ℕ} → Slotted file shape a → length a ≡ length b → Slotted file shape b
+slotted-again s e = record { kinds = s .kinds; variables = s .variables; matrices = s .matrices; sum = s .sum; few = s .few; bits = omega (arith, s .bits) }
 
 -- a variable's slot set; v′ is what the code read
-module _ (file : List ℕ) (nv nm v v′ o : ℕ) (codes : List ℕ) (e : v′ ≡ v) (h : v < nv) (q : o ≡ total (widthsFrom file 0 v′)) (room : total (widthsOf file nv nm) ≤ length codes) where
+module _ (file : List ℕ) (shape : Shape) (v v′ o : ℕ) (codes : List ℕ) (e : v′ ≡ v) (h : v < shape .variables) (q : o ≡ total (widthsFrom file 0 v′)) (room : total (widthsIn file shape) ≤ length codes) where
   start : o ≡ total (widthsFrom file 0 v)
   start = q ∙ ap (λ (k : ℕ). total (widthsFrom file 0 k)) e
 
   pub integer-room : getD file (3 * v) 0 ≡ 1 → o + 16 ≤ length codes
-  integer-room k = omega (arith, variable-room file nv nm v o 16 h start (integer-width file v k))
+  integer-room k = omega (arith, variable-room file (shape .variables) (shape .matrices) v o 16 h start (integer-width file v k))
 
   pub boolean-room : (getD file (3 * v) 0 ≡ 1 → ⊥) → o < length codes
-  boolean-room k = omega (arith, variable-room file nv nm v o 1 h start (boolean-width file v k))
+  boolean-room k = omega (arith, variable-room file (shape .variables) (shape .matrices) v o 1 h start (boolean-width file v k))
 
-  pub integer-set : (x s : List ℕ) → getD file (3 * v) 0 ≡ 1 → length x ≡ 16 → s ≡ over o (take 16 x) codes → slotsOf file nv nm s ≡ set (slotsOf file nv nm codes) v (fromCodes x)
+  pub integer-set : (x s : List ℕ) → getD file (3 * v) 0 ≡ 1 → length x ≡ 16 → s ≡ over o (take 16 x) codes → slotsOf file shape s ≡ set (slotsOf file shape codes) v (fromCodes x)
   integer-set x s k l w =
       let t : take 16 x ≡ x = take-all x 16 (omega arith) in
-      ap (slotsOf file nv nm) (w ∙ ap (λ (y : List ℕ). over o y codes) t) ∙ variable-over file nv nm v o x codes h start (l ∙ integer-width file v k) room
+      ap (slotsOf file shape) (w ∙ ap (λ (y : List ℕ). over o y codes) t) ∙ variable-over file shape v o x codes h start (l ∙ integer-width file v k) room
 
-  pub boolean-set : (x : ℕ) (s : List ℕ) → (getD file (3 * v) 0 ≡ 1 → ⊥) → s ≡ set codes o x → slotsOf file nv nm s ≡ set (slotsOf file nv nm codes) v (fromCode x ∷ [])
+  pub boolean-set : (x : ℕ) (s : List ℕ) → (getD file (3 * v) 0 ≡ 1 → ⊥) → s ≡ set codes o x → slotsOf file shape s ≡ set (slotsOf file shape codes) v (fromCode x ∷ [])
   boolean-set x s k w =
-      ap (slotsOf file nv nm) (w ∙ set-over o x codes (boolean-room k)) ∙ variable-over file nv nm v o (x ∷ []) codes h start (boolean-width file v k) room
+      ap (slotsOf file shape) (w ∙ set-over o x codes (boolean-room k)) ∙ variable-over file shape v o (x ∷ []) codes h start (boolean-width file v k) room

@@ -12,27 +12,34 @@ use lib.Dec.{eqb}
 use lib.IntN.{ℤ}
 use borrow.Author.Tests.{eqb-true, eq-eqb, ne-eqb}
 use Rattle.design.specs.Tree.{BoolExpr, constantB, done, Cell, InvalidCell, Design, Mover, cell, raise, movers}
-use Rattle.design.specs.Limits.{maxDepth}
+use Rattle.design.specs.Limits.{maxBytes, maxMovers, maxDepth}
 use Rattle.design.specs.State.{Layout, layout}
 use Rattle.design.specs.Reading.{got}
 use Rattle.design.specs.Expression.{boolExpr}
 use Rattle.design.specs.DesignFile.{Entry, normal, invalid, c-matrix, c-status, c-event, c-kind, c-past}
-use Rattle.design.specs.Check.{namesOf, trailer, variableCount, matricesOffset, cellsOffset, cellCount, invariantOffset, invalids, names, eventIn}
+use Rattle.design.specs.Check.{namesIn, namesOf, trailer, variableCount, matricesOffset, cellsOffset, cellCount, invariantOffset, invalids, names, eventIn}
 use Rattle.design.specs.Places.{pastCells, normalPlaces, CellsIndexed}
 use Rattle.design.specs.Sections.{Parts, EntryRead, Standing, CellFields}
+use Rattle.design.proofs.Widths.{layout-is as layout-by-counts}
 use Rattle.design.proofs.Positions.{invariant-stands}
 use Rattle.design.proofs.Places.{Read as Tree, read, cell-fields, cell-stands, normal-stands}
-use Rattle.step.specs.Ready.{NormalCell, externalsFrom}
-use Rattle.step.proofs.Externals.{mover-count, cell-mover, raise-mover}
+use Rattle.design.specs.declared.shape.Shape.{Shape}
+use Rattle.step.specs.Property.{propertyOf}
+use Rattle.design.specs.Sections.{NormalCell}
+use Rattle.design.specs.Places.{externalsFrom}
+use Rattle.design.proofs.Externals.{mover-count, cell-mover, raise-mover}
 use Rattle.clauses.specs.Literal.{Literal, negate, trueLiteral}
 use Rattle.clauses.specs.Circuit.{Build, give, _>>=_, and! }
 use Rattle.clauses.specs.Expression.{Slots, bool! }
 use Rattle.clauses.specs.Action.{statusAndEvent!, mover!, movers!, noInvalid! }
 use Rattle.clauses.specs.Formula.{property! }
-use Rattle.clauses.specs.Writing.{Emits}
+use Rattle.clauses.specs.Writing.{fromCode, Emits}
 use Rattle.clauses.specs.Piece.{link! }
 use Rattle.clauses.specs.FlatState.{slotsOf, layoutOf}
-use Rattle.clauses.specs.Ready.{Ready, resultFrom}
+use Rattle.clauses.specs.Ready.{ShapedFile, resultFrom}
+use Rattle.clauses.specs.Encoded.{Writes, BoolHere, BoolEncoded}
+use Rattle.clauses.specs.declared.gate.Cursor.{Cursor}
+use Rattle.clauses.specs.declared.expression.BoolOut.{BoolOut}
 use Rattle.clauses.proofs.EmitWords.{append-nil}
 use Rattle.clauses.proofs.EmitLists.{drop-all}
 use Rattle.clauses.proofs.EmitBuilds.{emits-same, emits-result, emits-give, emits-bind, Left, left-start, left-on, left-map, left-same, left-result, left-end}
@@ -53,7 +60,13 @@ external-kind file v (suc n) k h = kind-in file v (externalsFrom file (suc v) n)
 some-same : {A : Type 0} (a b : A) → some a ≡ some b → a ≡ b
 some-same a b e = cc
 
-module _ (file table cells : List ℕ) (nv nm count : ℕ) (h : Ready file table nv nm) (x : CellsIndexed file cells count) where
+module _ {file cells : List ℕ} {shape : Shape} (h : ShapedFile file shape) (x : CellsIndexed file cells (shape .normals)) where
+  abbrev nv : ℕ
+  nv = shape .variables
+
+  abbrev count : ℕ
+  count = shape .normals
+
   tree : Tree file
   tree = read file (h .accepted)
 
@@ -75,13 +88,13 @@ module _ (file table cells : List ℕ) (nv nm count : ℕ) (h : Ready file table
   pub cell-here : (i : ℕ) → i < count → NormalCell file (getD cells i 0)
   cell-here i l = named (tree .tree) (tree .all .parts) i l anything
 
-  pub place-small : (i : ℕ) → i < count → getD cells i 0 < 16384
+  pub place-small : (i : ℕ) → i < count → getD cells i 0 < maxBytes
   place-small i l =
       let c = cell-here i l in
       let f = cell-fields file (eventIn (c .parts .rows)) (getD cells i 0) (normal (c .cell)) (c .stands) in
-      omega (arith, f .header, sizes file table nv nm h)
+      omega (arith, f .header, sizes h)
 
-  pub few-cells : count ≤ 64
+  pub few-cells : count ≤ maxMovers
   few-cells =
       let m = mover-count file (tree .tree) (tree .all .parts) in
       omega (arith, m, tree .all .movers, x .count)
@@ -89,10 +102,10 @@ module _ (file table cells : List ℕ) (nv nm count : ℕ) (h : Ready file table
   externals-same : externalsFrom file 0 nv ≡ externalsFrom file 0 (variableCount file)
   externals-same = ap (externalsFrom file 0) (h .variables)
 
-  pub all-few : count + length (externalsFrom file 0 nv) ≤ 64
+  pub all-few : count + shape .externals ≤ maxMovers
   all-few =
       let m = mover-count file (tree .tree) (tree .all .parts) in
-      omega (arith, m, tree .all .movers, x .count, ap length externals-same)
+      omega (arith, m, tree .all .movers, x .count, h .externals, ap length externals-same)
 
   -- mover i
   module _ (l : Layout) (s : Slots) {n : ℕ} {xs ys : List ℤ} {cur : ℕ} {out : Slots} {c v : ℕ} (i : ℕ) where
@@ -101,14 +114,14 @@ module _ (file table cells : List ℕ) (nv nm count : ℕ) (h : Ready file table
         let q : cell (getD (d .cells) i anything) ≡ m = some-same _ _ (sym (cell-mover file d w i (omega (arith, x .count)) anything) ∙ e) in
         emits-same _ _ (ap (λ (y : Mover). mover! l s y n) q) (f (named d w i k anything))
 
-    pub external-is : count ≤ i → (j : ℕ) → j ≡ getD (externalsFrom file 0 nv) (i - count) 0 → i < count + length (externalsFrom file 0 nv) → Emits n (mover! l s (raise j) n) xs ys cur out c v → (d : Design) (w : Parts file d) (m : Mover) → getElem? (movers d) i ≡ some m → Emits n (mover! l s m n) xs ys cur out c v
+    pub external-is : count ≤ i → (j : ℕ) → j ≡ getD (externalsFrom file 0 nv) (i - count) 0 → i < count + shape .externals → Emits n (mover! l s (raise j) n) xs ys cur out c v → (d : Design) (w : Parts file d) (m : Mover) → getElem? (movers d) i ≡ some m → Emits n (mover! l s m n) xs ys cur out c v
     external-is k j q b f d w m e =
         let z : length (externalsFrom file 0 nv) ≡ length (externalsFrom file 0 (variableCount file)) = ap length externals-same in
-        let r : raise (getD (externalsFrom file 0 (variableCount file)) (i - count) 0) ≡ m = some-same _ _ (sym (raise-mover file d w i (i - count) (omega (arith, x .count)) (omega arith)) ∙ e) in
+        let r : raise (getD (externalsFrom file 0 (variableCount file)) (i - count) 0) ≡ m = some-same _ _ (sym (raise-mover file d w i (i - count) (omega (arith, x .count)) (omega (arith, h .externals))) ∙ e) in
         emits-same _ _ (ap (λ (y : Mover). mover! l s y n) (ap raise (q ∙ ap (λ (t : List ℕ). getD t (i - count) 0) externals-same) ∙ r)) f
 
-  pub raised-kind : (i j : ℕ) → count ≤ i → i < count + length (externalsFrom file 0 nv) → j ≡ getD (externalsFrom file 0 nv) (i - count) 0 → getD file (3 * j) 0 ≡ 2
-  raised-kind i j k b q = ap (λ (t : ℕ). getD file (3 * t) 0) q ∙ external-kind file 0 nv (i - count) (omega arith)
+  pub raised-kind : (i j : ℕ) → count ≤ i → i < count + shape .externals → j ≡ getD (externalsFrom file 0 nv) (i - count) 0 → getD file (3 * j) 0 ≡ 2
+  raised-kind i j k b q = ap (λ (t : ℕ). getD file (3 * t) 0) q ∙ external-kind file 0 nv (i - count) (omega (arith, h .externals))
 
 -- all movers
 found : (ms : List Mover) (i : ℕ) → i < length ms → getElem? ms i ≡ some (getD ms i (raise 0))
@@ -128,23 +141,26 @@ map-append : {A B : Type 0} (f : A → B) (a b : List A) → map f (a ++ b) ≡ 
 map-append f [] b = refl
 map-append f (x ∷ a) b = ap (λ l. f x ∷ l) (map-append f a b)
 
-module _ (file : List ℕ) (nv nm all : ℕ) (codes : List ℕ) where
+module _ (file : List ℕ) (shape : Shape) (codes : List ℕ) where
+  abbrev all : ℕ
+  all = shape .normals + shape .externals
+
   abbrev R : ℕ → Slots
-  R v = resultFrom file nv nm v
+  R v = resultFrom file shape v
 
   abbrev S : Slots
-  S = slotsOf file nv nm codes
+  S = slotsOf file shape codes
 
   pub record Moving (n₀ : ℕ) (xs₀ : List ℤ) (cur₀ : ℕ) (firsts : List ℕ) (xs : List ℤ) (cur n i : ℕ) : Type 0 where
     pub within : i ≤ all
-    pub size : length firsts ≡ 64
-    pub left : (d : Design) (w : Parts file d) → Left n₀ (movers! (layoutOf nv) S (movers d) n₀) xs₀ cur₀ n (movers! (layoutOf nv) S (drop i (movers d)) n) xs cur (λ (rs : List Slots). map R (take i firsts) ++ rs)
+    pub size : length firsts ≡ maxMovers
+    pub left : (d : Design) (w : Parts file d) → Left n₀ (movers! (layoutOf shape) S (movers d) n₀) xs₀ cur₀ n (movers! (layoutOf shape) S (drop i (movers d)) n) xs cur (λ (rs : List Slots). map R (take i firsts) ++ rs)
 
-  pub moving-start : (n : ℕ) (xs : List ℤ) (cur : ℕ) (firsts : List ℕ) → length firsts ≡ 64 → Moving n xs cur firsts xs cur n 0
+  pub moving-start : (n : ℕ) (xs : List ℤ) (cur : ℕ) (firsts : List ℕ) → length firsts ≡ maxMovers → Moving n xs cur firsts xs cur n 0
   moving-start n xs cur firsts e = record {
     within = omega arith;
     size = e;
-    left = λ d w. left-result _ _ (λ (rs : List Slots). ap (λ (l : List ℕ). map R l ++ rs) (sym (none firsts))) (left-same _ _ (ap (λ (ms : List Mover). movers! (layoutOf nv) S ms n) (sym (whole (movers d)))) (left-start n (movers! (layoutOf nv) S (movers d) n) xs cur));
+    left = λ d w. left-result _ _ (λ (rs : List Slots). ap (λ (l : List ℕ). map R l ++ rs) (sym (none firsts))) (left-same _ _ (ap (λ (ms : List Mover). movers! (layoutOf shape) S ms n) (sym (whole (movers d)))) (left-start n (movers! (layoutOf shape) S (movers d) n) xs cur));
   }
     where
       none : (l : List ℕ) → take 0 l ≡ []
@@ -155,8 +171,8 @@ module _ (file : List ℕ) (nv nm all : ℕ) (codes : List ℕ) where
       whole [] = refl
       whole (x ∷ l) = refl
 
-  pub moving-on : {n₀ : ℕ} {xs₀ : List ℤ} {cur₀ : ℕ} (firsts : List ℕ) {xs : List ℤ} {cur n i : ℕ} → i < all → all ≤ 64 → ((d : Design) (w : Parts file d) → length (movers d) ≡ all) → Moving n₀ xs₀ cur₀ firsts xs cur n i
-      → {ys : List ℤ} (first : ℕ) {cur′ n′ : ℕ} → ((d : Design) (w : Parts file d) (m : Mover) → getElem? (movers d) i ≡ some m → Emits n (mover! (layoutOf nv) S m n) xs ys cur (R first) cur′ n′) → Moving n₀ xs₀ cur₀ (set firsts i first) ys cur′ n′ (i + 1)
+  pub moving-on : {n₀ : ℕ} {xs₀ : List ℤ} {cur₀ : ℕ} (firsts : List ℕ) {xs : List ℤ} {cur n i : ℕ} → i < all → all ≤ maxMovers → ((d : Design) (w : Parts file d) → length (movers d) ≡ all) → Moving n₀ xs₀ cur₀ firsts xs cur n i
+      → {ys : List ℤ} (first : ℕ) {cur′ n′ : ℕ} → ((d : Design) (w : Parts file d) (m : Mover) → getElem? (movers d) i ≡ some m → Emits n (mover! (layoutOf shape) S m n) xs ys cur (R first) cur′ n′) → Moving n₀ xs₀ cur₀ (set firsts i first) ys cur′ n′ (i + 1)
   moving-on firsts {n = n} {i = i} l few len k first e = record {
     within = omega arith;
     size = length-set firsts i first ∙ k .size;
@@ -164,9 +180,9 @@ module _ (file : List ℕ) (nv nm all : ℕ) (codes : List ℕ) where
         let b = len d w in
         let c : drop i (movers d) ≡ getD (movers d) i (raise 0) ∷ drop (i + 1) (movers d) = rw (add-one, drop-cons (movers d) i (raise 0) (omega arith)) in
         let m = getD (movers d) i (raise 0) in
-        let one = left-same _ _ (ap (λ (ms : List Mover). movers! (layoutOf nv) S ms n) c ∙ movers-step (layoutOf nv) S m (drop (i + 1) (movers d)) n) (k .left d w) in
-        let two = left-on (mover! (layoutOf nv) S m) _ one (e d w m (found (movers d) i (omega arith))) in
-        let three = left-map (movers! (layoutOf nv) S (drop (i + 1) (movers d))) (λ (rs : List Slots). R first ∷ rs) two in
+        let one = left-same _ _ (ap (λ (ms : List Mover). movers! (layoutOf shape) S ms n) c ∙ movers-step (layoutOf shape) S m (drop (i + 1) (movers d)) n) (k .left d w) in
+        let two = left-on (mover! (layoutOf shape) S m) _ one (e d w m (found (movers d) i (omega arith))) in
+        let three = left-map (movers! (layoutOf shape) S (drop (i + 1) (movers d))) (λ (rs : List Slots). R first ∷ rs) two in
         left-result _ _ (λ (rs : List Slots). more firsts i first rs (omega (arith, k .size))) three;
   }
     where
@@ -176,12 +192,12 @@ module _ (file : List ℕ) (nv nm all : ℕ) (codes : List ℕ) where
           sym (ap (λ (l : List ℕ). map R l ++ rs) tk ∙ ap (λ (l : List Slots). l ++ rs) (map-append R (take i firsts) (first ∷ [])) ∙ append-assoc (map R (take i firsts)) (R first ∷ []) rs)
 
   pub moving-end : {n₀ : ℕ} {xs₀ : List ℤ} {cur₀ : ℕ} (firsts : List ℕ) {xs : List ℤ} {cur n i : ℕ} → all ≤ i → ((d : Design) (w : Parts file d) → length (movers d) ≡ all) → Moving n₀ xs₀ cur₀ firsts xs cur n i
-      → (d : Design) (w : Parts file d) → Emits n₀ (movers! (layoutOf nv) S (movers d) n₀) xs₀ xs cur₀ (map R (take all firsts)) cur n
+      → (d : Design) (w : Parts file d) → Emits n₀ (movers! (layoutOf shape) S (movers d) n₀) xs₀ xs cur₀ (map R (take all firsts)) cur n
   moving-end firsts {n = n} {i = i} l len k d w =
       let b = len d w in
       let q : i ≡ all = omega (arith, k .within) in
       emits-result _ (append-nil (map R (take i firsts)) ∙ ap (λ (j : ℕ). map R (take j firsts)) q)
-      (left-end [] (left-same _ _ (ap (λ (ms : List Mover). movers! (layoutOf nv) S ms n) (drop-all (movers d) i (omega arith)) ∙ movers-none (layoutOf nv) S n) (k .left d w)))
+      (left-end [] (left-same _ _ (ap (λ (ms : List Mover). movers! (layoutOf shape) S ms n) (drop-all (movers d) i (omega arith)) ∙ movers-none (layoutOf shape) S n) (k .left d w)))
 
 bind-assoc : {A B C : Type 0} (m : Build A) (f : A → Build B) (g : B → Build C) (n : ℕ) → ((m >>= f) >>= g) n ≡ (m >>= (λ x. f x >>= g)) n
 unfolding _>>=_
@@ -206,21 +222,21 @@ link-emits l s c k m st e a b {n = n} {v1 = v1} z eb w1 w2 =
     (emits-bind (statusAndEvent! l s m st e) (λ (x : Literal). and! c (negate x)) w1 (emits-same _ _ (ap (λ (t : Literal). and! c t v1) eb) w2))
 
 -- the invalid cells
-module _ (file : List ℕ) (nv nm : ℕ) (codes : List ℕ) where
+module _ (file : List ℕ) (shape : Shape) (codes : List ℕ) where
   abbrev SL : Slots
-  SL = slotsOf file nv nm codes
+  SL = slotsOf file shape codes
 
   pub record Scanning (n₀ : ℕ) (xs₀ : List ℤ) (cur₀ : ℕ) (p : ℕ) (xs : List ℤ) (part : Literal) (cur n i : ℕ) : Type 0 where
     pub within : i ≤ cellCount file
     pub place : p ≡ pastCells file i (cellsOffset file)
-    pub left : (d : Design) (w : Parts file d) → Left n₀ (noInvalid! (layoutOf nv) SL trueLiteral (d .invalid) n₀) xs₀ cur₀ n (noInvalid! (layoutOf nv) SL part (invalids (drop i (w .entries))) n) xs cur (λ (l : Literal). l)
+    pub left : (d : Design) (w : Parts file d) → Left n₀ (noInvalid! (layoutOf shape) SL trueLiteral (d .invalid) n₀) xs₀ cur₀ n (noInvalid! (layoutOf shape) SL part (invalids (drop i (w .entries))) n) xs cur (λ (l : Literal). l)
 
   pub scanning-start : (n : ℕ) (xs : List ℤ) (cur p : ℕ) (part : Literal) → p ≡ cellsOffset file → part ≡ trueLiteral → Scanning n xs cur p xs part cur n 0
   unfolding pastCells
   scanning-start n xs cur p part e q = record {
     within = omega arith;
     place = e;
-    left = λ d w. left-same _ _ (ap₂ (λ (ps : List InvalidCell) (l : Literal). noInvalid! (layoutOf nv) SL l ps n) (w .invalid ∙ ap invalids (sym (whole (w .entries)))) (sym q)) (left-start n (noInvalid! (layoutOf nv) SL trueLiteral (d .invalid) n) xs cur);
+    left = λ d w. left-same _ _ (ap₂ (λ (ps : List InvalidCell) (l : Literal). noInvalid! (layoutOf shape) SL l ps n) (w .invalid ∙ ap invalids (sym (whole (w .entries)))) (sym q)) (left-start n (noInvalid! (layoutOf shape) SL trueLiteral (d .invalid) n) xs cur);
   }
     where
       whole : (l : List Entry) → drop 0 l ≡ l
@@ -259,7 +275,7 @@ module _ (file : List ℕ) (nv nm : ℕ) (codes : List ℕ) where
     next-place = e ∙ ap (c-past file) (k .place) ∙ ap (λ (j : ℕ). pastCells file j (cellsOffset file)) (sym (add-one i))
 
     pub scanning-on : {ys : List ℤ} (y : Literal) {c1 v1 : ℕ}
-        → ((d : Design) (w : Parts file d) → Emits n (link! (layoutOf nv) SL part (c-kind file p) (c-matrix file p) (c-status file p) (eventIn (w .rows) (c-matrix file p) (c-event file p)) n) xs ys cur y c1 v1) → Scanning n₀ xs₀ cur₀ p′ ys y c1 v1 (i + 1)
+        → ((d : Design) (w : Parts file d) → Emits n (link! (layoutOf shape) SL part (c-kind file p) (c-matrix file p) (c-status file p) (eventIn (w .rows) (c-matrix file p) (c-event file p)) n) xs ys cur y c1 v1) → Scanning n₀ xs₀ cur₀ p′ ys y c1 v1 (i + 1)
     scanning-on y e1 = record {
       within = omega arith;
       place = next-place;
@@ -267,40 +283,50 @@ module _ (file : List ℕ) (nv nm : ℕ) (codes : List ℕ) where
           let f = eventIn (w .rows) in
           let rest = drop (i + 1) (w .entries) in
           let P = pastCells file i (cellsOffset file) in
-          let built = ap (λ (ps : List InvalidCell). noInvalid! (layoutOf nv) SL part ps n) (ap invalids (cons d w i h))
-          ∙ link-is (layoutOf nv) SL part f P (getD (w .entries) i none) rest (here d w i h .1 .entry) n
-          ∙ ap (λ (j : ℕ). (link! (layoutOf nv) SL part (c-kind file j) (c-matrix file j) (c-status file j) (f (c-matrix file j) (c-event file j)) >>= (λ (y : Literal). noInvalid! (layoutOf nv) SL y (invalids rest))) n) (sym (k .place)) in
-          left-on (link! (layoutOf nv) SL part (c-kind file p) (c-matrix file p) (c-status file p) (f (c-matrix file p) (c-event file p))) (λ (y : Literal). noInvalid! (layoutOf nv) SL y (invalids rest)) (left-same _ _ built (k .left d w)) (e1 d w);
+          let built = ap (λ (ps : List InvalidCell). noInvalid! (layoutOf shape) SL part ps n) (ap invalids (cons d w i h))
+          ∙ link-is (layoutOf shape) SL part f P (getD (w .entries) i none) rest (here d w i h .1 .entry) n
+          ∙ ap (λ (j : ℕ). (link! (layoutOf shape) SL part (c-kind file j) (c-matrix file j) (c-status file j) (f (c-matrix file j) (c-event file j)) >>= (λ (y : Literal). noInvalid! (layoutOf shape) SL y (invalids rest))) n) (sym (k .place)) in
+          left-on (link! (layoutOf shape) SL part (c-kind file p) (c-matrix file p) (c-status file p) (f (c-matrix file p) (c-event file p))) (λ (y : Literal). noInvalid! (layoutOf shape) SL y (invalids rest)) (left-same _ _ built (k .left d w)) (e1 d w);
     }
 
   pub scanning-end : {n₀ : ℕ} {xs₀ : List ℤ} {cur₀ p : ℕ} {xs : List ℤ} (part : Literal) {cur n i : ℕ} → cellCount file ≤ i → Scanning n₀ xs₀ cur₀ p xs part cur n i
-      → (d : Design) (w : Parts file d) → Emits n₀ (noInvalid! (layoutOf nv) SL trueLiteral (d .invalid) n₀) xs₀ xs cur₀ part cur n
+      → (d : Design) (w : Parts file d) → Emits n₀ (noInvalid! (layoutOf shape) SL trueLiteral (d .invalid) n₀) xs₀ xs cur₀ part cur n
   unfolding noInvalid!
-  scanning-end part {n = n} {i = i} h k d w = left-end part (left-same _ _ (ap (λ (es : List Entry). noInvalid! (layoutOf nv) SL part (invalids es) n) (drop-all (w .entries) i (omega (arith, w .cell-count)))) (k .left d w))
+  scanning-end part {n = n} {i = i} h k d w = left-end part (left-same _ _ (ap (λ (es : List Entry). noInvalid! (layoutOf shape) SL part (invalids es) n) (drop-all (w .entries) i (omega (arith, w .cell-count)))) (k .left d w))
 
 -- the invariant, and the layout
-module _ (file table : List ℕ) (nv nm : ℕ) (h : Ready file table nv nm) where
-  pub invariant-got : (d : Design) (w : Parts file d) (at end : ℕ) → at ≡ invariantOffset file → end ≡ trailer file → boolExpr file (namesOf file nv nm) end maxDepth at ≡ got (d .invariant) end
+module _ {file : List ℕ} {shape : Shape} (h : ShapedFile file shape) where
+  pub invariant-got : (d : Design) (w : Parts file d) (at end : ℕ) → at ≡ invariantOffset file → end ≡ trailer file → boolExpr file (namesOf file shape) end maxDepth at ≡ got (d .invariant) end
   invariant-got d w at end a e =
-      ap₂ (λ (x y : ℕ). boolExpr file (namesOf file nv nm) y maxDepth x) a e ∙ ap₂ (λ (x y : ℕ). boolExpr file (namesOf file x y) (trailer file) maxDepth (invariantOffset file)) (h .variables) (h .matrices)
+      ap₂ (λ (x y : ℕ). boolExpr file (namesOf file shape) y maxDepth x) a e ∙ ap₂ (λ (x y : ℕ). boolExpr file (namesIn file x y) (trailer file) maxDepth (invariantOffset file)) (h .variables) (h .matrices)
       ∙ invariant-stands file d w ∙ ap (got (d .invariant)) (sym e)
 
-  pub layout-is : (d : Design) (w : Parts file d) → layout d ≡ layoutOf nv
-  unfolding layout
-  layout-is d w = ap (λ (n : ℕ). record { statuses = n }) (w .variable-count ∙ sym (h .variables))
+  pub layout-is : (d : Design) (w : Parts file d) → layout d ≡ layoutOf shape
+  layout-is d w = sym (layout-by-counts file d w (shape .variables) (shape .matrices) (h .variables) (h .matrices))
 
-  pub property-0 : (d : Design) (w : Parts file d) (p : ℕ) (s : Slots) (n : ℕ) → p ≡ 0 → bool! (layoutOf nv) s (d .invariant) n ≡ property! d p s n
-  unfolding property!
+  pub property-0 : (d : Design) (w : Parts file d) (p : ℕ) (s : Slots) (n : ℕ) → p ≡ 0 → bool! (layoutOf shape) s (d .invariant) n ≡ property! d (propertyOf d p) s n
+  unfolding property! propertyOf
   property-0 d w zero s n e = ap (λ (l : Layout). bool! l s (d .invariant) n) (sym (layout-is d w))
   property-0 d w (suc p) s n e = absurd (omega arith)
 
-  pub property-1 : (d : Design) (w : Parts file d) (p : ℕ) (s : Slots) (n : ℕ) → (p ≡ 0 → ⊥) → noInvalid! (layoutOf nv) s trueLiteral (d .invalid) n ≡ property! d p s n
-  unfolding property!
+  pub property-1 : (d : Design) (w : Parts file d) (p : ℕ) (s : Slots) (n : ℕ) → (p ≡ 0 → ⊥) → noInvalid! (layoutOf shape) s trueLiteral (d .invalid) n ≡ property! d (propertyOf d p) s n
+  unfolding property! propertyOf
   property-1 d w zero s n e = absurd (e refl)
   property-1 d w (suc p) s n e = ap (λ (l : Layout). noInvalid! l s trueLiteral (d .invalid) n) (sym (layout-is d w))
 
   pub cell-in : (p i : ℕ) → i < cellCount file → p ≡ pastCells file i (cellsOffset file) → CellFields file p
-  cell-in p i l e = let t = read file (h .accepted) in scan-fields file nv nm [] (t .tree) (t .all .parts) p i l e
+  cell-in p i l e = let t = read file (h .accepted) in scan-fields file shape [] (t .tree) (t .all .parts) p i l e
 
-  pub mover-total : (cells : List ℕ) (count all : ℕ) → CellsIndexed file cells count → all ≡ count + length (externalsFrom file 0 nv) → (d : Design) (w : Parts file d) → length (movers d) ≡ all
-  mover-total cells count all x e d w = omega (arith, mover-count file d w, x .count, ap (λ (n : ℕ). length (externalsFrom file 0 n)) (h .variables))
+  -- the invariant's gates
+  pub invariant-here : (at : ℕ) → at ≡ invariantOffset file → BoolHere file file shape at
+  invariant-here at a =
+      let t = read file (h .accepted) in
+      record { end = trailer file; levels = maxDepth; inside = omega (arith, sizes h); read = record { tree = t .tree .invariant; past = trailer file; reads = invariant-got (t .tree) (t .all .parts) at (trailer file) a refl } }
+
+  pub invariant-writes : (at p : ℕ) → at ≡ invariantOffset file → p ≡ 0 → (codes : List ℕ) {pen : Cursor} {xs ys : List ℤ} (r : BoolOut) → BoolEncoded file file shape codes at pen xs ys r
+      → (d : Design) (w : Parts file d) → Writes pen (property! d (propertyOf d p) (slotsOf file shape codes)) xs ys (fromCode (r .lit)) (r .pen)
+  invariant-writes at p a z codes {pen = pen} r k d w =
+      emits-same _ _ (property-0 d w p (slotsOf file shape codes) (pen .var) z) (k .encodes (trailer file) maxDepth _ _ (omega (arith, sizes h)) (invariant-got d w at (trailer file) a refl) .0)
+
+  pub mover-total : {cells : List ℕ} → CellsIndexed file cells (shape .normals) → (d : Design) (w : Parts file d) → length (movers d) ≡ shape .normals + shape .externals
+  mover-total x d w = omega (arith, mover-count file d w, x .count, h .externals, ap (λ (n : ℕ). length (externalsFrom file 0 n)) (h .variables))

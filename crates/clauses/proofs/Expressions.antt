@@ -169,7 +169,7 @@ module _ (ws : List ℕ) (l : Layout) (s : Slots) where
       → Correct n (bool! l s e n) LiteralBelow (λ ρ r. literalTrue ρ r ≡ evalBool l (stateOf ρ s) e)
   unfolding bool! evalBool
   bool-correct (constantB b) n f k = correct-give _ (literalOf-below n b (f .known)) λ ρ one. literalOf-true ρ one b
-  bool-correct (variableB v) n f k = correct-give _ (boolean-below v f) λ ρ one. boolean-value ws n s v f k ρ
+  bool-correct (variableB v) n f k = correct-give _ (boolean-below v f) λ ρ one. boolean-value ws n s v f (k .width) ρ
   bool-correct (notB a) n f k =
       correct-bind _ _ (bool-correct a n f k) λ x n₁ l₁ bx.
       correct-give _ (negate-below n₁ x bx) λ ρ one ex. negate-true ρ x ∙ ap not ex

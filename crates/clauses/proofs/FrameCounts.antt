@@ -9,15 +9,18 @@ use lib.ListN.{getD, length}
 use Rattle.design.specs.Tree.{Cell, Design, Mover, cell, raise, externals, movers}
 use Rattle.design.specs.DesignFile.{Entry, normal, invalid}
 use Rattle.design.specs.Check.{Checked, check, normals, invalids, variableCount}
-use Rattle.design.specs.Places.{Accepted, CellsIndexed}
+use Rattle.design.specs.Places.{Accepted, CellsIndexed, Measured}
 use Rattle.design.specs.Sections.{Parts}
+use Rattle.design.specs.declared.shape.Shape.{Shape}
 use Rattle.design.proofs.Sections.{whole}
 use Rattle.design.proofs.Places.{read}
-use Rattle.step.specs.Ready.{externalsFrom}
-use Rattle.step.proofs.Externals.{raises, mover-count}
+use Rattle.step.specs.Property.{propertyOf}
+use Rattle.design.specs.Places.{externalsFrom}
+use Rattle.design.proofs.Externals.{raises, mover-count}
 use Rattle.clauses.specs.Formula.{S, w}
 use Rattle.clauses.specs.Cost.{Cost, cost, addCosts, boolCost, statusAndEventCost, enableCost, effectCost, moverCost, moversCost, invalidCost, propertyCost, stepCost}
 use Rattle.clauses.specs.FrameSizes.{entriesCost, HasGates, frameSizes, SmallFrame}
+use Rattle.clauses.specs.Limits.{mostGates}
 use Rattle.clauses.specs.declared.cost.GatesAt.{GatesAt}
 use Rattle.clauses.specs.declared.frame.FrameSizes.{FrameSizes}
 use Rattle.clauses.proofs.Bounds.{Bounded, bounded}
@@ -87,24 +90,24 @@ module _ (file : List ℕ) (d : Design) (w : Parts file d) (bits : ℕ) (b : bit
   step-wides =
       omega (arith, movers-wides (S d) (map cell (d .cells)) (externals 0 (d .variables)), ap (λ (x : Cost). x .wides) cells-are, ap (λ (x : Cost). x .wides) raises-are, raises-wides bits raised)
 
-  pub property-cells : (p : ℕ) → (p ≡ 0 → ⊥) → propertyCost d p ≡ entriesCost bits true (w .entries)
-  unfolding propertyCost
+  pub property-cells : (p : ℕ) → (p ≡ 0 → ⊥) → propertyCost d (propertyOf d p) ≡ entriesCost bits true (w .entries)
+  unfolding propertyCost propertyOf
   property-cells zero z = absurd (z refl)
   property-cells (suc p) z = ap invalidCost (w .invalid) ∙ sym (entries-invalid bits (w .entries))
 
-  pub property-invariant : (p : ℕ) → p ≡ 0 → propertyCost d p ≡ boolCost (d .invariant)
-  unfolding propertyCost
+  pub property-invariant : (p : ℕ) → p ≡ 0 → propertyCost d (propertyOf d p) ≡ boolCost (d .invariant)
+  unfolding propertyCost propertyOf
   property-invariant zero z = refl
   property-invariant (suc p) z = absurd (omega arith)
 
-  pub entries-few : Bounded d → (t : Bool) → (entriesCost bits t (w .entries) .ands ≤ 14144000) × (entriesCost bits t (w .entries) .wides ≤ 14144000)
+  pub entries-few : Bounded d → (t : Bool) → (entriesCost bits t (w .entries) .ands ≤ mostGates) × (entriesCost bits t (w .entries) .wides ≤ mostGates)
   entries-few k false =
       (omega (arith, step-ands, k .gates 0), omega (arith, step-wides, k .gates 0))
   entries-few k true =
       let e = property-cells 1 (λ z. omega arith) in
       (omega (arith, ap (λ (x : Cost). x .ands) e, k .gates 1), omega (arith, ap (λ (x : Cost). x .wides) e, k .gates 1))
 
-frame-bound : (d : Design) (prop : ℕ) → Bounded d → SmallFrame (frameSizes d prop)
+frame-bound : (d : Design) (prop : ℕ) → Bounded d → SmallFrame (frameSizes d (propertyOf d prop))
 unfolding frameSizes
 frame-bound d prop k = record { bits = k .bits; movers = k .movers; gates = k .gates prop }
 
@@ -116,26 +119,26 @@ frame-same : {bits bits′ m m′ a a′ b b′ x x′ y y′ : ℕ} → bits �
 frame-same {bits} {bits′} {m} {m′} {a} {a′} {b} {b′} {x} {x′} {y} {y′} e₁ e₂ e₃ e₄ e₅ e₆ =
     ap₂ (λ (i j : ℕ). frameOf i j a b x y) e₁ e₂ ∙ ap₂ (λ (i j : ℕ). frameOf bits′ m′ i j x y) e₃ e₄ ∙ ap₂ (λ (i j : ℕ). frameOf bits′ m′ a′ b′ i j) e₅ e₆
 
-module _ (file : List ℕ) (h : Accepted file) (nv bits normals raised : ℕ) (p s : GatesAt) (t prop : ℕ)
-    (cs : List ℕ) (n : nv ≡ variableCount file) (b : (d : Design) → Parts file d → bits ≡ S d) (c : CellsIndexed file cs normals) (r : raised ≡ length (externalsFrom file 0 nv))
-    (hp : (d : Design) → Parts file d → HasGates p (propertyCost d prop)) (hs : (d : Design) (w : Parts file d) → HasGates s (entriesCost bits false (w .entries))) (ht : t ≡ raised * bits) where
+module _ (file : List ℕ) (h : Accepted file) (H : Shape) (normals : ℕ) (m : Measured file normals H) (p s : GatesAt) (t prop : ℕ) (cs : List ℕ) (c : CellsIndexed file cs normals)
+    (hp : (d : Design) → Parts file d → HasGates p (propertyCost d (propertyOf d prop))) (hs : (d : Design) (w : Parts file d) → HasGates s (entriesCost (H .bits) false (w .entries))) (ht : t ≡ H .externals * H .bits) where
   abbrev made : FrameSizes
-  made = frameOf bits (normals + raised) (p .ands) (p .wides) (s .ands) (s .wides + t)
+  made = frameOf (H .bits) (H .normals + H .externals) (p .ands) (p .wides) (s .ands) (s .wides + t)
 
-  raised-is : raised ≡ length (externalsFrom file 0 (variableCount file))
-  raised-is = r ∙ ap (λ (k : ℕ). length (externalsFrom file 0 k)) n
+  raised-is : H .externals ≡ length (externalsFrom file 0 (variableCount file))
+  raised-is = m .externals ∙ ap (λ (k : ℕ). length (externalsFrom file 0 k)) (m .shaped .variables)
 
-  pub frame-made : (d : Design) → check file ≡ Checked.accepted d → made ≡ frameSizes d prop
+  pub frame-made : (d : Design) → check file ≡ Checked.accepted d → made ≡ frameSizes d (propertyOf d prop)
   unfolding frameSizes w
   frame-made d e =
       let w = whole file d e .parts in
+      let b = m .bits .state d w in
       let g = hp d w in
       let i = hs d w in
-      let q : normals + raised ≡ length (movers d) = omega (arith, mover-count file d w, c .count, raised-is) in
-      let z : raised * bits ≡ length (externalsFrom file 0 (variableCount file)) * bits = ap (λ (k : ℕ). k * bits) raised-is in
-      let x : s .ands ≡ stepCost d .ands = i .ands ∙ sym (step-ands file d w bits (b d w)) in
-      let y : s .wides + t ≡ stepCost d .wides = omega (arith, i .wides, step-wides file d w bits (b d w)) in
-      frame-same (b d w) q (g .ands) (g .wides) x y
+      let q : H .normals + H .externals ≡ length (movers d) = omega (arith, mover-count file d w, m .normals, c .count, raised-is) in
+      let z : H .externals * H .bits ≡ length (externalsFrom file 0 (variableCount file)) * H .bits = ap (λ (k : ℕ). k * H .bits) raised-is in
+      let x : s .ands ≡ stepCost d .ands = i .ands ∙ sym (step-ands file d w (H .bits) b) in
+      let y : s .wides + t ≡ stepCost d .wides = omega (arith, i .wides, step-wides file d w (H .bits) b) in
+      frame-same b q (g .ands) (g .wides) x y
 
   pub frame-small : ((i : ℕ) → getD file i 0 < 256) → SmallFrame made
   frame-small bytes =

@@ -7,7 +7,12 @@ use lib.ListN.{length}
 use borrow.Author.Tests.{le-leb, lt-leb, le-ltb, lt-ltb}
 use Rattle.design.specs.Tree.{Design}
 use Rattle.design.specs.WellFormed.{WellFormed}
+use Rattle.step.specs.Property.{Property}
+use Rattle.design.specs.Limits.{maxMovers, maxBits}
 use Rattle.clauses.specs.Words.{words}
+use Rattle.clauses.specs.Writing.{variableLimit}
+use Rattle.step.specs.Limits.{maxBound}
+use Rattle.clauses.specs.Limits.{frameLimit, countLimit, sizeLimit}
 use Rattle.clauses.specs.Formula.{S, w, F, n, part}
 use Rattle.clauses.specs.Cost.{gatesIn, clausesIn, wordsIn, pairCount, firstWords, stepWordCount, partWordCount}
 use Rattle.clauses.specs.FrameSizes.{costIn, frameSizes, SmallFrame, frameLength, stepClausesOf, stepWordsOf, partWordsOf, variablesOf, formulaSizes}
@@ -17,27 +22,26 @@ use Rattle.clauses.proofs.Frames.{P-is, G-is}
 use Rattle.clauses.proofs.Sizes as sizes
 use Rattle.clauses.proofs.Limits.{pairs-twice}
 
-pub product-small : (k x : ℕ) → k ≤ 101 → x ≤ 1099511627776 → k * x ≤ 111050674405376
-product-small k x p q = let h : k * x ≤ 101 * 1099511627776 = mul-le-mul p q in omega arith
+pub product-small : (k x : ℕ) → k ≤ countLimit → x ≤ sizeLimit → k * x ≤ countLimit * sizeLimit
+product-small k x p q = mul-le-mul p q
 
-pub pairs-halved : (m t : ℕ) → m ≤ 64 → t ≡ m * (m - 1) → (t / 2 ≡ pairCount m) × (t / 2 ≤ 4096)
+pub pairs-halved : (m t : ℕ) → m ≤ maxMovers → t ≡ m * (m - 1) → (t / 2 ≡ pairCount m) × (t / 2 ≤ maxMovers * maxMovers)
 pairs-halved m t l e =
     let q = pairs-twice m in
-    let p : m * (m - 1) ≤ 64 * 64 = mul-le-mul l (let z : m - 1 ≤ 64 = omega arith in z) in
+    let p : m * (m - 1) ≤ maxMovers * maxMovers = mul-le-mul l (let z : m - 1 ≤ maxMovers = omega arith in z) in
     (omega arith, omega arith)
 
 module _ (s : FrameSizes) (h : SmallFrame s) where
-  pub ties-small : s .movers * s .bits ≤ 34816
-  ties-small = let p : s .movers * s .bits ≤ 64 * 544 = mul-le-mul (h .movers) (h .bits) in omega arith
+  pub ties-small : s .movers * s .bits ≤ maxMovers * maxBits
+  ties-small = mul-le-mul (h .movers) (h .bits)
 
-  frames-small : (k : ℕ) → k ≤ 100 → k * frameLength s ≤ 1414460800
+  frames-small : (k : ℕ) → k ≤ maxBound → k * frameLength s ≤ maxBound * frameLimit
   frames-small k l =
-      let p : frameLength s ≤ 14144608 = omega (arith, h .bits, h .movers, h .gates) in
-      let q : k * frameLength s ≤ 100 * 14144608 = mul-le-mul l p in
-      omega arith
+      let p : frameLength s ≤ frameLimit = omega (arith, h .bits, h .movers, h .gates) in
+      mul-le-mul l p
 
-  pub variables-sum : (k f t : ℕ) → k ≤ 100 → f ≡ frameLength s → t ≡ k * f
-      → (1 + t + s .bits + gatesIn (costIn (s .property)) ≡ variablesOf s k) × (1 + t + s .bits + gatesIn (costIn (s .property)) < 2147483648)
+  pub variables-sum : (k f t : ℕ) → k ≤ maxBound → f ≡ frameLength s → t ≡ k * f
+      → (1 + t + s .bits + gatesIn (costIn (s .property)) ≡ variablesOf s k) × (1 + t + s .bits + gatesIn (costIn (s .property)) < variableLimit)
   variables-sum k f t l e q =
       let z : t ≡ k * frameLength s = q ∙ ap (λ (x : ℕ). k * x) e in
       (omega arith, omega (arith, frames-small k l, h .bits, h .gates))
@@ -92,7 +96,7 @@ module _ (s : FrameSizes) (k t u x : ℕ) (q : u ≡ k * x) where
   words-sum p r = ap₂ (λ (y z : ℕ). 2 + 2 * s .bits + y + z + (k + 2)) p (q ∙ ap (λ (y : ℕ). k * y) r)
 
 -- the formula's numbers, from the sizes of a frame of its design
-module _ (d : Design) (wf : WellFormed d) (p : ℕ) where
+module _ (d : Design) (wf : WellFormed d) (p : Property) where
   pub length-is : frameLength (frameSizes d p) ≡ F d p
   unfolding frameSizes F
   length-is = ap₂ (λ (x y : ℕ). S d + x + w d + y) (sym (P-is d p)) (sym (G-is d wf p))

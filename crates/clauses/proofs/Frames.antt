@@ -9,7 +9,8 @@ use lib.ListN.{length, getD, getElem?}
 use Rattle.design.specs.Tree.{Design, Mover, movers}
 use Rattle.design.specs.State.{State, Layout, layout, widths}
 use Rattle.design.specs.WellFormed.{WellFormed}
-use Rattle.step.specs.OneStep.{move, moved, step, property, breaksFrom}
+use Rattle.step.specs.Property.{Property, PropertyOk}
+use Rattle.step.specs.OneStep.{move, moved, step, holds, breaksFrom}
 use Rattle.clauses.specs.Literal.{negate, Clause}
 use Rattle.clauses.specs.Meaning.{Assignment, literalTrue, clauseTrue, satisfies}
 use Rattle.clauses.specs.Gate.{gatesClauses}
@@ -44,7 +45,7 @@ moved-at ρ l s (m ∷ ms) (r ∷ rs) (suc c) e h =
     moved-at ρ l s ms rs c q (omega arith)
 
 -- so many frames with the steps out of them from frame j on, and then the last frame
-unfoldable pub framesFrom : Design → ℕ → ℕ → ℕ → List Clause
+unfoldable pub framesFrom : Design → Property → ℕ → ℕ → List Clause
 framesFrom d p zero j = propertyClauses d p j
 framesFrom d p (suc m) j = (propertyClauses d p j ++ stepClauses d p j) ++ framesFrom d p m (suc j)
 
@@ -53,7 +54,7 @@ unfolding stateAt
 state-wide d v = slots-wide v (widths d)
 
 -- Where frames stand.
-module _ (d : Design) (p : ℕ) where
+module _ (d : Design) (p : Property) where
   pub property-costs-at : (v : ℕ) → Costs (v + S d) (propertyAt d p v) (propertyCost d p) Any
   unfolding propertyAt
   property-costs-at v = property-costs d p (stateAt d v) (v + S d)
@@ -77,15 +78,15 @@ module _ (d : Design) (p : ℕ) where
   unfolding w
   w-low c h = h
 
-module _ (d : Design) (wf : WellFormed d) (p : ℕ) where
+module _ (d : Design) (wf : WellFormed d) (p : Property) where
   pub state-fits : (v : ℕ) → 1 < v → Fits (widths d) (v + S d) (stateAt d v)
   unfolding stateAt S
   state-fits v h = record { narrow = wf .narrow; known = omega arith; below = slots-below v (widths d) (omega arith); wide = slots-wide v (widths d) }
 
-  pub property-at : (v : ℕ) → 1 < v
-      → Correct (v + S d) (propertyAt d p v) LiteralBelow (λ ρ r. literalTrue ρ r ≡ property d p (stateOf ρ (stateAt d v)))
+  pub property-at : PropertyOk d p → (v : ℕ) → 1 < v
+      → Correct (v + S d) (propertyAt d p v) LiteralBelow (λ ρ r. literalTrue ρ r ≡ holds d p (stateOf ρ (stateAt d v)))
   unfolding propertyAt
-  property-at v h = property-correct d wf (stateAt d v) (v + S d) (state-fits v h) p
+  property-at ok v h = property-correct d wf (stateAt d v) (v + S d) (state-fits v h) p ok
 
   pub step-at : (v : ℕ) → 1 < v
       → Correct ((propertyAt d p v) .next + w d) (stepAt d p v) (λ k rs. AllFit (widths d) k rs × (length rs ≡ w d))
@@ -178,10 +179,10 @@ module _ (d : Design) (wf : WellFormed d) (p : ℕ) where
       ∙ moved-at ρ (layout d) (stateOf ρ (stateAt d v)) (movers d) ((stepAt d p v) .out) c
       (step-at v (frame-big d p j) .means ρ one (f .steps)) (w-low d p c h)
 
-  property-is : (ρ : Assignment) → ρ 1 ≡ true → (j : ℕ) → Facts ρ ((propertyAt d p (frame d p j)) .gates)
-      → literalTrue ρ (negate ((propertyAt d p (frame d p j)) .out)) ≡ not (property d p (stateOf ρ (stateAt d (frame d p j))))
-  property-is ρ one j f =
-      negate-true ρ ((propertyAt d p (frame d p j)) .out) ∙ ap not (property-at (frame d p j) (frame-big d p j) .means ρ one f)
+  property-is : PropertyOk d p → (ρ : Assignment) → ρ 1 ≡ true → (j : ℕ) → Facts ρ ((propertyAt d p (frame d p j)) .gates)
+      → literalTrue ρ (negate ((propertyAt d p (frame d p j)) .out)) ≡ not (holds d p (stateOf ρ (stateAt d (frame d p j))))
+  property-is ok ρ one j f =
+      negate-true ρ ((propertyAt d p (frame d p j)) .out) ∙ ap not (property-at ok (frame d p j) (frame-big d p j) .means ρ one f)
 
   pub frames-apart : (ρ : Assignment) (m j : ℕ) → satisfies ρ (framesFrom d p (suc m) j) ≡ true
       → (satisfies ρ (propertyClauses d p j ++ stepClauses d p j) ≡ true) × (satisfies ρ (framesFrom d p m (suc j)) ≡ true)
@@ -202,14 +203,14 @@ module _ (d : Design) (wf : WellFormed d) (p : ℕ) where
   last-from ρ j f = from-facts ρ ((propertyAt d p (frame d p j)) .gates) f
 
   -- the clause of the negated properties is true exactly when the decoded choices break the property
-  pub negated-is : (ρ : Assignment) → ρ 1 ≡ true → (m j : ℕ) → satisfies ρ (framesFrom d p m j) ≡ true
+  pub negated-is : PropertyOk d p → (ρ : Assignment) → ρ 1 ≡ true → (m j : ℕ) → satisfies ρ (framesFrom d p m j) ≡ true
       → clauseTrue ρ (negatedFrom d p (suc m) j) ≡ breaksFrom d p (stateOf ρ (stateAt d (frame d p j))) (choicesFrom d p ρ m j)
   unfolding negatedFrom breaksFrom choicesFrom
-  negated-is ρ one zero j s =
-      ap (λ b. b || false) (property-is ρ one j (last-to ρ j s)) ∙ or-false (not (property d p (stateOf ρ (stateAt d (frame d p j)))))
-  negated-is ρ one (suc m) j s =
+  negated-is ok ρ one zero j s =
+      ap (λ b. b || false) (property-is ok ρ one j (last-to ρ j s)) ∙ or-false (not (holds d p (stateOf ρ (stateAt d (frame d p j)))))
+  negated-is ok ρ one (suc m) j s =
       let a = frames-apart ρ m j s in
       let f = frame-to ρ j (a .0) in
-      ap₂ _||_ (property-is ρ one j (f .property))
-      (negated-is ρ one m (suc j) (a .1)
+      ap₂ _||_ (property-is ok ρ one j (f .property))
+      (negated-is ok ρ one m (suc j) (a .1)
       ∙ ap (λ x. breaksFrom d p x (choicesFrom d p ρ m (suc j))) (frame-step ρ one j (firstTrue ρ (flagsAt d p (frame d p j))) f))

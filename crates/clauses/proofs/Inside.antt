@@ -7,11 +7,12 @@ use native.Mathlib.Omega.{arith}
 use lib.Dec.{ltb, leb, eqb}
 use borrow.Author.Tests.{ltb-true, leb-true}
 use Rattle.design.specs.Tree.{IntExpr, BoolExpr, Stmt, Stmts, variableB}
-use Rattle.design.specs.Limits.{maxBytes, maxDepth}
+use Rattle.design.specs.Limits.{maxBytes, maxDepth, maxBits}
 use Rattle.design.specs.Reading.{Read, got, bad, Reader, provided}
 use Rattle.design.specs.Expression.{Names, IntOp, BoolOp, intOp, boolOp, byte, word, intOf, boolOf, intExpr, boolExpr}
 use Rattle.design.specs.Action.{StmtOp, stmtOp, value, assignment, statements, listOf, conditional, stmtOf, statement, list}
 use Rattle.clauses.specs.Cost.{Cost, gatesIn, intCost, boolCost, statementCost, statementsCost}
+use Rattle.clauses.specs.Limits.{gatesOfActionByte, textGates}
 use Rattle.clauses.specs.FrameSizes.{gatesAt}
 use Rattle.clauses.specs.declared.cost.GatesAt.{GatesAt}
 use Rattle.clauses.proofs.Bytes.{Reads, reads-got, reads-bad, reads-provided, reads-bind, int-bytes, bool-bytes, statement-bytes, list-bytes}
@@ -120,13 +121,13 @@ module _ (text : List ℕ) (names : Names) (end : ℕ) where
   list-ends : (nest at : ℕ) → Ends (list text names end nest at)
   list-ends nest at = listOf-ends (statement text names end nest) (statement-ends nest) at
 
--- at most 544 gates a byte, of at most 16,384 bytes
+-- at most gatesOfActionByte gates a byte, of at most maxBytes bytes
 pub record Few (r : GatesAt) : Type 0 where
-  pub ands : r .ands ≤ 8912896
-  pub wides : r .wides ≤ 8912896
-  pub next : r .next ≤ 16384
+  pub ands : r .ands ≤ textGates
+  pub wides : r .wides ≤ textGates
+  pub next : r .next ≤ maxBytes
 
-few : {A : Type 0} (f : A → Cost) (x : Read A) (end : ℕ) → end ≤ maxBytes → Reads (λ (a : A) (n : ℕ). gatesIn (f a) ≤ 544 * n) x → Reads (λ (a : A) (n : ℕ). n ≤ end) x
+few : {A : Type 0} (f : A → Cost) (x : Read A) (end : ℕ) → end ≤ maxBytes → Reads (λ (a : A) (n : ℕ). gatesIn (f a) ≤ gatesOfActionByte * n) x → Reads (λ (a : A) (n : ℕ). n ≤ end) x
     → (r : GatesAt) → r ≡ gatesAt f x → Few r
 few f (got a n) end l h k r e =
     let p = h .of a n refl in
@@ -142,7 +143,7 @@ module _ (text : List ℕ) (names : Names) (end : ℕ) (l : end ≤ maxBytes) wh
   pub bool-few : (d at : ℕ) (r : GatesAt) → r ≡ gatesAt boolCost (boolExpr text names end d at) → Few r
   bool-few d at r e = few boolCost _ end l (record { of = λ a n q. let h = bool-bytes text names end d at .of a n q in omega arith }) (bool-ends text names end d at) r e
 
-  module _ (bits : ℕ) (small : bits ≤ 544) where
+  module _ (bits : ℕ) (small : bits ≤ maxBits) where
     pub statement-few : (nest at : ℕ) (r : GatesAt) → r ≡ gatesAt (λ (x : Stmt). statementCost x bits) (statement text names end nest at) → Few r
     statement-few nest at r e =
         few (λ (x : Stmt). statementCost x bits) _ end l (record { of = λ a n q. let h = statement-bytes text names end bits small nest at .of a n q in omega arith }) (statement-ends text names end nest at) r e

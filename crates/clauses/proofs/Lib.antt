@@ -28,9 +28,7 @@ pub mod GateCounts
 pub mod ActionCounts
 pub mod CellCounts
 pub mod FrameCounts
-pub mod BitCounts
 pub mod FrameNumbers
-pub mod Answers
 pub mod Sizing
 pub mod Choosing
 pub mod Decodes

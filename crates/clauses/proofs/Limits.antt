@@ -1,4 +1,4 @@
--- "the limits keep n below 2^31": the formula of an accepted design for a bound up to 100 fits its machine numbers, and SIZE's answer is the
+-- "the limits keep n below 2^31": the formula of an accepted design for any bound fits its machine numbers, and SIZE's answer is the
 -- numbers that are computed from the tree.
 use mathlib.Core.Path.{_≡_, refl, sym}
 use mathlib.Core.Bool.{Bool, true, false, cond}
@@ -10,18 +10,22 @@ use lib.Dec.{leb, ltb}
 use lib.ListN.{length, getD}
 use Rattle.design.specs.Tree.{Design}
 use Rattle.design.specs.Check.{Checked, check}
+use Rattle.design.specs.Limits.{maxMovers, maxBits}
 use Rattle.design.specs.WellFormed.{WellFormed}
 use Rattle.design.proofs.WellFormed.{well-formed}
+use Rattle.step.specs.Property.{Property, propertyOf}
 use Rattle.clauses.specs.Words.{words}
 use Rattle.clauses.specs.Formula.{S, w, F, n, part, formula}
 use Rattle.clauses.specs.Cost.{gatesIn, clausesIn, wordsIn, pairCount, propertyCost, stepCost, firstClauses, firstWords, stepClauseCount, stepWordCount, clauseCount, wordCount, partWordCount}
 use Rattle.clauses.specs.Size.{sizesOf}
+use Rattle.step.specs.Limits.{maxBound}
+use Rattle.clauses.specs.Limits.{frameLimit}
 use Rattle.clauses.proofs.Frames.{P-is, G-is}
 use Rattle.clauses.proofs.Sizes.{formula-counts, part-words}
 use Rattle.clauses.proofs.Bounds.{Bounded, bounded}
 
 -- SIZE's answer, computed from the tree
-pub sizes-computed : (d : Design) → WellFormed d → (p k : ℕ) → sizesOf d p k ≡ record {
+pub sizes-computed : (d : Design) → WellFormed d → (p : Property) (k : ℕ) → sizesOf d p k ≡ record {
   stateBits = S d;
   propertyGates = gatesIn (propertyCost d p);
   movers = w d;
@@ -44,50 +48,60 @@ pub pairs-twice : (m : ℕ) → 2 * pairCount m ≡ m * (m - 1)
 pairs-twice zero = refl
 pairs-twice (suc m) = let q : suc m - 1 ≡ m = omega arith in rw q (omega (arith, pairs-twice m, square m, suc-mul m m))
 
-pair-bound : (m : ℕ) → m ≤ 64 → pairCount m ≤ 64 * m
+pair-bound : (m : ℕ) → m ≤ maxMovers → pairCount m ≤ maxMovers * m
 pair-bound zero h = omega arith
 pair-bound (suc m) h = let k = pair-bound m (omega arith) in omega arith
 
 -- what is bounded: the variables, the clauses and words of the formula, and the words of a part
-pub record Small (d : Design) (p k : ℕ) : Type 0 where
+pub record Small (d : Design) (p : Property) (k : ℕ) : Type 0 where
   pub variables : n d p k < 2 ^ 31
   pub formula-clauses : length (formula d p k) < 2 ^ 35
   pub formula-words : length (words (formula d p k)) < 2 ^ 35
   pub part-words : (i : ℕ) → length (words (part d p k i)) < 2 ^ 28
 
-module _ (d : Design) (wf : WellFormed d) (b : Bounded d) (p k : ℕ) (few : k ≤ 100) where
-  frame-bound : F d p ≤ 14144608
+module _ (d : Design) (wf : WellFormed d) (b : Bounded d) (number k : ℕ) (few : k ≤ maxBound) where
+  abbrev p : Property
+  p = propertyOf d number
+
+  frame-bound : F d p ≤ frameLimit
   unfolding F
-  frame-bound = omega (arith, P-is d p, G-is d wf p, b .gates p, b .bits, b .movers)
+  frame-bound = omega (arith, P-is d p, G-is d wf p, b .gates number, b .bits, b .movers)
 
   n-bound : n d p k < 2 ^ 31
   unfolding n
-  n-bound = let f : k * F d p ≤ 100 * 14144608 = mul-le-mul few frame-bound in omega (arith, P-is d p, b .gates p, b .bits)
+  n-bound = let f : k * F d p ≤ maxBound * frameLimit = mul-le-mul few frame-bound in omega (arith, P-is d p, b .gates number, b .bits)
 
-  ties-bound : w d * S d ≤ 34816
-  ties-bound = let f : w d * S d ≤ 64 * 544 = mul-le-mul (b .movers) (b .bits) in omega arith
+  ties-bound : w d * S d ≤ maxMovers * maxBits
+  ties-bound = mul-le-mul (b .movers) (b .bits)
 
-  step-words : stepWordCount d ≤ 16 * gatesIn (stepCost d) + 300000
+  -- what a step has beside its gates: the clause of all flags, their pairs, the ties
+  abbrev besideWords : ℕ
+  besideWords = 1 + maxMovers + 3 * (maxMovers * maxMovers) + 8 * (maxMovers * maxBits)
+
+  abbrev besideClauses : ℕ
+  besideClauses = 1 + maxMovers * maxMovers + 2 * (maxMovers * maxBits)
+
+  step-words : stepWordCount d ≤ 16 * gatesIn (stepCost d) + besideWords
   unfolding stepWordCount
   step-words = omega (arith, ties-bound, pair-bound (w d) (b .movers), b .movers)
 
-  step-clauses : stepClauseCount d ≤ 4 * gatesIn (stepCost d) + 100000
+  step-clauses : stepClauseCount d ≤ 4 * gatesIn (stepCost d) + besideClauses
   unfolding stepClauseCount
   step-clauses = omega (arith, ties-bound, pair-bound (w d) (b .movers), b .movers)
 
   words-bound : wordCount d p k < 2 ^ 35
   unfolding wordCount firstWords
   words-bound =
-      let x : (1 + k) * wordsIn (propertyCost d p) ≤ 101 * wordsIn (propertyCost d p) = mul-le-mul (let q : 1 + k ≤ 101 = omega arith in q) (le-refl (wordsIn (propertyCost d p))) in
-      let y : k * stepWordCount d ≤ 100 * (16 * gatesIn (stepCost d) + 300000) = mul-le-mul few step-words in
-      omega (arith, b .gates p, b .bits)
+      let x : (1 + k) * wordsIn (propertyCost d p) ≤ (1 + maxBound) * wordsIn (propertyCost d p) = mul-le-mul (let q : 1 + k ≤ 1 + maxBound = omega arith in q) (le-refl (wordsIn (propertyCost d p))) in
+      let y : k * stepWordCount d ≤ maxBound * (16 * gatesIn (stepCost d) + besideWords) = mul-le-mul few step-words in
+      omega (arith, b .gates number, b .bits)
 
   clauses-bound : clauseCount d p k < 2 ^ 35
   unfolding clauseCount firstClauses
   clauses-bound =
-      let x : (1 + k) * clausesIn (propertyCost d p) ≤ 101 * clausesIn (propertyCost d p) = mul-le-mul (let q : 1 + k ≤ 101 = omega arith in q) (le-refl (clausesIn (propertyCost d p))) in
-      let y : k * stepClauseCount d ≤ 100 * (4 * gatesIn (stepCost d) + 100000) = mul-le-mul few step-clauses in
-      omega (arith, b .gates p, b .bits)
+      let x : (1 + k) * clausesIn (propertyCost d p) ≤ (1 + maxBound) * clausesIn (propertyCost d p) = mul-le-mul (let q : 1 + k ≤ 1 + maxBound = omega arith in q) (le-refl (clausesIn (propertyCost d p))) in
+      let y : k * stepClauseCount d ≤ maxBound * (4 * gatesIn (stepCost d) + besideClauses) = mul-le-mul few step-clauses in
+      omega (arith, b .gates number, b .bits)
 
   part-bound : (i : ℕ) → partWordCount d p k i < 2 ^ 28
   unfolding partWordCount firstWords
@@ -95,8 +109,8 @@ module _ (d : Design) (wf : WellFormed d) (b : Bounded d) (p k : ℕ) (few : k �
   part-bound (suc j) = go (leb j k) (ltb j k)
     where
       go : (t u : Bool) → cond t (wordsIn (propertyCost d p) + cond u (stepWordCount d) 0) (k + 2) < 2 ^ 28
-      go true true = omega (arith, b .gates p, step-words)
-      go true false = omega (arith, b .gates p)
+      go true true = omega (arith, b .gates number, step-words)
+      go true false = omega (arith, b .gates number)
       go false u = omega arith
 
   pub small : Small d p k
@@ -109,5 +123,5 @@ module _ (d : Design) (wf : WellFormed d) (b : Bounded d) (p k : ℕ) (few : k �
         part-words = λ i. omega (arith, part-words d wf p k i, part-bound i);
       }
 
-pub small-of-file : (file : List ℕ) → ((i : ℕ) → getD file i 0 < 256) → (d : Design) → check file ≡ Checked.accepted d → (p k : ℕ) → k ≤ 100 → Small d p k
+pub small-of-file : (file : List ℕ) → ((i : ℕ) → getD file i 0 < 256) → (d : Design) → check file ≡ Checked.accepted d → (p k : ℕ) → k ≤ maxBound → Small d (propertyOf d p) k
 small-of-file file bytes d e p k few = small d (well-formed file bytes d e) (bounded file bytes d e) p k few

@@ -7,7 +7,8 @@ use Prim.Native.Nat.{ℕ, zero, suc, _<_}
 use native.Mathlib.Omega.{arith}
 use native.Mathlib.Decide.{ℕ-discrete}
 use lib.ListN.{length}
-use Rattle.clauses.specs.Theorem.{AllBelow, In, Distinct}
+use Rattle.step.specs.Breaking.{AllBelow}
+use Rattle.clauses.specs.Theorem.{In, Distinct}
 
 module _ {A : Type 0} where
   in-left : (a : A) (xs ys : List A) → In a xs → In a (xs ++ ys)

@@ -4,13 +4,13 @@ use mathlib.Core.Bool.{Bool, true, false, not, _||_}
 use mathlib.Core.List.{List, [], _∷_, _++_}
 use Prim.Native.Nat.{ℕ, zero, suc, _<_}
 use native.Mathlib.Omega.{arith}
-use lib.ListN.{replicate}
-use Rattle.design.specs.Tree.{Design}
+use lib.ListN.{length, replicate}
+use Rattle.design.specs.Tree.{Design, movers}
 use Rattle.design.specs.State.{State, start}
 use Rattle.design.specs.WellFormed.{WellFormed}
-use Rattle.step.specs.OneStep.{property, step, breaksFrom, breaks}
-use Rattle.clauses.specs.Formula.{w}
-use Rattle.clauses.specs.Theorem.{AllBelow}
+use Rattle.step.specs.Property.{Property}
+use Rattle.step.specs.OneStep.{holds, step, breaksFrom, breaks}
+use Rattle.step.specs.Breaking.{AllBelow}
 
 or-left : (a b : Bool) → a ≡ true → a || b ≡ true
 or-left true b e = refl
@@ -20,17 +20,17 @@ or-map : (a b c : Bool) → (b ≡ true → c ≡ true) → a || b ≡ true → 
 or-map true b c f e = refl
 or-map false b c f e = f e
 
-module _ (d : Design) (p : ℕ) where
-  breaks-now : (s : State) (xs : List ℕ) → not (property d p s) ≡ true → breaksFrom d p s xs ≡ true
+module _ (d : Design) (p : Property) where
+  breaks-now : (s : State) (xs : List ℕ) → not (holds d p s) ≡ true → breaksFrom d p s xs ≡ true
   unfolding breaksFrom
   breaks-now s [] e = e
-  breaks-now s (x ∷ xs) e = or-left (not (property d p s)) (breaksFrom d p (step d s x) xs) e
+  breaks-now s (x ∷ xs) e = or-left (not (holds d p s)) (breaksFrom d p (step d s x) xs) e
 
   breaks-on : (s : State) (cs xs : List ℕ) → breaksFrom d p s cs ≡ true → breaksFrom d p s (cs ++ xs) ≡ true
   unfolding breaksFrom
   breaks-on s [] xs e = breaks-now s xs e
   breaks-on s (c ∷ cs) xs e =
-      or-map (not (property d p s)) (breaksFrom d p (step d s c) cs) (breaksFrom d p (step d s c) (cs ++ xs)) (λ h. breaks-on (step d s c) cs xs h) e
+      or-map (not (holds d p s)) (breaksFrom d p (step d s c) cs) (breaksFrom d p (step d s c) (cs ++ xs)) (λ h. breaks-on (step d s c) cs xs h) e
 
   pub breaks-append : (cs xs : List ℕ) → breaks d p cs ≡ true → breaks d p (cs ++ xs) ≡ true
   unfolding breaks
@@ -44,6 +44,5 @@ pub zeros-below : (m k : ℕ) → 0 < m → AllBelow m (replicate k 0)
 zeros-below m zero h = tt
 zeros-below m (suc k) h = (h, zeros-below m k h)
 
-pub some-mover : (d : Design) → WellFormed d → 0 < w d
-unfolding w
+pub some-mover : (d : Design) → WellFormed d → 0 < length (movers d)
 some-mover d wf = wf .some-mover

@@ -11,12 +11,13 @@ use borrow.Author.Tests.{lt-ltb, le-ltb, le-leb, lt-leb}
 use Rattle.design.specs.Tree.{Design}
 use Rattle.design.specs.State.{widths, start}
 use Rattle.design.specs.WellFormed.{WellFormed}
+use Rattle.step.specs.Property.{Property, PropertyOk}
 use Rattle.step.specs.OneStep.{breaksFrom, breaks}
 use Rattle.clauses.specs.Literal.{trueLiteral}
 use Rattle.clauses.specs.Meaning.{Assignment, clauseTrue, satisfies}
 use Rattle.clauses.specs.Circuit.{Bits}
 use Rattle.clauses.specs.Formula.{total, flat, initialUnits, S, w, stateAt, P, frame, n, firstPart, propertyClauses, stepClauses, framePart, lastClause, part, partsFrom, formula, choicesFrom, choices}
-use Rattle.clauses.specs.Theorem.{AllBelow}
+use Rattle.step.specs.Breaking.{AllBelow}
 use Rattle.clauses.proofs.Gates.{all-apart, all-joined, both, both-l}
 use Rattle.clauses.proofs.Expressions.{stateOf, SlotsBelow, constant-word}
 use Rattle.clauses.proofs.Definitions.{Same, Definition, Ordered, Obeys, obeys-unique, define, define-same, define-obeys}
@@ -25,7 +26,7 @@ use Rattle.clauses.proofs.Frames.{or-false, framesFrom, state-wide, neg
 use Rattle.clauses.proofs.Runs.{S-is, run, run-ordered, run-to, run-from, choices-below}
 
 -- The parts joined: the first, those of the frames, and the last.
-module _ (d : Design) (p k : ℕ) where
+module _ (d : Design) (p : Property) (k : ℕ) where
   part-step : (j : ℕ) → j < k → part d p k (suc j) ≡ propertyClauses d p j ++ stepClauses d p j
   unfolding part framePart
   part-step j h = let l : j ≤ k = omega arith in rw (le-leb j k l, lt-ltb j k h)
@@ -72,7 +73,7 @@ constants-below n h [] vs = tt
 constants-below n h (w ∷ ws) [] = tt
 constants-below n h (w ∷ ws) (v ∷ vs) = (constant-word n w v h .below, constants-below n h ws vs)
 
-module _ (d : Design) (wf : WellFormed d) (p k : ℕ) where
+module _ (d : Design) (wf : WellFormed d) (p : Property) (ok : PropertyOk d p) (k : ℕ) where
   -- the first state, in constants
   abbrev firstBits : Bits
   firstBits = flat (constantSlots (widths d) (start d))
@@ -127,7 +128,7 @@ module _ (d : Design) (wf : WellFormed d) (p k : ℕ) where
   negated-breaks : (ρ : Assignment) → ρ 1 ≡ true → bitsOf ρ (flat (stateAt d (frame d p 0))) ≡ bitsOf ρ firstBits → satisfies ρ (framesFrom d p k 0) ≡ true
       → clauseTrue ρ (lastClause d p k) ≡ breaks d p (choices d p ρ k)
   unfolding breaks lastClause choices
-  negated-breaks ρ one e s = negated-is d wf p ρ one k 0 s ∙ ap (λ x. breaksFrom d p x (choicesFrom d p ρ k 0)) (begins ρ one e)
+  negated-breaks ρ one e s = negated-is d wf p ok ρ one k 0 s ∙ ap (λ x. breaksFrom d p x (choicesFrom d p ρ k 0)) (begins ρ one e)
 
   -- a satisfying assignment decodes to k choices that break the property
   pub decodes-long : (ρ : Assignment) → length (choices d p ρ k) ≡ k
@@ -148,7 +149,7 @@ module _ (d : Design) (wf : WellFormed d) (p k : ℕ) where
   whole-ordered : (cs : List ℕ) → length cs ≡ k → AllBelow (w d) cs → Ordered 2 (whole cs) (suc (n d p k))
   unfolding whole
   whole-ordered cs e lo =
-      rw (frame-zero d p k) at (run-ordered d wf p cs 0 firstBits (suc (n d p k)) first-wide
+      rw (frame-zero d p k) at (run-ordered d wf p ok cs 0 firstBits (suc (n d p k)) first-wide
       (rw (frame-zero d p k) (flat-below 2 (constantSlots (widths d) (start d)) (constants-below 2 (le-refl 2) (widths d) (start d)))) lo
       (rw e (last-variable d p k)))
 

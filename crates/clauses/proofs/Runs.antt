@@ -10,11 +10,12 @@ use lib.ListN.{length, getD, replicate}
 use Rattle.design.specs.Tree.{Design}
 use Rattle.design.specs.State.{widths}
 use Rattle.design.specs.WellFormed.{WellFormed}
+use Rattle.step.specs.Property.{Property, PropertyOk}
 use Rattle.clauses.specs.Literal.{literalOf}
 use Rattle.clauses.specs.Meaning.{Assignment, satisfies}
 use Rattle.clauses.specs.Circuit.{Bits}
 use Rattle.clauses.specs.Formula.{total, variablesFrom, flat, firstTrue, S, w, stateAt, propertyAt, flagsAt, stepAt, P, frame, choicesFrom}
-use Rattle.clauses.specs.Theorem.{AllBelow}
+use Rattle.step.specs.Breaking.{AllBelow}
 use Rattle.clauses.proofs.Arithmetic.{BitsBelow}
 use Rattle.clauses.proofs.Expressions.{literalOf-true, literalOf-below}
 use Rattle.clauses.proofs.Definitions.{Definition, Ordered, Obeys, ordered-append, obeys-split, obeys-join, ofGate, gates-ordered, facts-obey, obeys-facts, copies, copies-ordered, copies-say, say-copies}
@@ -64,7 +65,7 @@ state-to d ρ v ls l f = ap (bitsOf ρ) (state-variables d v ∙ ap (variablesFr
 state-from : (d : Design) (ρ : Assignment) (v : ℕ) (ls : Bits) → length ls ≡ S d → bitsOf ρ (flat (stateAt d v)) ≡ bitsOf ρ ls → Obeys ρ (copies v ls)
 state-from d ρ v ls l e = say-copies ρ v ls (ap (bitsOf ρ) (sym (state-variables d v ∙ ap (variablesFrom v) (sym l))) ∙ e)
 
-flags-to : (d : Design) (p : ℕ) (ρ : Assignment) → ρ 1 ≡ true → (v c : ℕ) → c < w d → Obeys ρ (copies ((propertyAt d p v) .next) (flagsOf (w d) c)) → OneHot ρ (flagsAt d p v) c
+flags-to : (d : Design) (p : Property) (ρ : Assignment) → ρ 1 ≡ true → (v c : ℕ) → c < w d → Obeys ρ (copies ((propertyAt d p v) .next) (flagsOf (w d) c)) → OneHot ρ (flagsAt d p v) c
 unfolding flagsAt
 flags-to d p ρ one v c h f =
     let x = (propertyAt d p v) .next in
@@ -74,14 +75,14 @@ flags-to d p ρ one v c h f =
           ∙ ap (λ k. oneHot k c) (sym (length-variables x (w d)));
     }
 
-flags-from : (d : Design) (p : ℕ) (ρ : Assignment) → ρ 1 ≡ true → (v c : ℕ) → OneHot ρ (flagsAt d p v) c → Obeys ρ (copies ((propertyAt d p v) .next) (flagsOf (w d) c))
+flags-from : (d : Design) (p : Property) (ρ : Assignment) → ρ 1 ≡ true → (v c : ℕ) → OneHot ρ (flagsAt d p v) c → Obeys ρ (copies ((propertyAt d p v) .next) (flagsOf (w d) c))
 unfolding flagsAt
 flags-from d p ρ one v c h =
     let x = (propertyAt d p v) .next in
     say-copies ρ x (flagsOf (w d) c)
     (ap (λ k. bitsOf ρ (variablesFrom x k)) (length-flags (w d) c) ∙ h .bits ∙ ap (λ k. oneHot k c) (length-variables x (w d)) ∙ sym (bits-literals ρ one (oneHot (w d) c)))
 
-module _ (d : Design) (wf : WellFormed d) (p : ℕ) where
+module _ (d : Design) (wf : WellFormed d) (p : Property) where
   -- the parts of a frame whose state is given by literals
   abbrev stateIs : ℕ → Bits → List Definition
   stateIs j ls = copies (frame d p j) ls
@@ -110,25 +111,25 @@ module _ (d : Design) (wf : WellFormed d) (p : ℕ) where
   result-below j c h =
       rw (frame-next d wf p j) at (flat-below ((stepAt d p (frame d p j)) .next) (getD ((stepAt d p (frame d p j)) .out) c []) (results d wf p j c h .below))
 
-  pub run-ordered : (cs : List ℕ) (j : ℕ) (ls : Bits) (m : ℕ) → length ls ≡ S d → BitsBelow (frame d p j) ls → AllBelow (w d) cs
+  pub run-ordered : PropertyOk d p → (cs : List ℕ) (j : ℕ) (ls : Bits) (m : ℕ) → length ls ≡ S d → BitsBelow (frame d p j) ls → AllBelow (w d) cs
       → m ≡ frame d p (j + length cs) + S d + P d p → Ordered (frame d p j) (run j ls cs) m
   unfolding run
-  run-ordered [] j ls m l b lo e =
+  run-ordered ok [] j ls m l b lo e =
       let v = frame d p j in
       let q : j + 0 ≡ j = omega arith in
       let e′ : (propertyAt d p v) .next ≡ m = omega (arith, property-next d p v, rw q at e) in
       ordered-append (copies-ordered ls v v (v + S d) (omega arith) (le-refl v) b)
-      (subst (λ x. Ordered (v + S d) (propertyIs j) x) e′ (gates-ordered (property-at d wf p v (frame-big d p j) .chain)))
-  run-ordered (c ∷ cs) j ls m l b lo e =
+      (subst (λ x. Ordered (v + S d) (propertyIs j) x) e′ (gates-ordered (property-at d wf p ok v (frame-big d p j) .chain)))
+  run-ordered ok (c ∷ cs) j ls m l b lo e =
       let v = frame d p j in
       let h = frame-big d p j in
       let x = (propertyAt d p v) .next in
       let q : j + suc (length cs) ≡ suc j + length cs = omega arith in
       ordered-append (copies-ordered ls v v (v + S d) (omega arith) (le-refl v) b)
-      (ordered-append (gates-ordered (property-at d wf p v h .chain))
+      (ordered-append (gates-ordered (property-at d wf p ok v h .chain))
       (ordered-append (copies-ordered (flagsOf (w d) c) 2 x (x + w d) (omega (arith, length-flags (w d) c)) (omega (arith, property-next d p v)) (literals-below 2 (le-refl 2) (oneHot (w d) c)))
       (ordered-append (subst (λ y. Ordered (x + w d) (stepIs j) y) (frame-next d wf p j) (gates-ordered (step-at d wf p v h .chain)))
-      (run-ordered cs (suc j) (result j c) m (result-wide j c (lo .0)) (result-below j c (lo .0)) (lo .1) (rw q at e)))))
+      (run-ordered ok cs (suc j) (result j c) m (result-wide j c (lo .0)) (result-below j c (lo .0)) (lo .1) (rw q at e)))))
 
   pub record Told (ρ : Assignment) (j : ℕ) (ls : Bits) (cs : List ℕ) : Type 0 where
     pub state : bitsOf ρ (flat (stateAt d (frame d p j))) ≡ bitsOf ρ ls

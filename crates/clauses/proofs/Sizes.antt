@@ -10,6 +10,7 @@ use lib.ListN.{length, length-append}
 use Rattle.design.specs.Tree.{Design}
 use Rattle.design.specs.State.{State, widths, start}
 use Rattle.design.specs.WellFormed.{InRange, WellFormed}
+use Rattle.step.specs.Property.{Property}
 use Rattle.clauses.specs.Literal.{Literal, Clause}
 use Rattle.clauses.specs.Words.{clauseWords, words}
 use Rattle.clauses.specs.Gate.{Gate, gatesClauses}
@@ -106,22 +107,22 @@ allTies-counts ws k (f ∷ fs) (r ∷ rs) bs e h l =
     (counts-append (ties-counts f (total ws) (flat r) bs (length-flat r ∙ ap total (h .0 .wide)) l) (allTies-counts ws k fs rs bs (omega arith) (h .1) l))
 
 -- "the negated property of frames": one word each, and the closing 0
-negated-long : (d : Design) (p m j : ℕ) → length (negatedFrom d p m j) ≡ m
+negated-long : (d : Design) (p : Property) (m j : ℕ) → length (negatedFrom d p m j) ≡ m
 unfolding negatedFrom
 negated-long d p zero j = refl
 negated-long d p (suc m) j = ap suc (negated-long d p m (suc j))
 
-pub last-counts : (d : Design) (p k : ℕ) → Counts (lastClause d p k ∷ []) 1 (k + 2)
+pub last-counts : (d : Design) (p : Property) (k : ℕ) → Counts (lastClause d p k ∷ []) 1 (k + 2)
 unfolding lastClause
 last-counts d p k = counts-same refl (omega (arith, negated-long d p (suc k) 0)) (counts-cons (negatedFrom d p (suc k) 0) counts-none)
 
-pub property-counts : (d : Design) (p j : ℕ) → Counts (propertyClauses d p j) (clausesIn (propertyCost d p)) (wordsIn (propertyCost d p))
+pub property-counts : (d : Design) (p : Property) (j : ℕ) → Counts (propertyClauses d p j) (clausesIn (propertyCost d p)) (wordsIn (propertyCost d p))
 unfolding propertyClauses
 property-counts d p j =
     let c = property-costs-at d p (frame d p j) in
     counts-same (omega (arith, c .ands, c .wides)) (omega (arith, c .ands, c .wides)) (gates-counts ((propertyAt d p (frame d p j)) .gates))
 
-module _ (d : Design) (wf : WellFormed d) (p : ℕ) where
+module _ (d : Design) (wf : WellFormed d) (p : Property) where
   pub first-counts : Counts (firstPart d p) (firstClauses d) (firstWords d)
   unfolding firstPart firstClauses firstWords S
   first-counts = counts-same (omega arith) (omega arith) (counts-cons _ (initial-counts (stateAt d (frame d p 0)) (widths d) (start d) (state-wide d (frame d p 0)) (wf .start)))

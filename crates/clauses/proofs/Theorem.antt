@@ -6,72 +6,80 @@ use Prim.Native.Nat.{ℕ, _-_, _<_, _≤_}
 use native.Mathlib.Omega.{arith}
 use lib.ListN.{length, getD, drop, replicate, length-append, length-replicate}
 use borrow.Author.Tests.{le-leb}
-use Rattle.design.specs.Tree.{Design}
+use Rattle.design.specs.Tree.{Design, movers}
 use Rattle.design.specs.Check.{Checked, check}
 use Rattle.design.specs.WellFormed.{WellFormed}
 use Rattle.design.proofs.WellFormed.{well-formed}
+use Rattle.step.specs.Property.{Property, propertyOf, PropertyOk}
 use Rattle.step.specs.OneStep.{breaks}
+use Rattle.step.specs.Gate.{gate}
+use Rattle.step.specs.Breaking.{Breaking, Breakable}
+use Rattle.step.proofs.Properties.{property-ok}
 use Rattle.clauses.specs.Meaning.{Assignment, satisfies, Satisfiable}
 use Rattle.clauses.specs.Words.{words}
 use Rattle.clauses.specs.Formula.{w, n, formula, choices}
-use Rattle.clauses.specs.Answer.{answer, onDesign, maxProperty, maxBound}
-use Rattle.clauses.specs.Theorem.{Breaking, Breakable, Stored, Theorem}
+use Rattle.design.specs.Answer.{answer, onDesign}
+use Rattle.step.specs.Limits.{lastProperty, maxBound}
+use Rattle.clauses.specs.Theorem.{Stored, Theorem}
 use Rattle.clauses.specs.Decode.{choicesToWrite, decode}
 use Rattle.clauses.proofs.Models.{decodes-long, decodes-movers, decodes-breaks, decodes-once, is-decoded}
 use Rattle.clauses.proofs.Within.{formula-within, words-back}
 use Rattle.clauses.proofs.Decoding.{decode-chooses}
 use Rattle.clauses.proofs.Longer.{breaks-append, below-append, zeros-below, some-mover}
 
-module _ (d : Design) (wf : WellFormed d) (p k : ℕ) where
+module _ (d : Design) (wf : WellFormed d) (p : Property) (ok : PropertyOk d p) (k : ℕ) where
   -- choices of mover 0 after it
   lengthen : (b : Breakable d p k) → Breaking d p k (b .list ++ replicate (k - length (b .list)) 0)
   lengthen b =
       let m = k - length (b .list) in
       record {
         long = omega (arith, length-append (b .list) (replicate m 0), length-replicate {A = ℕ} m 0, b .short);
-        movers = below-append (w d) (b .list) (replicate m 0) (b .movers) (zeros-below (w d) m (some-mover d wf));
+        movers = below-append (length (movers d)) (b .list) (replicate m 0) (b .movers) (zeros-below (length (movers d)) m (some-mover d wf));
         breaks = breaks-append d p (b .list) (replicate m 0) (b .breaks);
       }
 
   breaking : (ρ : Assignment) → satisfies ρ (formula d p k) ≡ true → Breaking d p k (choices d p ρ k)
-  breaking ρ s = record { long = decodes-long d wf p k ρ; movers = decodes-movers d wf p k ρ s; breaks = decodes-breaks d wf p k ρ s }
+  unfolding w
+  breaking ρ s = record { long = decodes-long d wf p ok k ρ; movers = decodes-movers d wf p ok k ρ s; breaks = decodes-breaks d wf p ok k ρ s }
 
   breakable : Satisfiable (formula d p k) → Breakable d p k
   breakable (ρ, s) = let b = breaking ρ s in record { list = choices d p ρ k; short = omega (arith, b .long); movers = b .movers; breaks = b .breaks }
 
   satisfied : Breakable d p k → Satisfiable (formula d p k)
+  unfolding w
   satisfied b =
       let l = lengthen b in
-      let r = is-decoded d wf p k (b .list ++ replicate (k - length (b .list)) 0) (l .long) (l .movers) (l .breaks) in
+      let r = is-decoded d wf p ok k (b .list ++ replicate (k - length (b .list)) 0) (l .long) (l .movers) (l .breaks) in
       (r .0, r .1)
 
   pub theorem : Theorem d p k
+  unfolding w
   theorem = record {
     decodes = breaking;
-    decoded = λ cs b. is-decoded d wf p k cs (b .long) (b .movers) (b .breaks);
-    once = λ ρ σ s t e v h l. decodes-once d wf p k ρ σ s t e v h (omega arith);
-    within = formula-within d wf p k;
+    decoded = λ cs b. is-decoded d wf p ok k cs (b .long) (b .movers) (b .breaks);
+    once = λ ρ σ s t e v h l. decodes-once d wf p ok k ρ σ s t e v h (omega arith);
+    within = formula-within d wf p ok k;
     satisfiable = (breakable, satisfied);
-    words = words-back (n d p k) (formula d p k) (formula-within d wf p k);
-    decode = λ ρ values s h. decode-chooses d wf p ρ values k s (h .long) (h .value);
+    words = words-back (n d p k) (formula d p k) (formula-within d wf p ok k);
+    decode = λ ρ values s h. decode-chooses d wf p ok ρ values k s (h .long) (h .value);
   }
 
 -- so of every accepted file, whose entries are bytes
-pub theorem-of-file : (file : List ℕ) → ((i : ℕ) → getD file i 0 < 256) → (d : Design) → check file ≡ Checked.accepted d → (p k : ℕ) → Theorem d p k
-theorem-of-file file bytes d e p k = theorem d (well-formed file bytes d e) p k
+pub theorem-of-file : (file : List ℕ) → ((i : ℕ) → getD file i 0 < 256) → (d : Design) → check file ≡ Checked.accepted d → (p k : ℕ) → Theorem d (propertyOf d p) k
+theorem-of-file file bytes d e p k = let wf = well-formed file bytes d e in theorem d wf (propertyOf d p) (property-ok d wf p) k
 
 -- "DECODE, if not refused, writes them": on the values of a satisfying assignment it is not refused.
-pub decode-writes : (file : List ℕ) (d : Design) → WellFormed d → check file ≡ Checked.accepted d → (p k : ℕ) → p ≤ maxProperty → k ≤ maxBound
-    → (ρ : Assignment) (values buffer : List ℕ) → satisfies ρ (formula d p k) ≡ true → Stored (n d p k) ρ values → k ≤ length buffer
-    → decode file p k values buffer ≡ record { answer = answer tt; choices = choices d p ρ k ++ drop k buffer }
-unfolding decode choicesToWrite onDesign
+pub decode-writes : (file : List ℕ) (d : Design) → WellFormed d → check file ≡ Checked.accepted d → (p k : ℕ) → p ≤ lastProperty → k ≤ maxBound
+    → (ρ : Assignment) (values buffer : List ℕ) → satisfies ρ (formula d (propertyOf d p) k) ≡ true → Stored (n d (propertyOf d p) k) ρ values → k ≤ length buffer
+    → decode file p k values buffer ≡ record { answer = answer tt; choices = choices d (propertyOf d p) ρ k ++ drop k buffer }
+unfolding decode choicesToWrite gate onDesign
 decode-writes file d wf e p k hp hk ρ values buffer s h l =
     rw (
       e,
-      le-leb p maxProperty hp,
+      le-leb p lastProperty hp,
       le-leb k maxBound hk,
-      le-leb (n d p k) (length values) (h .long),
+      le-leb (n d (propertyOf d p) k) (length values) (h .long),
       le-leb k (length buffer) l,
-      decode-chooses d wf p ρ values k s (h .long) (h .value),
-      decodes-long d wf p k ρ,
+      decode-chooses d wf (propertyOf d p) (property-ok d wf p) ρ values k s (h .long) (h .value),
+      decodes-long d wf (propertyOf d p) (property-ok d wf p) k ρ,
     )

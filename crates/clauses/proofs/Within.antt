@@ -9,6 +9,7 @@ use lib.IntN.{ℤ}
 use Rattle.design.specs.Tree.{Design, truth}
 use Rattle.design.specs.State.{State, widths, start}
 use Rattle.design.specs.WellFormed.{WellFormed}
+use Rattle.step.specs.Property.{Property, PropertyOk}
 use Rattle.clauses.specs.Literal.{Literal, positive, negative, negate, Clause}
 use Rattle.clauses.specs.Meaning.{Assignment, clauseTrue, satisfies, ClauseWithin, Within}
 use Rattle.clauses.specs.Words.{clauseWords, words, clausesOf}
@@ -106,7 +107,7 @@ within m (c ∷ cs) b = (clause m c (b .0), within m cs (b .1))
     clause m [] b = tt
     clause m (l ∷ ls) b = (omega arith, clause m ls (b .1))
 
-module _ (d : Design) (p : ℕ) where
+module _ (d : Design) (p : Property) where
   -- one past the last variable, where the last frame is frame j
   abbrev pub past : ℕ → ℕ
   past j = frame d p j + S d + P d p
@@ -123,7 +124,7 @@ module _ (d : Design) (p : ℕ) where
   unfolding n frame
   last-past k = omega arith
 
-module _ (d : Design) (wf : WellFormed d) (p : ℕ) where
+module _ (d : Design) (wf : WellFormed d) (p : Property) (ok : PropertyOk d p) where
   state-below : (j m : ℕ) → past d p j ≤ m → SlotsBelow m (stateAt d (frame d p j))
   state-below j m h = slots-up (omega arith) (stateAt d (frame d p j)) (state-fits d wf p (frame d p j) (frame-big d p j) .below)
 
@@ -132,7 +133,7 @@ module _ (d : Design) (wf : WellFormed d) (p : ℕ) where
   property-below j m h =
       let v = frame d p j in
       clauses-up (omega (arith, property-next d p v)) (gatesClauses ((propertyAt d p v) .gates))
-      (gates-below (omega (arith, frame-big d p j)) (property-at d wf p v (frame-big d p j) .chain))
+      (gates-below (omega (arith, frame-big d p j)) (property-at d wf p ok v (frame-big d p j) .chain))
 
   pub flags-below : (j m : ℕ) → past d p (suc j) ≤ m → BitsBelow m (flagsAt d p (frame d p j))
   unfolding flagsAt
@@ -169,7 +170,7 @@ module _ (d : Design) (wf : WellFormed d) (p : ℕ) where
   out-below : (j m : ℕ) → past d p j ≤ m → LiteralBelow m (negate ((propertyAt d p (frame d p j)) .out))
   out-below j m h =
       let v = frame d p j in
-      let b = negate-below ((propertyAt d p v) .next) ((propertyAt d p v) .out) (property-at d wf p v (frame-big d p j) .shape) in
+      let b = negate-below ((propertyAt d p v) .next) ((propertyAt d p v) .out) (property-at d wf p ok v (frame-big d p j) .shape) in
       omega (arith, property-next d p v)
 
   negated-below : (r j m : ℕ) → past d p (j + r) ≤ m → BitsBelow m (negatedFrom d p (suc r) j)

@@ -5,6 +5,7 @@ use mathlib.Core.List.{List, [], _∷_}
 use Prim.Native.Nat.{ℕ, zero, suc, _+_, _*_}
 use lib.Dec.{leb, ltb}
 use Rattle.design.specs.Tree.{IntExpr, BoolExpr, Stmt, Stmts, constant, variable, status, sum, difference, constantB, variableB, notB, andB, orB, equal, less, assign, assignB, ifElse, done, then, InvalidCell, Design, Mover, cell, raise, movers}
+use Rattle.step.specs.Property.{Property, invariant, noInvalidCell}
 use Rattle.clauses.specs.Formula.{S, w}
 
 -- `wides` are xors and muxes
@@ -91,9 +92,9 @@ pairCount (suc n) = n + pairCount n
 
 module _ (d : Design) where
   -- P gates, and G gates
-  unfoldable pub propertyCost : ℕ → Cost
-  propertyCost zero = boolCost (d .invariant)
-  propertyCost (suc p) = invalidCost (d .invalid)
+  unfoldable pub propertyCost : Property → Cost
+  propertyCost (invariant e) = boolCost e
+  propertyCost noInvalidCell = invalidCost (d .invalid)
 
   unfoldable pub stepCost : Cost
   stepCost = moversCost (S d) (movers d)
@@ -113,13 +114,13 @@ module _ (d : Design) where
   stepWordCount = 1 + w d + 3 * pairCount (w d) + wordsIn stepCost + 8 * (w d * S d)
 
   -- of the whole formula
-  unfoldable pub clauseCount : ℕ → ℕ → ℕ
+  unfoldable pub clauseCount : Property → ℕ → ℕ
   clauseCount p k = firstClauses + (1 + k) * clausesIn (propertyCost p) + k * stepClauseCount + 1
 
-  unfoldable pub wordCount : ℕ → ℕ → ℕ
+  unfoldable pub wordCount : Property → ℕ → ℕ
   wordCount p k = firstWords + (1 + k) * wordsIn (propertyCost p) + k * stepWordCount + (k + 2)
 
   -- of part i of the formula for bound k, for i up to k + 2
-  unfoldable pub partWordCount : ℕ → ℕ → ℕ → ℕ
+  unfoldable pub partWordCount : Property → ℕ → ℕ → ℕ
   partWordCount p k zero = firstWords
   partWordCount p k (suc j) = cond (leb j k) (wordsIn (propertyCost p) + cond (ltb j k) stepWordCount 0) (k + 2)

@@ -5,8 +5,10 @@ use Prim.Native.Nat.{ℕ, zero, suc, _+_, _-_}
 use lib.Dec.{leb, eqb}
 use lib.ListN.{length, take, drop}
 use Rattle.design.specs.Tree.{Design}
+use Rattle.step.specs.Property.{Property}
+use Rattle.step.specs.Gate.{gate}
 use Rattle.clauses.specs.Formula.{S, P, w, n, frame}
-use Rattle.clauses.specs.Answer.{Answer, refused, answer, need, onDesign, maxProperty, maxBound}
+use Rattle.design.specs.Answer.{Answer, refused, answer, need}
 
 -- every one is 0 or 1; how many are 1; the place of the first 1
 abbrev pub allBits : List ℕ → Bool
@@ -28,7 +30,7 @@ abbrev pub withChoice : ℕ → Answer (List ℕ) → Answer (List ℕ)
 withChoice c (refused number place) = refused number place
 withChoice c (answer cs) = answer (c ∷ cs)
 
-module _ (d : Design) (p : ℕ) (values : List ℕ) where
+module _ (d : Design) (p : Property) (values : List ℕ) where
   -- the values of a frame's flags, which are its variables after S state bits and P property gates
   unfoldable pub flagValues : ℕ → List ℕ
   flagValues j = take (w d) (drop (frame d p j + S d + P d p - 1) values)
@@ -41,11 +43,9 @@ module _ (d : Design) (p : ℕ) (values : List ℕ) where
 -- the choices that are to be written where there is room for so many: "DECODE: 13; 14; 16 values under n or choices under k; 18"
 unfoldable pub choicesToWrite : List ℕ → ℕ → ℕ → List ℕ → ℕ → Answer (List ℕ)
 choicesToWrite file p k values room =
-    onDesign file λ d.
-    need (leb p maxProperty) 13 0
-    (need (leb k maxBound) 14 0
-    (need (leb (n d p k) (length values) && leb k room) 16 0
-    (chosenFrom d p values k 0)))
+    gate file p k λ d q.
+    need (leb (n d q k) (length values) && leb k room) 16 0
+    (chosenFrom d q values k 0)
 
 -- the answer, which holds nothing, and the choices after the call
 pub record Decoded : Type 0 where

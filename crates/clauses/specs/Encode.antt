@@ -4,19 +4,18 @@ use Prim.Native.Nat.{ℕ, _+_}
 use lib.Dec.{leb}
 use lib.ListN.{length, drop}
 use lib.IntN.{ℤ}
+use Rattle.step.specs.Gate.{gate}
 use Rattle.clauses.specs.Words.{words}
 use Rattle.clauses.specs.Formula.{part}
-use Rattle.clauses.specs.Answer.{Answer, refused, answer, need, onDesign, maxProperty, maxBound}
+use Rattle.design.specs.Answer.{Answer, refused, answer, need}
 
 -- the words that are to be written to a buffer of this length: "ENCODE: 13; 14; 15 part over k+2; 16 buffer short."
 unfoldable pub wordsToWrite : List ℕ → ℕ → ℕ → ℕ → ℕ → Answer (List ℤ)
 wordsToWrite file p k i room =
-    onDesign file λ d.
-    need (leb p maxProperty) 13 0
-    (need (leb k maxBound) 14 0
-    (need (leb i (k + 2)) 15 0
-    (need (leb (length (words (part d p k i))) room) 16 0
-    (answer (words (part d p k i))))))
+    gate file p k λ d q.
+    need (leb i (k + 2)) 15 0
+    (need (leb (length (words (part d q k i))) room) 16 0
+    (answer (words (part d q k i))))
 
 -- the answer, and the buffer after the call
 pub record Encoded : Type 0 where

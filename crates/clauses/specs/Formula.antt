@@ -6,16 +6,16 @@ use lib.Dec.{ltb, leb}
 use lib.ListN.{length}
 use Rattle.design.specs.Tree.{Design, movers, truth}
 use Rattle.design.specs.State.{State, layout, widths, start}
+use Rattle.step.specs.Property.{Property, invariant, noInvalidCell, propertyOf}
+unfoldable pub use Rattle.design.specs.Tree.{w}
+pub use Rattle.design.specs.State.{total}
+unfoldable pub use Rattle.design.specs.State.{S}
 use Rattle.clauses.specs.Literal.{Literal, positive, negate, trueLiteral, Clause}
 use Rattle.clauses.specs.Meaning.{Assignment, literalTrue}
 use Rattle.clauses.specs.Gate.{gatesClauses}
 use Rattle.clauses.specs.Circuit.{Built, Build, give, _>>=_, and!, xor!, mux!, or!, Bits, sum!, difference!, less!, xors!, chain!, equal! }
 use Rattle.clauses.specs.Expression.{Slots, int!, bool! }
 use Rattle.clauses.specs.Action.{muxBits!, muxes!, statement!, statements!, statusAndEvent!, enable!, effect!, mover!, movers!, noInvalid! }
-
-abbrev pub total : List ℕ → ℕ
-total [] = 0
-total (x ∷ xs) = x + total xs
 
 -- so many variables from v on, and slots of given widths: "State bits S, low first: variables, then statuses."
 abbrev pub variablesFrom : ℕ → ℕ → Bits
@@ -67,17 +67,10 @@ firstTrue ρ [] = 0
 firstTrue ρ (f ∷ fs) = cond (literalTrue ρ f) 0 (suc (firstTrue ρ fs))
 
 module _ (d : Design) where
-  -- the number of state bits, and of movers
-  unfoldable pub S : ℕ
-  S = total (widths d)
-
-  unfoldable pub w : ℕ
-  w = length (movers d)
-
-  -- property 0 is the invariant; "Property 1 and-chains from true"
-  unfoldable pub property! : ℕ → Slots → Build Literal
-  property! zero s = bool! (layout d) s (d .invariant)
-  property! (suc p) s = noInvalid! (layout d) s trueLiteral (d .invalid)
+  -- the invariant's circuit; "Property 1 and-chains from true"
+  unfoldable pub property! : Property → Slots → Build Literal
+  property! (invariant e) s = bool! (layout d) s e
+  property! noInvalidCell s = noInvalid! (layout d) s trueLiteral (d .invalid)
 
   -- the results of all movers
   unfoldable pub step! : Slots → Build (List Slots)
@@ -87,15 +80,15 @@ module _ (d : Design) where
   unfoldable pub stateAt : ℕ → Slots
   stateAt v = slotsFrom v (widths d)
 
-  module _ (p : ℕ) where
+  module _ (p : Property) where
     unfoldable pub propertyAt : ℕ → Built Literal
-    propertyAt v = property! p (stateAt v) (v + S)
+    propertyAt v = property! p (stateAt v) (v + S d)
 
     unfoldable pub flagsAt : ℕ → Bits
-    flagsAt v = variablesFrom ((propertyAt v) .next) w
+    flagsAt v = variablesFrom ((propertyAt v) .next) (w d)
 
     unfoldable pub stepAt : ℕ → Built (List Slots)
-    stepAt v = step! (stateAt v) ((propertyAt v) .next + w)
+    stepAt v = step! (stateAt v) ((propertyAt v) .next + w d)
 
     unfoldable pub P : ℕ
     P = length ((propertyAt 2) .gates)
@@ -105,7 +98,7 @@ module _ (d : Design) where
 
     -- "so F=S+P+w+G"
     unfoldable pub F : ℕ
-    F = S + P + w + G
+    F = S d + P + w d + G
 
     -- "Frame j starts at 2+jF."
     unfoldable pub frame : ℕ → ℕ
@@ -113,7 +106,7 @@ module _ (d : Design) where
 
     -- "Bound k is 0..100 and n=1+kF+S+P"
     unfoldable pub n : ℕ → ℕ
-    n k = 1 + k * F + S + P
+    n k = 1 + k * F + S d + P
 
     -- "Parts: 0 is (1) and S initial units."
     unfoldable pub firstPart : List Clause
@@ -167,5 +160,5 @@ module _ (d : Design) where
 
 -- Not part of the formula: to unfold this is to unfold all of it, for facts about given designs.
 unfoldable pub encoding : ℕ
-unfolding give _>>=_ and! xor! mux! or! sum! difference! less! xors! chain! equal! int! bool! muxBits! muxes! statement! statements! statusAndEvent! enable! effect! mover! movers! noInvalid! movers layout widths start S w property! step! stateAt propertyAt flagsAt stepAt P G F frame n firstPart propertyClauses stepClauses framePart negatedFrom lastClause part partsFrom formula choicesFrom choices
+unfolding give _>>=_ and! xor! mux! or! sum! difference! less! xors! chain! equal! int! bool! muxBits! muxes! statement! statements! statusAndEvent! enable! effect! mover! movers! noInvalid! movers layout widths start S w propertyOf property! step! stateAt propertyAt flagsAt stepAt P G F frame n firstPart propertyClauses stepClauses framePart negatedFrom lastClause part partsFrom formula choicesFrom choices
 encoding = 0

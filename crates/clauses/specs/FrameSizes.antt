@@ -4,23 +4,32 @@ use mathlib.Core.Bool.{Bool, true, false, cond}
 use mathlib.Core.List.{List, [], _∷_}
 use Prim.Native.Nat.{ℕ, zero, suc, _+_, _*_, _≤_}
 use lib.Dec.{leb, ltb}
+use lib.ListN.{length}
 use Rattle.design.specs.Tree.{Stmt, Stmts, Design, cell}
 use Rattle.design.specs.Reading.{Read, got, bad}
-use Rattle.design.specs.DesignFile.{Entry, normal, invalid}
-use Rattle.design.specs.Check.{variableCount, matrixCount, eventIn}
-use Rattle.design.specs.Places.{Accepted, EventsIndexed}
+use Rattle.design.specs.DesignFile.{Entry, normal, invalid, c-matrix, c-event}
+use Rattle.design.specs.Limits.{maxMovers, maxBits}
+use Rattle.design.specs.Check.{eventIn}
+use Rattle.design.specs.Places.{StateBits, Indexed}
 use Rattle.design.specs.Sections.{Parts, Standing}
+use Rattle.step.specs.Property.{Property}
+use Rattle.design.specs.declared.shape.Shape.{Shape}
+use Rattle.design.specs.Places.{externalsFrom}
 use Rattle.clauses.specs.Formula.{S, w}
 use Rattle.clauses.specs.Cost.{Cost, cost, addCosts, gatesIn, clausesIn, wordsIn, pairCount, statementCost, statementsCost, statusAndEventCost, moverCost, propertyCost, stepCost}
+use Rattle.clauses.specs.Limits.{mostGates}
 use Rattle.clauses.specs.declared.cost.GatesAt.{GatesAt}
 use Rattle.clauses.specs.declared.frame.Gates.{Gates}
 use Rattle.clauses.specs.declared.frame.FrameSizes.{FrameSizes}
 use Rattle.clauses.specs.declared.frame.FormulaSizes.{FormulaSizes}
 
--- of what was read, its gates and the position past it
+-- no gates; and of what was read, its gates and the position past it
+abbrev pub noGates : ℕ → GatesAt
+noGates n = record { ands = 0; wides = 0; next = n }
+
 abbrev pub gatesAt : {A : Type 0} → (A → Cost) → Read A → GatesAt
 gatesAt f (got a n) = record { ands = f a .ands; wides = f a .wides; next = n }
-gatesAt f bad = record { ands = 0; wides = 0; next = 0 }
+gatesAt f bad = noGates 0
 
 -- one after the other, and so many gates more
 abbrev pub both : GatesAt → GatesAt → ℕ → ℕ → GatesAt
@@ -48,19 +57,15 @@ pub record HasGates (r : GatesAt) (c : Cost) : Type 0 where
   pub ands : r .ands ≡ c .ands
   pub wides : r .wides ≡ c .wides
 
--- few enough that a sum of several fits any machine number here
-pub record FewGates (r : GatesAt) : Type 0 where
-  pub ands : r .ands ≤ 16777216
-  pub wides : r .wides ≤ 16777216
+-- at most so many gates of each kind, so that a sum of several fits any machine number here
+pub record FewGates (most : ℕ) (r : GatesAt) : Type 0 where
+  pub ands : r .ands ≤ most
+  pub wides : r .wides ≤ most
 
--- an accepted file with its table of events, its counts and its number of state bits
-pub record Prepared (file table : List ℕ) (nv nm bits : ℕ) : Type 0 where
-  pub accepted : Accepted file
-  pub events : EventsIndexed file table
-  pub variables : nv ≡ variableCount file
-  pub matrices : nm ≡ matrixCount file
-  pub state : (d : Design) → Parts file d → bits ≡ S d
-  pub few : bits ≤ 544
+-- an accepted file with its table of events, and its shape with the state bits
+pub record Prepared (file table : List ℕ) (h : Shape) : Type 0 where
+  pub indexed : Indexed file table h
+  pub bits : StateBits file h
 
 -- a cell that stands at p
 pub record CellHere (file : List ℕ) (p : ℕ) : Type 0 where
@@ -69,6 +74,15 @@ pub record CellHere (file : List ℕ) (p : ℕ) : Type 0 where
   pub entry : Entry
   pub stands : Standing file (eventIn (parts .rows)) p entry
 
+-- the gates of status and event of the cell at p; and of that cell, where the normal cells count, or the invalid ones
+abbrev pub PlaceCounted : List ℕ → ℕ → GatesAt → Type 0
+PlaceCounted file p r =
+    (d : Design) (w : Parts file d) → HasGates r (statusAndEventCost (eventIn (w .rows) (c-matrix file p) (c-event file p)))
+
+abbrev pub CellCounted : List ℕ → ℕ → Bool → ℕ → GatesAt → Type 0
+CellCounted file bits t p r =
+    (d : Design) (w : Parts file d) (x : Entry) → Standing file (eventIn (w .rows)) p x → HasGates r (entryCost bits t x)
+
 -- What a frame holds, as the code has it.
 abbrev pub gatesOf : Cost → Gates
 gatesOf c = record { ands = c .ands; wides = c .wides }
@@ -76,14 +90,14 @@ gatesOf c = record { ands = c .ands; wides = c .wides }
 abbrev pub costIn : Gates → Cost
 costIn g = cost (g .ands) (g .wides)
 
-unfoldable pub frameSizes : Design → ℕ → FrameSizes
+unfoldable pub frameSizes : Design → Property → FrameSizes
 frameSizes d p = record { bits = S d; movers = w d; property = gatesOf (propertyCost d p); step = gatesOf (stepCost d) }
 
--- small enough for the formula of a bound up to 100
+-- small enough for the formula of any bound
 pub record SmallFrame (s : FrameSizes) : Type 0 where
-  pub bits : s .bits ≤ 544
-  pub movers : s .movers ≤ 64
-  pub gates : gatesIn (costIn (s .property)) + gatesIn (costIn (s .step)) ≤ 14144000
+  pub bits : s .bits ≤ maxBits
+  pub movers : s .movers ≤ maxMovers
+  pub gates : gatesIn (costIn (s .property)) + gatesIn (costIn (s .step)) ≤ mostGates
 
 -- The numbers of Cost.antt's last part, from the sizes of a frame.
 module _ (s : FrameSizes) where

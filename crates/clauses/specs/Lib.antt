@@ -10,9 +10,10 @@ pub mod Formula
 pub mod Writing
 pub mod Piece
 pub mod FlatState
+pub mod Encoded
 pub mod Cost
+pub mod Limits
 pub mod FrameSizes
-pub mod Answer
 pub mod Ready
 pub mod Size
 pub mod Encode

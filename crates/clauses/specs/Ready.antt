@@ -1,48 +1,136 @@
--- What the functions over an accepted file are given: its table of events and its counts.
+-- What the functions over an accepted file are given, its shape and its table of events, and what those for cells and movers write.
 use mathlib.Core.Path.{_≡_}
-use mathlib.Core.List.{List, _++_}
-use Prim.Native.Nat.{ℕ, _+_, _<_, _≤_}
-use lib.ListN.{length, getD, drop}
+use mathlib.Core.List.{List, [], _∷_, _++_, map}
+use Prim.Native.Nat.{ℕ, _+_, _*_, _<_, _≤_}
+use lib.ListN.{length, getD, take, drop}
 use lib.IntN.{ℤ}
-use Rattle.design.specs.Tree.{Design}
+use Rattle.design.specs.Tree.{BoolExpr, Variable, InvalidCell, Design, Mover, movers}
+use Rattle.design.specs.State.{width}
+use Rattle.design.specs.DesignFile.{c-kind, c-matrix, c-status, c-event}
 use Rattle.design.specs.Check.{Checked, check, variableCount, matrixCount}
-use Rattle.design.specs.Places.{Accepted, EventsIndexed, CellsIndexed}
-use Rattle.step.specs.Ready.{externalsFrom}
+use Rattle.design.specs.Places.{Accepted, EventsIndexed, CellsIndexed, externalsFrom}
+use Rattle.design.specs.Sections.{Parts}
+use Rattle.design.specs.declared.shape.Shape.{Shape}
+use Rattle.step.specs.Property.{Property, propertyOf}
+use Rattle.clauses.specs.Literal.{positive, trueLiteral}
 use Rattle.clauses.specs.Words.{words}
-use Rattle.clauses.specs.Formula.{total, variablesFrom, n, formula}
-use Rattle.clauses.specs.Expression.{Slots}
-use Rattle.clauses.specs.FlatState.{widthsOf, cut}
-use Rattle.clauses.specs.FrameSizes.{SmallFrame}
-use Rattle.clauses.specs.Answer.{maxProperty, maxBound}
+use Rattle.clauses.specs.Formula.{total, variablesFrom, slotsFrom, flat, initialUnits, ties, allTies, property!, F, n, frame, stepClauses, framePart, lastClause, part, formula}
+use Rattle.clauses.specs.Expression.{Slots, bool! }
+use Rattle.clauses.specs.Action.{statusAndEvent!, enable!, mover!, movers!, noInvalid! }
+use Rattle.clauses.specs.Writing.{variableLimit, strideLimit, fromCode, Puts, Emits}
+use Rattle.clauses.specs.Piece.{link! }
+use Rattle.clauses.specs.FlatState.{widthsIn, layoutOf, cut, slotsOf}
+use Rattle.clauses.specs.Encoded.{Gives, Writes}
+use Rattle.clauses.specs.FrameSizes.{frameSizes, SmallFrame}
+use Rattle.step.specs.Limits.{lastProperty, maxBound}
+use Rattle.clauses.specs.declared.gate.Cursor.{Cursor}
+use Rattle.clauses.specs.declared.gate.Out.{Out}
+use Rattle.clauses.specs.declared.mover.Moved.{Moved}
+use Rattle.clauses.specs.declared.movers.Stepped.{Stepped}
 use Rattle.clauses.specs.declared.frame.FrameSizes.{FrameSizes}
+use Rattle.clauses.specs.declared.instance.Instance.{Instance}
 
-pub record Ready (file table : List ℕ) (nv nm : ℕ) : Type 0 where
+pub record ShapedFile (file : List ℕ) (shape : Shape) : Type 0 where
   pub accepted : Accepted file
+  pub variables : shape .variables ≡ variableCount file
+  pub matrices : shape .matrices ≡ matrixCount file
+  pub externals : shape .externals ≡ length (externalsFrom file 0 (shape .variables))
+  pub bits : shape .bits ≡ total (widthsIn file shape)
+
+pub record Ready (file table : List ℕ) (shape : Shape) : Type 0 where
+  pub shaped : ShapedFile file shape
   pub events : EventsIndexed file table
-  pub variables : nv ≡ variableCount file
-  pub matrices : nm ≡ matrixCount file
 
 -- a mover's result: the variables of its muxes, from its first mux on
-unfoldable pub resultFrom : List ℕ → ℕ → ℕ → ℕ → Slots
-resultFrom file nv nm v = cut (widthsOf file nv nm) (variablesFrom v (total (widthsOf file nv nm)))
+unfoldable pub resultFrom : List ℕ → Shape → ℕ → Slots
+resultFrom file shape v = cut (widthsIn file shape) (variablesFrom v (total (widthsIn file shape)))
+
+-- What the functions for cells and movers write. `codes` are the state's literals, `f` finds the event that a cell names.
+module _ (file : List ℕ) (shape : Shape) (codes : List ℕ) where
+  abbrev pub BoolGates : BoolExpr → Cursor → List ℤ → List ℤ → Out → Type 0
+  BoolGates e pen xs ys r = Gives pen (bool! (layoutOf shape) (slotsOf file shape codes) e) xs ys r
+
+  abbrev pub CellGates : ℕ → (ℕ → ℕ → BoolExpr) → Cursor → List ℤ → List ℤ → Out → Type 0
+  CellGates p f pen xs ys r = Gives pen (statusAndEvent! (layoutOf shape) (slotsOf file shape codes) (c-matrix file p) (c-status file p) (f (c-matrix file p) (c-event file p))) xs ys r
+
+  abbrev pub EnableGates : Mover → Cursor → List ℤ → List ℤ → Out → Type 0
+  EnableGates m pen xs ys r = Gives pen (enable! (layoutOf shape) (slotsOf file shape codes) m) xs ys r
+
+  abbrev pub Moves : Mover → Cursor → List ℤ → List ℤ → Moved → Type 0
+  Moves m pen xs ys r = Emits (pen .var) (mover! (layoutOf shape) (slotsOf file shape codes) m (pen .var)) xs ys (pen .cur) (resultFrom file shape (r .first)) (r .cur) (r .var)
+
+  abbrev pub AllMove : Cursor → List ℤ → List ℤ → Stepped → Type 0
+  AllMove pen xs ys r =
+      (d : Design) (w : Parts file d) → Writes pen (movers! (layoutOf shape) (slotsOf file shape codes) (movers d)) xs ys (map (resultFrom file shape) (take (shape .normals + shape .externals) (r .firsts))) (r .pen)
+
+  -- a cell's link of property 1's chain, the chain, and either property
+  abbrev pub LinkGates : ℕ → (ℕ → ℕ → BoolExpr) → Out → List ℤ → List ℤ → Out → Type 0
+  LinkGates p f chain xs ys r =
+      Gives (record { cur = chain .cur; var = chain .var })
+      (link! (layoutOf shape) (slotsOf file shape codes) (fromCode (chain .lit)) (c-kind file p) (c-matrix file p) (c-status file p) (f (c-matrix file p) (c-event file p))) xs ys r
+
+  abbrev pub InvalidGates : List InvalidCell → Cursor → List ℤ → List ℤ → Out → Type 0
+  InvalidGates cs pen xs ys r = Gives pen (noInvalid! (layoutOf shape) (slotsOf file shape codes) trueLiteral cs) xs ys r
+
+  abbrev pub PropertyGates : Design → ℕ → Cursor → List ℤ → List ℤ → Out → Type 0
+  PropertyGates d p pen xs ys r = Gives pen (property! d (propertyOf d p) (slotsOf file shape codes)) xs ys r
+
+-- The ties of one mover, whose flag is f, and of all: results from r on, or from the variable that `firsts` has, and n bits from b on.
+module _ (n b : ℕ) (xs ys : List ℤ) (cur cur′ : ℕ) where
+  abbrev pub TiesPut : ℕ → ℕ → Type 0
+  TiesPut f r = f + 1 ≤ variableLimit → r + n ≤ variableLimit → b + n ≤ variableLimit → Puts (words (ties (positive f) (variablesFrom r n) (variablesFrom b n))) xs ys cur cur′
+
+  -- R names a result by its first variable
+  abbrev pub AllTiesPut : ℕ → ℕ → List ℕ → Type 0
+  AllTiesPut f all firsts =
+      f + all ≤ variableLimit → b + n ≤ variableLimit → ((k : ℕ) → k < all → getD firsts k 0 + n ≤ variableLimit) → (R : ℕ → Slots) → ((v : ℕ) → flat (R v) ≡ variablesFrom v n)
+      → Puts (words (allTies (variablesFrom f all) (map R (take all firsts)) (variablesFrom b n))) xs ys cur cur′
+
+-- What the writers of parts put: the units of the variables' initial values, the step out of frame j whose first variable is v, the last clause.
+module _ (file : List ℕ) (xs ys : List ℤ) (cur cur′ : ℕ) where
+  abbrev pub ValuesPut : Type 0
+  ValuesPut =
+      (d : Design) (w : Parts file d) → Puts (words (initialUnits (slotsFrom 2 (map (λ (x : Variable). width (x .kind)) (d .variables))) (map (λ (x : Variable). x .initial) (d .variables)))) xs ys cur cur′
+
+  abbrev pub StepPut : FrameSizes → ℕ → Type 0
+  StepPut s v =
+      (d : Design) (p j : ℕ) → check file ≡ Checked.accepted d → s ≡ frameSizes d (propertyOf d p) → j < maxBound → v ≡ frame d (propertyOf d p) j
+      → Puts (words (stepClauses d (propertyOf d p) j)) xs ys cur cur′
+
+  abbrev pub LastPut : ℕ → ℕ → ℕ → Type 0
+  LastPut p k stride = (d : Design) (w : Parts file d) → stride ≡ F d (propertyOf d p) → n d (propertyOf d p) k < variableLimit → Puts (words (lastClause d (propertyOf d p) k ∷ [])) xs ys cur cur′
+
+  -- a frame's part, any part, and all, of the formula that is written
+  abbrev pub FramePut : Instance → ℕ → Type 0
+  FramePut z j = (d : Design) → check file ≡ Checked.accepted d → z .sizes ≡ frameSizes d (propertyOf d (z .property)) → Puts (words (framePart d (propertyOf d (z .property)) (z .bound) j)) xs ys cur cur′
+
+  abbrev pub PartPut : Instance → ℕ → Type 0
+  PartPut z i = (d : Design) → check file ≡ Checked.accepted d → z .sizes ≡ frameSizes d (propertyOf d (z .property)) → Puts (words (part d (propertyOf d (z .property)) (z .bound) i)) xs ys cur cur′
+
+  abbrev pub FormulaPut : Instance → Type 0
+  FormulaPut z = (d : Design) → check file ≡ Checked.accepted d → z .sizes ≡ frameSizes d (propertyOf d (z .property)) → Puts (words (formula d (propertyOf d (z .property)) (z .bound))) xs ys cur cur′
+
+-- no frame starts above this
+abbrev pub startLimit : ℕ
+startLimit = 2 + maxBound * strideLimit
 
 -- what the writer of parts is given beside: both tables, that bytes are bytes, and the sizes of a frame
-pub record FrameReady (file events cells : List ℕ) (count nv nm : ℕ) (s : FrameSizes) : Type 0 where
-  pub ready : Ready file events nv nm
+pub record FrameReady (file events cells : List ℕ) (shape : Shape) (s : FrameSizes) : Type 0 where
+  pub ready : Ready file events shape
   pub bytes : (i : ℕ) → getD file i 0 < 256
-  pub normals : CellsIndexed file cells count
+  pub normals : CellsIndexed file cells (shape .normals)
   pub small : SmallFrame s
-  pub movers : s .movers ≡ count + length (externalsFrom file 0 nv)
+  pub movers : s .movers ≡ shape .normals + shape .externals
 
 -- What writing the whole formula for a bound asks for, and what it leaves: the words at the buffer's front, with the numbers of words and variables.
 pub record Writable (file : List ℕ) (p k : ℕ) (buffer : List ℤ) : Type 0 where
   pub design : Design
   pub accepted : check file ≡ Checked.accepted design
-  pub property : p ≤ maxProperty
+  pub property : p ≤ lastProperty
   pub bound : k ≤ maxBound
-  pub room : length (words (formula design p k)) ≤ length buffer
+  pub room : length (words (formula design (propertyOf design p) k)) ≤ length buffer
 
-pub record Written (d : Design) (p k : ℕ) (before after : List ℤ) (count variables : ℕ) : Type 0 where
+pub record Written (d : Design) (p : Property) (k : ℕ) (before after : List ℤ) (count variables : ℕ) : Type 0 where
   pub counted : count ≡ length (words (formula d p k))
   pub numbered : variables ≡ n d p k
   pub written : after ≡ words (formula d p k) ++ drop (length (words (formula d p k))) before

@@ -2,7 +2,7 @@
 use mathlib.Core.List.{List}
 use Prim.Native.Nat.{ℕ}
 use lib.IntN.{ℤ}
-use Rattle.clauses.specs.Answer.{Answer, refused, answer}
+use Rattle.design.specs.Answer.{Answer, refused, answer}
 use Rattle.clauses.specs.Size.{Sizes}
 use Rattle.clauses.specs.Encode.{Encoded, encode}
 use Rattle.clauses.specs.Decode.{Decoded, decode}

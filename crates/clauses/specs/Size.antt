@@ -1,12 +1,13 @@
 -- SIZE (document 01, "Turned-back calls").
 use mathlib.Core.List.{List}
 use Prim.Native.Nat.{ℕ}
-use lib.Dec.{leb}
 use lib.ListN.{length}
 use Rattle.design.specs.Tree.{Design}
+use Rattle.step.specs.Property.{Property}
+use Rattle.step.specs.Gate.{gate}
 use Rattle.clauses.specs.Words.{words}
 use Rattle.clauses.specs.Formula.{S, P, w, G, n, formula}
-use Rattle.clauses.specs.Answer.{Answer, answer, need, onDesign, maxProperty, maxBound}
+use Rattle.design.specs.Answer.{Answer, answer}
 
 pub record Sizes : Type 0 where
   pub stateBits : ℕ
@@ -18,7 +19,7 @@ pub record Sizes : Type 0 where
   pub words : ℕ
 
 -- "S, P, w, G, n and the whole formula's clauses and words"
-unfoldable pub sizesOf : Design → ℕ → ℕ → Sizes
+unfoldable pub sizesOf : Design → Property → ℕ → Sizes
 sizesOf d p k = record {
   stateBits = S d;
   propertyGates = P d p;
@@ -32,7 +33,5 @@ sizesOf d p k = record {
 -- "SIZE: 13; 14 bound over 100." 13 is "property over 1". "Places not named are 0."
 unfoldable pub size : List ℕ → ℕ → ℕ → Answer Sizes
 size file p k =
-    onDesign file λ d.
-    need (leb p maxProperty) 13 0
-    (need (leb k maxBound) 14 0
-    (answer (sizesOf d p k)))
+    gate file p k λ d q.
+    answer (sizesOf d q k)

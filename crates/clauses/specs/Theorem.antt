@@ -6,37 +6,20 @@ use mathlib.Core.List.{List, [], _∷_}
 use Prim.Native.Nat.{ℕ, zero, suc, _<_, _≤_}
 use lib.ListN.{length, getD}
 use Rattle.design.specs.Tree.{Design, bit}
-use Rattle.step.specs.OneStep.{breaks}
+use Rattle.step.specs.Property.{Property}
+use Rattle.step.specs.Breaking.{Breaking, Breakable}
 use Rattle.clauses.specs.Meaning.{Assignment, satisfies, Satisfiable, Within}
 use Rattle.clauses.specs.Words.{words, clausesOf}
-use Rattle.clauses.specs.Formula.{w, n, formula, choices}
-use Rattle.clauses.specs.Answer.{answer}
+use Rattle.clauses.specs.Formula.{n, formula, choices}
+use Rattle.design.specs.Answer.{answer}
 use Rattle.clauses.specs.Decode.{chosenFrom}
-
--- every choice is a mover's number
-abbrev pub AllBelow : ℕ → List ℕ → Type 0
-AllBelow w [] = Unit {0}
-AllBelow w (c ∷ cs) = (c < w) × AllBelow w cs
-
--- a list of k choices, each a mover's number, that breaks the property
-pub record Breaking (d : Design) (p k : ℕ) (cs : List ℕ) : Type 0 where
-  pub long : length cs ≡ k
-  pub movers : AllBelow (w d) cs
-  pub breaks : breaks d p cs ≡ true
-
--- a list of at most k choices that breaks the property
-pub record Breakable (d : Design) (p k : ℕ) : Type 0 where
-  pub list : List ℕ
-  pub short : length list ≤ k
-  pub movers : AllBelow (w d) list
-  pub breaks : breaks d p list ≡ true
 
 -- the values of variables 1..n are stored in a list of bytes, variable v at v - 1
 pub record Stored (n : ℕ) (ρ : Assignment) (values : List ℕ) : Type 0 where
   pub long : n ≤ length values
   pub value : (i : ℕ) → i < n → getD values i 0 ≡ bit (ρ (suc i))
 
-pub record Theorem (d : Design) (p k : ℕ) : Type 0 where
+pub record Theorem (d : Design) (p : Property) (k : ℕ) : Type 0 where
   -- every satisfying assignment of the formula for bound k decodes to a list of k choices that breaks the property
   pub decodes : (ρ : Assignment) → satisfies ρ (formula d p k) ≡ true → Breaking d p k (choices d p ρ k)
   -- every such list is decoded from one satisfying assignment,
@@ -58,7 +41,7 @@ abbrev pub assignmentOf : List Bool → Assignment
 assignmentOf bs zero = false
 assignmentOf bs (suc v) = getD bs v false
 
-pub record Model (d : Design) (p k : ℕ) (bs : List Bool) : Type 0 where
+pub record Model (d : Design) (p : Property) (k : ℕ) (bs : List Bool) : Type 0 where
   pub long : length bs ≡ n d p k
   pub satisfies : satisfies (assignmentOf bs) (formula d p k) ≡ true
 

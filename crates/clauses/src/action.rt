@@ -1,75 +1,57 @@
 // The gates of statements and lists of them: the statement walker and the list walker call each other, with the bytes left falling.
 // The state's literals stand in an array that is lent and changed in place; an if saves a copy.
 ghost use mathlib.Core.Path.{_≡_};
-ghost use Prim.Native.Nat.{ℕ, _+_, _*_, _≤_, _<_};
+ghost use Prim.Native.Nat.{_+_, _*_, _≤_};
 ghost use lib.ListN.{length, take};
-ghost use Rattle.design.specs.Tree.{Stmt, Stmts};
-ghost use Rattle.design.specs.Reading.{got};
-ghost use Rattle.design.specs.Action.{assignment, statement, list};
-ghost use Rattle.design.specs.Check.{namesOf};
-ghost use Rattle.clauses.specs.Action.{muxes!, statement!, statements! };
+ghost use Rattle.design.specs.Limits.{maxBits};
 ghost use Rattle.clauses.specs.Formula.{total};
-ghost use Rattle.clauses.specs.Writing.{fromCode, Emits};
-ghost use Rattle.clauses.specs.FlatState.{widthsOf, slotsOf, layoutOf, over, Slotted, Reads};
+ghost use Rattle.clauses.specs.FlatState.{widthsOf, over, Slotted};
+ghost use Rattle.clauses.specs.Encoded.{MuxesWritten, Here, assignsAt, stmtsAt, listsAt, AssignEncoded, StmtEncoded, ListEncoded};
 use super::expression::encode_bool;
 use super::expression::encode_int;
-use super::expression::offset;
+use super::gate::Cursor;
 use super::gate::emit_mux;
+use design::bits::offset;
+use design::bits::state_bits;
 use design::bytes::wide;
-use design::limits::MAX_DEPTH;
+use design::limits::MAX_BITS;
+use design::shape::Shape;
 
-// The cursor, the next variable, and the position past what was read.
+// The cursor, and the position past what was read.
 pub struct Done {
-    pub cur: usize,
-    pub var: u32,
+    pub pen: Cursor,
     pub next: usize,
-}
-
-// The number of state bits.
-pub fn state_bits(file: &[u8], nv: usize, nm: usize) -> usize
-    requires { ⌜ (3 * nv ≤ length (now file)) × (nv ≤ 32) × (nm ≤ 8) ⌝ }
-    ensures { λ r. ⌜ (r ≡ total (widthsOf (now (file .entry)) nv nm)) × (r ≤ 544) ⌝ }
-{
-    offset(file, nv) + 4 * nm
 }
 
 // A mux for every bit of the state, into `state`.
 pub fn muxes(
-    file: &[u8],
-    nv: usize,
-    nm: usize,
+    shape: Shape,
     c: u32,
-    state: &mut [u32; 544],
-    other: &[u32; 544],
+    state: &mut [u32; MAX_BITS],
+    other: &[u32; MAX_BITS],
     buf: &mut [i32],
-    cur: usize,
-    var: u32,
-) -> Done
-    requires { ⌜ Slotted (now file) nv nm (now state) × (length (now state) ≡ 544) × (length (now other) ≡ 544) ⌝ }
-    ensures { λ r. ⌜ Emits var (muxes! (fromCode c) (slotsOf (now (file .entry)) nv nm (now (state .entry))) (slotsOf (now (file .entry)) nv nm (now (other .entry))) var) (now (buf .entry)) (now (buf .exit)) cur (slotsOf (now (file .entry)) nv nm (now (state .exit))) (r .cur) (r .var) × (length (now (state .exit)) ≡ 544) ⌝ }
+    pen: Cursor,
+) -> Cursor
+    requires { ⌜ (shape .bits ≤ maxBits) × (length (now state) ≡ maxBits) × (length (now other) ≡ maxBits) ⌝ }
+    ensures { λ r. ⌜ MuxesWritten shape c (now (state .entry)) (now (other .entry)) (now (state .exit)) pen (now (buf .entry)) (now (buf .exit)) r × (length (now (state .exit)) ≡ maxBits) ⌝ }
 {
-    let s = state_bits(file, nv, nm);
-    let mut at = cur;
-    let mut g = var;
+    let mut at = pen.cur;
+    let mut g = pen.var;
     let mut i: usize = 0;
-    while i < s {
+    while i < shape.bits {
         let t = emit_mux(buf, at, g, c, state[i], other[i]);
         state[i] = t.lit;
         at = t.cur;
         g = t.var;
         i = i + 1;
     }
-    Done {
-        cur: at,
-        var: g,
-        next: 0,
-    }
+    Cursor { cur: at, var: g }
 }
 
 // The first w of sixteen literals into the state.
-pub fn store_word(state: &mut [u32; 544], off: usize, x: [u32; 16], w: usize)
-    requires { ⌜ (off + w ≤ 544) × (w ≤ 16) × (length (now state) ≡ 544) ⌝ }
-    ensures { λ r. ⌜ (now (state .exit) ≡ over off (take w x) (now (state .entry))) × (length (now (state .exit)) ≡ 544) ⌝ }
+pub fn store_word(state: &mut [u32; MAX_BITS], off: usize, x: [u32; 16], w: usize)
+    requires { ⌜ (off + w ≤ maxBits) × (w ≤ 16) × (length (now state) ≡ maxBits) ⌝ }
+    ensures { λ r. ⌜ (now (state .exit) ≡ over off (take w x) (now (state .entry))) × (length (now (state .exit)) ≡ maxBits) ⌝ }
 {
     let mut i: usize = 0;
     while i < w {
@@ -82,138 +64,61 @@ pub fn store_word(state: &mut [u32; 544], off: usize, x: [u32; 16], w: usize)
 pub fn encode_assign(
     file: &[u8],
     at: usize,
-    end: usize,
-    nv: usize,
-    nm: usize,
-    state: &mut [u32; 544],
+    shape: Shape,
+    state: &mut [u32; MAX_BITS],
     buf: &mut [i32],
-    cur: usize,
-    var: u32,
+    pen: Cursor,
 ) -> Done
-    requires { ⌜ (end ≤ length (now file)) × Slotted (now file) nv nm (now state) × (length (now state) ≡ 544) ⌝ }
-    requires { ⌜ Reads (assignment (now file) (namesOf (now file) nv nm) end at) ⌝ }
-    ensures { λ r. ⌜ ((t : Stmt) (n : ℕ) → assignment (now (file .entry)) (namesOf (now (file .entry)) nv nm) end at ≡ got t n → Emits var (statement! t (layoutOf nv) (slotsOf (now (file .entry)) nv nm (now (state .entry))) var) (now (buf .entry)) (now (buf .exit)) cur (slotsOf (now (file .entry)) nv nm (now (state .exit))) (r .cur) (r .var) × (r .next ≡ n)) × (length (now (state .exit)) ≡ 544) ⌝ }
+    requires { ⌜ Slotted (now file) shape (now state) × (length (now state) ≡ maxBits) × Here (now file) (assignsAt (now file) (now file) shape) at ⌝ }
+    ensures { λ r. ⌜ AssignEncoded (now (file .entry)) shape (now (state .entry)) (now (state .exit)) at pen (now (buf .entry)) (now (buf .exit)) r × (length (now (state .exit)) ≡ maxBits) ⌝ }
 {
     let v = wide(file[at]);
     let k = file[3 * v];
     let o = offset(file, v);
     if k == 1 {
-        let x = encode_int(
-            file,
-            file,
-            at + 1,
-            end,
-            nv,
-            nm,
-            MAX_DEPTH,
-            state,
-            buf,
-            cur,
-            var,
-        );
+        let x = encode_int(file, file, at + 1, shape, state, buf, pen);
         let w = x.lits;
         store_word(state, o, w, 16);
+        let done = x.pen;
         Done {
-            cur: x.cur,
-            var: x.var,
+            pen: done,
             next: x.next,
         }
     } else {
-        let x = encode_bool(
-            file,
-            file,
-            at + 1,
-            end,
-            nv,
-            nm,
-            MAX_DEPTH,
-            state,
-            buf,
-            cur,
-            var,
-        );
+        let x = encode_bool(file, file, at + 1, shape, state, buf, pen);
         state[o] = x.lit;
+        let done = x.pen;
         Done {
-            cur: x.cur,
-            var: x.var,
+            pen: done,
             next: x.next,
         }
     }
 }
 
-// The gates of the statement at `at`.
+// The gates of the statement at `at`: an assignment, or an if.
 pub fn encode_stmt(
     file: &[u8],
     at: usize,
-    end: usize,
-    nv: usize,
-    nm: usize,
-    nest: usize,
-    state: &mut [u32; 544],
+    shape: Shape,
+    state: &mut [u32; MAX_BITS],
     buf: &mut [i32],
-    cur: usize,
-    var: u32,
+    pen: Cursor,
 ) -> Done
-    requires { ⌜ (end ≤ length (now file)) × Slotted (now file) nv nm (now state) × (length (now state) ≡ 544) ⌝ }
-    requires { ⌜ Reads (statement (now file) (namesOf (now file) nv nm) end nest at) ⌝ }
-    ensures { λ r. ⌜ ((t : Stmt) (n : ℕ) → statement (now (file .entry)) (namesOf (now (file .entry)) nv nm) end nest at ≡ got t n → Emits var (statement! t (layoutOf nv) (slotsOf (now (file .entry)) nv nm (now (state .entry))) var) (now (buf .entry)) (now (buf .exit)) cur (slotsOf (now (file .entry)) nv nm (now (state .exit))) (r .cur) (r .var) × (r .next ≡ n)) × (length (now (state .exit)) ≡ 544) ⌝ }
+    requires { ⌜ Slotted (now file) shape (now state) × (length (now state) ≡ maxBits) × Here (now file) (stmtsAt (now file) (now file) shape) at ⌝ }
+    ensures { λ r. ⌜ StmtEncoded (now (file .entry)) shape (now (state .entry)) (now (state .exit)) at pen (now (buf .entry)) (now (buf .exit)) r × (length (now (state .exit)) ≡ maxBits) ⌝ }
 {
     let op = file[at];
-    match op {
-        0x20..=0x21 => {
-            if op == 0x20 {
-                return encode_assign(file, at + 1, end, nv, nm, state, buf, cur, var);
-            }
-            let c = encode_bool(
-                file,
-                file,
-                at + 1,
-                end,
-                nv,
-                nm,
-                MAX_DEPTH,
-                state,
-                buf,
-                cur,
-                var,
-            );
-            let mut other = *state;
-            let a = encode_list(
-                file,
-                c.next,
-                end,
-                nv,
-                nm,
-                nest - 1,
-                state,
-                buf,
-                c.cur,
-                c.var,
-            );
-            let b = encode_list(
-                file,
-                a.next,
-                end,
-                nv,
-                nm,
-                nest - 1,
-                &mut other,
-                buf,
-                a.cur,
-                a.var,
-            );
-            let m = muxes(file, nv, nm, c.lit, state, &other, buf, b.cur, b.var);
-            Done {
-                cur: m.cur,
-                var: m.var,
-                next: b.next,
-            }
-        }
-        _ => Done {
-            cur: cur,
-            var: var,
-            next: at,
-        },
+    if op == 0x20 {
+        return encode_assign(file, at + 1, shape, state, buf, pen);
+    }
+    let c = encode_bool(file, file, at + 1, shape, state, buf, pen);
+    let mut other = *state;
+    let a = encode_list(file, c.next, shape, state, buf, c.pen);
+    let b = encode_list(file, a.next, shape, &mut other, buf, a.pen);
+    let m = muxes(shape, c.lit, state, &other, buf, b.pen);
+    Done {
+        pen: m,
+        next: b.next,
     }
 }
 
@@ -221,33 +126,26 @@ pub fn encode_stmt(
 pub fn encode_list(
     file: &[u8],
     at: usize,
-    end: usize,
-    nv: usize,
-    nm: usize,
-    nest: usize,
-    state: &mut [u32; 544],
+    shape: Shape,
+    state: &mut [u32; MAX_BITS],
     buf: &mut [i32],
-    cur: usize,
-    var: u32,
+    pen: Cursor,
 ) -> Done
-    requires { ⌜ (end ≤ length (now file)) × Slotted (now file) nv nm (now state) × (length (now state) ≡ 544) ⌝ }
-    requires { ⌜ Reads (list (now file) (namesOf (now file) nv nm) end nest at) ⌝ }
-    ensures { λ r. ⌜ ((t : Stmts) (n : ℕ) → list (now (file .entry)) (namesOf (now (file .entry)) nv nm) end nest at ≡ got t n → Emits var (statements! t (layoutOf nv) (slotsOf (now (file .entry)) nv nm (now (state .entry))) var) (now (buf .entry)) (now (buf .exit)) cur (slotsOf (now (file .entry)) nv nm (now (state .exit))) (r .cur) (r .var) × (r .next ≡ n)) × (length (now (state .exit)) ≡ 544) ⌝ }
+    requires { ⌜ Slotted (now file) shape (now state) × (length (now state) ≡ maxBits) × Here (now file) (listsAt (now file) (now file) shape) at ⌝ }
+    ensures { λ r. ⌜ ListEncoded (now (file .entry)) shape (now (state .entry)) (now (state .exit)) at pen (now (buf .entry)) (now (buf .exit)) r × (length (now (state .exit)) ≡ maxBits) ⌝ }
 {
     let mut left = wide(file[at]);
     let mut p = at + 1;
-    let mut c = cur;
-    let mut v = var;
+    let mut c = pen.cur;
+    let mut v = pen.var;
     while 0 < left {
-        let r = encode_stmt(file, p, end, nv, nm, nest, state, buf, c, v);
+        let from = Cursor { cur: c, var: v };
+        let r = encode_stmt(file, p, shape, state, buf, from);
         p = r.next;
-        c = r.cur;
-        v = r.var;
+        c = r.pen.cur;
+        v = r.pen.var;
         left = left - 1;
     }
-    Done {
-        cur: c,
-        var: v,
-        next: p,
-    }
+    let done = Cursor { cur: c, var: v };
+    Done { pen: done, next: p }
 }

@@ -5,6 +5,7 @@ ghost use Rattle.clauses.specs.Literal.{negate as negated};
 ghost use Rattle.clauses.specs.Circuit.{negateTop, sum!, difference!, less!, xors!, chain!, equal! };
 ghost use Rattle.clauses.specs.Writing.{fromCode, fromCodes, Emits};
 ghost use Rattle.clauses.specs.Piece.{sumBit! };
+ghost use Rattle.clauses.specs.Encoded.{Sums, SumsBit};
 use super::gate::Out;
 use super::gate::emit_and;
 use super::gate::emit_or;
@@ -28,7 +29,7 @@ pub struct Word {
 
 // One bit of a sum.
 pub fn sum_bit(buf: &mut [i32], cur: usize, var: u32, a: u32, b: u32, c: u32) -> Bit
-    ensures { λ r. ⌜ Emits var (sumBit! (fromCode a) (fromCode b) (fromCode c) var) (now (buf .entry)) (now (buf .exit)) cur (record { bit = fromCode (r .bit); carry = fromCode (r .carry) }) (r .cur) (r .var) ⌝ }
+    ensures { λ r. ⌜ SumsBit cur var (sumBit! (fromCode a) (fromCode b) (fromCode c)) (now (buf .entry)) (now (buf .exit)) r ⌝ }
 {
     let p = emit_xor(buf, cur, var, a, b);
     let s = emit_xor(buf, p.cur, p.var, p.lit, c);
@@ -45,7 +46,7 @@ pub fn sum_bit(buf: &mut [i32], cur: usize, var: u32, a: u32, b: u32, c: u32) ->
 
 // The sum's bits and the last carry.
 pub fn sum(a: [u32; 16], b: [u32; 16], c: u32, buf: &mut [i32], cur: usize, var: u32) -> Word
-    ensures { λ r. ⌜ Emits var (sum! (fromCodes a) (fromCodes b) (fromCode c) var) (now (buf .entry)) (now (buf .exit)) cur (record { bits = fromCodes (r .lits); carry = fromCode (r .carry) }) (r .cur) (r .var) ⌝ }
+    ensures { λ r. ⌜ Sums cur var (sum! (fromCodes a) (fromCodes b) (fromCode c)) (now (buf .entry)) (now (buf .exit)) r ⌝ }
 {
     let mut out = [0u32; 16];
     let mut carry = c;
@@ -89,7 +90,7 @@ pub fn negate_top(b: [u32; 16]) -> [u32; 16]
 }
 
 pub fn difference(a: [u32; 16], b: [u32; 16], buf: &mut [i32], cur: usize, var: u32) -> Word
-    ensures { λ r. ⌜ Emits var (difference! (fromCodes a) (fromCodes b) var) (now (buf .entry)) (now (buf .exit)) cur (record { bits = fromCodes (r .lits); carry = fromCode (r .carry) }) (r .cur) (r .var) ⌝ }
+    ensures { λ r. ⌜ Sums cur var (difference! (fromCodes a) (fromCodes b)) (now (buf .entry)) (now (buf .exit)) r ⌝ }
 {
     sum(a, negate_all(b), TRUE, buf, cur, var)
 }

@@ -2,15 +2,15 @@
 // number name them.
 ghost use mathlib.Core.Path.{_≡_};
 ghost use mathlib.Core.Bool.{cond};
-ghost use mathlib.Core.List.{map};
-ghost use Prim.Native.Nat.{ℕ, _+_, _≤_, _<_};
-ghost use lib.ListN.{length, getD, take};
+ghost use Prim.Native.Nat.{_+_, _*_, _≤_, _<_};
+ghost use lib.ListN.{length, take};
+ghost use Rattle.design.specs.Limits.{maxMatrices, maxMovers, maxBits};
 ghost use Rattle.design.specs.Tree.{truth};
 ghost use Rattle.clauses.specs.Literal.{positive as positively, negate as negated};
 ghost use Rattle.clauses.specs.Words.{clauseWords, words};
-ghost use Rattle.clauses.specs.Expression.{Slots};
-ghost use Rattle.clauses.specs.Formula.{variablesFrom, flat, unitsOf, against, pairs, ties, allTies};
-ghost use Rattle.clauses.specs.Writing.{fromCode, fromCodes, Puts};
+ghost use Rattle.clauses.specs.Formula.{variablesFrom, unitsOf, against, pairs};
+ghost use Rattle.clauses.specs.Writing.{variableLimit, fromCode, fromCodes, Puts};
+ghost use Rattle.clauses.specs.Ready.{TiesPut, AllTiesPut};
 use super::gate::clause1;
 use super::gate::clause2;
 use super::gate::clause3;
@@ -19,13 +19,15 @@ use super::literal::next;
 use super::literal::positive;
 use super::literal::put_end;
 use super::literal::put_literal;
+use design::limits::MAX_BITS;
+use design::limits::MAX_MOVERS;
 
 // The literals of n variables from v on.
-pub fn variables(v: u32, n: usize) -> [u32; 544]
-    requires { ⌜ n ≤ 544 ⌝ }
-    ensures { λ r. ⌜ (v + n ≤ 2147483648 → take n (fromCodes r) ≡ variablesFrom v n) ⌝ }
+pub fn variables(v: u32, n: usize) -> [u32; MAX_BITS]
+    requires { ⌜ n ≤ maxBits ⌝ }
+    ensures { λ r. ⌜ (v + n ≤ variableLimit → take n (fromCodes r) ≡ variablesFrom v n) ⌝ }
 {
-    let mut out = [0u32; 544];
+    let mut out = [0u32; MAX_BITS];
     let mut x = v;
     let mut i: usize = 0;
     while i < n {
@@ -38,8 +40,8 @@ pub fn variables(v: u32, n: usize) -> [u32; 544]
 
 // The clause of n variables from v on.
 pub fn put_any(buf: &mut [i32], cur: usize, v: u32, n: usize) -> usize
-    requires { ⌜ n ≤ 64 ⌝ }
-    ensures { λ r. ⌜ (v + n ≤ 2147483648 → Puts (clauseWords (variablesFrom v n)) (now (buf .entry)) (now (buf .exit)) cur r) ⌝ }
+    requires { ⌜ n ≤ maxMovers ⌝ }
+    ensures { λ r. ⌜ (v + n ≤ variableLimit → Puts (clauseWords (variablesFrom v n)) (now (buf .entry)) (now (buf .exit)) cur r) ⌝ }
 {
     let mut at = cur;
     let mut x = v;
@@ -54,8 +56,8 @@ pub fn put_any(buf: &mut [i32], cur: usize, v: u32, n: usize) -> usize
 
 // (-f -h) for each of n variables h from v on.
 pub fn put_against(buf: &mut [i32], cur: usize, f: u32, v: u32, n: usize) -> usize
-    requires { ⌜ n ≤ 64 ⌝ }
-    ensures { λ r. ⌜ (f + 1 ≤ 2147483648 → v + n ≤ 2147483648 → Puts (words (against (positively f) (variablesFrom v n))) (now (buf .entry)) (now (buf .exit)) cur r) ⌝ }
+    requires { ⌜ n ≤ maxMovers ⌝ }
+    ensures { λ r. ⌜ (f + 1 ≤ variableLimit → v + n ≤ variableLimit → Puts (words (against (positively f) (variablesFrom v n))) (now (buf .entry)) (now (buf .exit)) cur r) ⌝ }
 {
     let nf = negate(positive(f));
     let mut at = cur;
@@ -71,8 +73,8 @@ pub fn put_against(buf: &mut [i32], cur: usize, f: u32, v: u32, n: usize) -> usi
 
 // (-f -h) for each pair of n variables from v on.
 pub fn put_pairs(buf: &mut [i32], cur: usize, v: u32, n: usize) -> usize
-    requires { ⌜ n ≤ 64 ⌝ }
-    ensures { λ r. ⌜ (v + n ≤ 2147483648 → Puts (words (pairs (variablesFrom v n))) (now (buf .entry)) (now (buf .exit)) cur r) ⌝ }
+    requires { ⌜ n ≤ maxMovers ⌝ }
+    ensures { λ r. ⌜ (v + n ≤ variableLimit → Puts (words (pairs (variablesFrom v n))) (now (buf .entry)) (now (buf .exit)) cur r) ⌝ }
 {
     let mut at = cur;
     let mut x = v;
@@ -88,8 +90,8 @@ pub fn put_pairs(buf: &mut [i32], cur: usize, v: u32, n: usize) -> usize
 
 // (-f -r b)(-f r -b) for each of n results from r on and bits from b on.
 pub fn put_ties(buf: &mut [i32], cur: usize, f: u32, r: u32, b: u32, n: usize) -> usize
-    requires { ⌜ n ≤ 544 ⌝ }
-    ensures { λ z. ⌜ (f + 1 ≤ 2147483648 → r + n ≤ 2147483648 → b + n ≤ 2147483648 → Puts (words (ties (positively f) (variablesFrom r n) (variablesFrom b n))) (now (buf .entry)) (now (buf .exit)) cur z) ⌝ }
+    requires { ⌜ n ≤ maxBits ⌝ }
+    ensures { λ z. ⌜ TiesPut n b (now (buf .entry)) (now (buf .exit)) cur z f r ⌝ }
 {
     let nf = negate(positive(f));
     let mut at = cur;
@@ -108,18 +110,18 @@ pub fn put_ties(buf: &mut [i32], cur: usize, f: u32, r: u32, b: u32, n: usize) -
     at
 }
 
-// The ties of `all` movers: their flags from f on, the first variables of their results, n bits from b on. R names a result by its first variable.
+// The ties of `all` movers: their flags from f on, the first variables of their results, n bits from b on.
 pub fn put_all_ties(
     buf: &mut [i32],
     cur: usize,
     f: u32,
     all: usize,
-    firsts: &[u32; 64],
+    firsts: &[u32; MAX_MOVERS],
     b: u32,
     n: usize,
 ) -> usize
-    requires { ⌜ (all ≤ 64) × (n ≤ 544) × (length (now firsts) ≡ 64) ⌝ }
-    ensures { λ r. ⌜ (f + all ≤ 2147483648 → b + n ≤ 2147483648 → ((k : ℕ) → k < all → getD (now (firsts .entry)) k 0 + n ≤ 2147483648) → (R : ℕ → Slots) → ((v : ℕ) → flat (R v) ≡ variablesFrom v n) → Puts (words (allTies (variablesFrom f all) (map R (take all (now (firsts .entry)))) (variablesFrom b n))) (now (buf .entry)) (now (buf .exit)) cur r) ⌝ }
+    requires { ⌜ (all ≤ maxMovers) × (n ≤ maxBits) × (length (now firsts) ≡ maxMovers) ⌝ }
+    ensures { λ r. ⌜ AllTiesPut n b (now (buf .entry)) (now (buf .exit)) cur r f all (now (firsts .entry)) ⌝ }
 {
     let mut at = cur;
     let mut x = f;
@@ -134,8 +136,8 @@ pub fn put_all_ties(
 
 // The units that give n variables from v on the bits of a value.
 pub fn put_units(buf: &mut [i32], cur: usize, v: u32, n: usize, value: usize) -> usize
-    requires { ⌜ n ≤ 32 ⌝ }
-    ensures { λ r. ⌜ (v + n ≤ 2147483648 → Puts (words (unitsOf (variablesFrom v n) value)) (now (buf .entry)) (now (buf .exit)) cur r) ⌝ }
+    requires { ⌜ n ≤ 4 * maxMatrices ⌝ }
+    ensures { λ r. ⌜ (v + n ≤ variableLimit → Puts (words (unitsOf (variablesFrom v n) value)) (now (buf .entry)) (now (buf .exit)) cur r) ⌝ }
 {
     let mut at = cur;
     let mut x = v;
@@ -152,7 +154,7 @@ pub fn put_units(buf: &mut [i32], cur: usize, v: u32, n: usize, value: usize) ->
 
 // A variable's literal, negative for the bit 0.
 pub fn signed_by(v: u32, bit: usize) -> u32
-    ensures { λ r. ⌜ (v + 1 ≤ 2147483648 → fromCode r ≡ cond (truth bit) (positively v) (negated (positively v))) ⌝ }
+    ensures { λ r. ⌜ (v + 1 ≤ variableLimit → fromCode r ≡ cond (truth bit) (positively v) (negated (positively v))) ⌝ }
 {
     if bit == 0 {
         negate(positive(v))

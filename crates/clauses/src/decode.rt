@@ -3,14 +3,15 @@ ghost use mathlib.Core.Path.{_≡_};
 ghost use mathlib.Core.List.{_++_};
 ghost use Prim.Native.Nat.{_+_, _*_, _≤_};
 ghost use lib.ListN.{length, drop};
+ghost use Rattle.design.specs.Limits.{maxMovers};
 ghost use Rattle.design.specs.Places.{Accepted};
+ghost use Rattle.step.specs.Limits.{lastProperty, maxBound};
 ghost use Rattle.clauses.specs.Chosen.{firstNonzero, allZero, chosenIn, firstBad, chosenList};
 ghost use Rattle.clauses.specs.Replies.{DECODE};
-use super::MAX_BOUND;
-use super::MAX_PROPERTY;
 use super::frame::frame_length;
 use super::frame::sizes;
 use super::frame::variables;
+use step::gate::gate;
 
 pub enum DecodeReply {
     Refused { number: u8, place: usize },
@@ -90,7 +91,7 @@ pub fn write_choices(
     k: usize,
     choices: &mut [u8],
 )
-    requires { ⌜ (base + k * size ≤ length (now values)) × (w ≤ size) × (w ≤ 64) × (k ≤ length (now choices)) ⌝ }
+    requires { ⌜ (base + k * size ≤ length (now values)) × (w ≤ size) × (w ≤ maxMovers) × (k ≤ length (now choices)) ⌝ }
     ensures { λ r. ⌜ now (choices .exit) ≡ chosenList (now (values .entry)) size w k base ++ drop k (now (choices .entry)) ⌝ }
 {
     let mut at = base;
@@ -106,17 +107,17 @@ pub fn write_choices(
 // DECODE on an accepted design, for a property and a bound that are in range.
 pub fn decode_accepted(
     file: &[u8],
-    property: u8,
-    bound: u8,
+    property: u64,
+    bound: u64,
     values: &[u8],
     choices: &mut [u8],
 ) -> DecodeReply
-    requires { ⌜ Accepted (now file) × (property ≤ 1) × (bound ≤ 100) ⌝ }
+    requires { ⌜ Accepted (now file) × (property ≤ lastProperty) × (bound ≤ maxBound) ⌝ }
     ensures { λ r. ⌜ record { reply = r; choices = now (choices .exit) } ≡ DECODE (now (file .entry)) property bound (now (values .entry)) (now (choices .entry)) ⌝ }
 {
     let s = sizes(file, property);
     let k = bound as usize;
-    if (values.len() as u64) < variables(s, bound as u64) {
+    if (values.len() as u64) < variables(s, bound) {
         return DecodeReply::Refused {
             number: 16,
             place: 0,
@@ -145,30 +146,18 @@ pub fn decode_accepted(
 // Writes the choices that an assignment stands for.
 pub fn decode(
     file: &[u8],
-    property: u8,
-    bound: u8,
+    property: u64,
+    bound: u64,
     values: &[u8],
     choices: &mut [u8],
 ) -> DecodeReply
     ensures { λ r. ⌜ record { reply = r; choices = now (choices .exit) } ≡ DECODE (now (file .entry)) property bound (now (values .entry)) (now (choices .entry)) ⌝ }
 {
-    let checked = design::check(file);
-    if checked.number != 0 {
+    let refusal = gate(file, property, bound);
+    if refusal.number != 0 {
         return DecodeReply::Refused {
-            number: checked.number,
-            place: checked.place,
-        };
-    }
-    if MAX_PROPERTY < property {
-        return DecodeReply::Refused {
-            number: 13,
-            place: 0,
-        };
-    }
-    if MAX_BOUND < bound {
-        return DecodeReply::Refused {
-            number: 14,
-            place: 0,
+            number: refusal.number,
+            place: refusal.place,
         };
     }
     decode_accepted(file, property, bound, values, choices)

@@ -1,16 +1,20 @@
 // ENCODE, and the whole formula for VERDICT.
 ghost use mathlib.Core.Path.{_≡_};
-ghost use Prim.Native.Nat.{_+_, _≤_};
+ghost use Prim.Native.Nat.{_+_, _-_, _≤_};
+ghost use Rattle.step.specs.Limits.{lastProperty, maxBound};
+ghost use Rattle.step.specs.Property.{propertyOf};
 ghost use Rattle.design.specs.Tree.{Design};
-ghost use Rattle.design.specs.Check.{check, accepted};
+ghost use Rattle.design.specs.Check.{check, accepted, variableCount, matrixCount};
 ghost use Rattle.design.specs.Places.{Accepted};
+ghost use Rattle.step.specs.Limits.{lastProperty, maxBound};
+ghost use Rattle.clauses.specs.FrameSizes.{SmallFrame};
 ghost use Rattle.clauses.specs.Replies.{ENCODE};
 ghost use Rattle.clauses.specs.Ready.{Writable, Written};
-use super::MAX_BOUND;
-use super::MAX_PROPERTY;
+use super::frame::FrameSizes;
 use super::frame::part_words;
 use super::frame::sizes;
 use super::frame::variables;
+use super::instance::Instance;
 use super::part::put_part;
 use super::part::put_parts;
 use design::index::MATRICES;
@@ -18,6 +22,10 @@ use design::index::VARIABLES;
 use design::index::index_cells;
 use design::index::index_events;
 use design::index::trailer_word;
+use design::limits::EVENT_PLACES;
+use design::limits::MAX_MOVERS;
+use design::shape::Shape;
+use step::gate::gate;
 
 pub enum EncodeReply {
     Refused { number: u8, place: usize },
@@ -30,73 +38,65 @@ pub struct Formula {
     pub variables: usize,
 }
 
+// The shape of an accepted design, of which the sizes of a frame and the number of normal cells are known.
+fn shape_in(file: &[u8], s: FrameSizes, normals: usize) -> Shape
+    requires { ⌜ Accepted (now file) × SmallFrame s × (normals ≤ s .movers) ⌝ }
+    ensures { λ r. ⌜ r ≡ record { variables = variableCount (now (file .entry)); matrices = matrixCount (now (file .entry)); normals = normals; externals = s .movers - normals; bits = s .bits } ⌝ }
+{
+    Shape {
+        variables: trailer_word(file, VARIABLES),
+        matrices: trailer_word(file, MATRICES),
+        normals: normals,
+        externals: s.movers as usize - normals,
+        bits: s.bits as usize,
+    }
+}
+
 // ENCODE on an accepted design, for a property, a bound and a part that are in range.
 pub fn encode_accepted(
     file: &[u8],
-    property: u8,
-    bound: u8,
+    property: u64,
+    bound: u64,
     part: u64,
     buffer: &mut [i32],
 ) -> EncodeReply
-    requires { ⌜ Accepted (now file) × (property ≤ 1) × (bound ≤ 100) × (part ≤ bound + 2) ⌝ }
+    requires { ⌜ Accepted (now file) × (property ≤ lastProperty) × (bound ≤ maxBound) × (part ≤ bound + 2) ⌝ }
     ensures { λ r. ⌜ record { reply = r; buffer = now (buffer .exit) } ≡ ENCODE (now (file .entry)) property bound part (now (buffer .entry)) ⌝ }
 {
     let s = sizes(file, property);
-    let k = bound as u64;
-    let words = part_words(s, k, part);
+    let words = part_words(s, bound, part);
     if (buffer.len() as u64) < words {
         return EncodeReply::Refused {
             number: 16,
             place: 0,
         };
     }
-    let nv = trailer_word(file, VARIABLES);
-    let nm = trailer_word(file, MATRICES);
-    let mut events = [0u16; 128];
+    let mut events = [0u16; EVENT_PLACES];
     index_events(file, &mut events);
-    let mut cells = [0u16; 64];
-    let count = index_cells(file, &mut cells);
-    put_part(
-        file,
-        &events,
-        &cells,
-        count,
-        nv,
-        nm,
-        s,
-        property,
-        k,
-        part,
-        buffer,
-        0,
-    );
+    let mut cells = [0u16; MAX_MOVERS];
+    let shape = shape_in(file, s, index_cells(file, &mut cells));
+    let inst = Instance {
+        shape: shape,
+        sizes: s,
+        property: property,
+        bound: bound,
+    };
+    put_part(file, &events, &cells, inst, part, buffer, 0);
     EncodeReply::Encoded(words)
 }
 
 // Writes the words of a part of the formula and answers their number.
-pub fn encode(file: &[u8], property: u8, bound: u8, part: u64, buffer: &mut [i32]) -> EncodeReply
+pub fn encode(file: &[u8], property: u64, bound: u64, part: u64, buffer: &mut [i32]) -> EncodeReply
     ensures { λ r. ⌜ record { reply = r; buffer = now (buffer .exit) } ≡ ENCODE (now (file .entry)) property bound part (now (buffer .entry)) ⌝ }
 {
-    let checked = design::check(file);
-    if checked.number != 0 {
+    let refusal = gate(file, property, bound);
+    if refusal.number != 0 {
         return EncodeReply::Refused {
-            number: checked.number,
-            place: checked.place,
+            number: refusal.number,
+            place: refusal.place,
         };
     }
-    if MAX_PROPERTY < property {
-        return EncodeReply::Refused {
-            number: 13,
-            place: 0,
-        };
-    }
-    if MAX_BOUND < bound {
-        return EncodeReply::Refused {
-            number: 14,
-            place: 0,
-        };
-    }
-    if (bound as u64) + 2 < part {
+    if bound + 2 < part {
         return EncodeReply::Refused {
             number: 15,
             place: 0,
@@ -106,32 +106,24 @@ pub fn encode(file: &[u8], property: u8, bound: u8, part: u64, buffer: &mut [i32
 }
 
 // Writes the whole formula to the buffer's front.
-pub fn write_formula(file: &[u8], property: u8, bound: u8, clauses: &mut [i32]) -> Formula
+pub fn write_formula(file: &[u8], property: u64, bound: u64, clauses: &mut [i32]) -> Formula
     requires { ⌜ Writable (now file) property bound (now clauses) ⌝ }
-    ensures { λ r. ⌜ ((d : Design) → check (now (file .entry)) ≡ accepted d → Written d property bound (now (clauses .entry)) (now (clauses .exit)) (r .words) (r .variables)) ⌝ }
+    ensures { λ r. ⌜ ((d : Design) → check (now (file .entry)) ≡ accepted d → Written d (propertyOf d property) bound (now (clauses .entry)) (now (clauses .exit)) (r .words) (r .variables)) ⌝ }
 {
     let s = sizes(file, property);
-    let k = bound as u64;
-    let nv = trailer_word(file, VARIABLES);
-    let nm = trailer_word(file, MATRICES);
-    let mut events = [0u16; 128];
+    let mut events = [0u16; EVENT_PLACES];
     index_events(file, &mut events);
-    let mut cells = [0u16; 64];
-    let count = index_cells(file, &mut cells);
-    let words = put_parts(
-        file,
-        &events,
-        &cells,
-        count,
-        nv,
-        nm,
-        s,
-        property,
-        k,
-        clauses,
-    );
+    let mut cells = [0u16; MAX_MOVERS];
+    let shape = shape_in(file, s, index_cells(file, &mut cells));
+    let inst = Instance {
+        shape: shape,
+        sizes: s,
+        property: property,
+        bound: bound,
+    };
+    let words = put_parts(file, &events, &cells, inst, clauses);
     Formula {
         words: words,
-        variables: variables(s, k) as usize,
+        variables: variables(s, bound) as usize,
     }
 }

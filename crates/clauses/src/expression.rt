@@ -1,67 +1,46 @@
 // The gates of expressions over the bytes of a design file. `text` holds the expression, `file` the variables' kinds; `bits` are the
-// state's literals; `nv` and `nm` are the numbers of variables and matrices.
+// state's literals, as many as `shape` says.
 ghost use mathlib.Core.Path.{_≡_};
-ghost use Prim.Native.Nat.{ℕ, _+_, _*_, _≤_, _<_};
+ghost use Prim.Native.Nat.{_+_, _*_, _≤_, _<_};
 ghost use mathlib.Core.Bool.{cond};
+ghost use mathlib.Core.List.{List};
 ghost use lib.Dec.{eqb};
 ghost use lib.ListN.{length, getD, take, drop};
-ghost use Rattle.design.specs.Tree.{IntExpr, BoolExpr, truth};
-ghost use Rattle.design.specs.Reading.{got};
-ghost use Rattle.design.specs.Expression.{intExpr, boolExpr};
-ghost use Rattle.design.specs.Check.{namesOf};
+ghost use lib.IntN.{ℤ};
+ghost use Rattle.design.specs.Tree.{truth};
 ghost use Rattle.clauses.specs.Literal.{literalOf};
-ghost use Rattle.clauses.specs.Expression.{constantBits, pad, integerAt, booleanAt, int!, bool! };
+ghost use Rattle.clauses.specs.Expression.{constantBits, pad, integerAt, booleanAt};
 ghost use Rattle.clauses.specs.Formula.{total};
-ghost use Rattle.clauses.specs.Writing.{fromCode, fromCodes, Emits};
+ghost use Rattle.clauses.specs.Writing.{fromCode, fromCodes};
 ghost use Rattle.clauses.specs.Piece.{arithmetic!, logic!, compare! };
-ghost use Rattle.clauses.specs.FlatState.{widthsFrom, slotsOf, layoutOf, Slotted, Reads};
-use super::circuit::Word;
+ghost use Rattle.clauses.specs.FlatState.{widthsFrom, slotsOf, Slotted};
+ghost use Rattle.clauses.specs.Encoded.{Writes, IntHere, BoolHere, IntEncoded, BoolEncoded};
 use super::circuit::difference;
 use super::circuit::equal;
 use super::circuit::less;
 use super::circuit::sum;
-use super::gate::Out;
+use super::gate::Cursor;
 use super::gate::emit_and;
 use super::gate::emit_or;
 use super::literal::FALSE;
 use super::literal::TRUE;
 use super::literal::negate;
+use design::bits::offset;
 use design::bytes::wide;
 use design::bytes::word;
+use design::shape::Shape;
 
-// The result of an expression, the cursor, the next variable, and the position past it.
+// The result of an expression, the cursor after its gates, and the position past it.
 pub struct IntOut {
     pub lits: [u32; 16],
-    pub cur: usize,
-    pub var: u32,
+    pub pen: Cursor,
     pub next: usize,
 }
 
 pub struct BoolOut {
     pub lit: u32,
-    pub cur: usize,
-    pub var: u32,
+    pub pen: Cursor,
     pub next: usize,
-}
-
-pub fn width(kind: u8) -> usize
-    ensures { λ r. ⌜ r ≡ cond (eqb kind 1) 16 1 ⌝ }
-{
-    if kind == 1 { 16 } else { 1 }
-}
-
-// Where the bits of variable v begin; with v the number of variables, those of the statuses.
-pub fn offset(file: &[u8], v: usize) -> usize
-    requires { ⌜ (3 * v ≤ length (now file)) × (v ≤ 256) ⌝ }
-    ensures { λ r. ⌜ r ≡ total (widthsFrom (now (file .entry)) 0 v) ⌝ }
-{
-    let mut bits: usize = 0;
-    let mut i: usize = 0;
-    while i < v {
-        bits = bits + width(file[3 * i]);
-        i = i + 1;
-    }
-    bits
 }
 
 // So many literals, false above.
@@ -99,61 +78,141 @@ pub fn constant(x: u16) -> [u32; 16]
     out
 }
 
-fn arithmetic(op: u8, a: [u32; 16], b: [u32; 16], buf: &mut [i32], cur: usize, var: u32) -> Word
-    ensures { λ r. ⌜ Emits var (arithmetic! op (fromCodes a) (fromCodes b) var) (now (buf .entry)) (now (buf .exit)) cur (fromCodes (r .lits)) (r .cur) (r .var) ⌝ }
+// An operator's gates after those of its operands, of which b is the last.
+fn arithmetic(op: u8, a: [u32; 16], b: IntOut, buf: &mut [i32]) -> IntOut
+    ensures { λ r. ⌜ Writes (b .pen) (arithmetic! op (fromCodes a) (fromCodes (b .lits))) (now (buf .entry)) (now (buf .exit)) (fromCodes (r .lits)) (r .pen) × (r .next ≡ b .next) ⌝ }
 {
+    let y = b.lits;
     if op == 0x04 {
-        sum(a, b, FALSE, buf, cur, var)
-    } else {
-        difference(a, b, buf, cur, var)
+        let w = sum(a, y, FALSE, buf, b.pen.cur, b.pen.var);
+        let z = w.lits;
+        return IntOut {
+            lits: z,
+            pen: Cursor {
+                cur: w.cur,
+                var: w.var,
+            },
+            next: b.next,
+        };
+    }
+    let w = difference(a, y, buf, b.pen.cur, b.pen.var);
+    let z = w.lits;
+    IntOut {
+        lits: z,
+        pen: Cursor {
+            cur: w.cur,
+            var: w.var,
+        },
+        next: b.next,
     }
 }
 
-fn logic(op: u8, a: u32, b: u32, buf: &mut [i32], cur: usize, var: u32) -> Out
-    ensures { λ r. ⌜ Emits var (logic! op (fromCode a) (fromCode b) var) (now (buf .entry)) (now (buf .exit)) cur (fromCode (r .lit)) (r .cur) (r .var) ⌝ }
+fn logic(op: u8, a: u32, b: BoolOut, buf: &mut [i32]) -> BoolOut
+    ensures { λ r. ⌜ Writes (b .pen) (logic! op (fromCode a) (fromCode (b .lit))) (now (buf .entry)) (now (buf .exit)) (fromCode (r .lit)) (r .pen) × (r .next ≡ b .next) ⌝ }
 {
     if op == 0x13 {
-        emit_and(buf, cur, var, a, b)
-    } else {
-        emit_or(buf, cur, var, a, b)
+        let w = emit_and(buf, b.pen.cur, b.pen.var, a, b.lit);
+        return BoolOut {
+            lit: w.lit,
+            pen: Cursor {
+                cur: w.cur,
+                var: w.var,
+            },
+            next: b.next,
+        };
+    }
+    let w = emit_or(buf, b.pen.cur, b.pen.var, a, b.lit);
+    BoolOut {
+        lit: w.lit,
+        pen: Cursor {
+            cur: w.cur,
+            var: w.var,
+        },
+        next: b.next,
     }
 }
 
-fn compare(op: u8, a: [u32; 16], b: [u32; 16], buf: &mut [i32], cur: usize, var: u32) -> Out
-    ensures { λ r. ⌜ Emits var (compare! op (fromCodes a) (fromCodes b) var) (now (buf .entry)) (now (buf .exit)) cur (fromCode (r .lit)) (r .cur) (r .var) ⌝ }
+fn compare(op: u8, a: [u32; 16], b: IntOut, buf: &mut [i32]) -> BoolOut
+    ensures { λ r. ⌜ Writes (b .pen) (compare! op (fromCodes a) (fromCodes (b .lits))) (now (buf .entry)) (now (buf .exit)) (fromCode (r .lit)) (r .pen) × (r .next ≡ b .next) ⌝ }
 {
+    let y = b.lits;
     if op == 0x15 {
-        equal(a, b, buf, cur, var)
-    } else {
-        less(a, b, buf, cur, var)
+        let w = equal(a, y, buf, b.pen.cur, b.pen.var);
+        return BoolOut {
+            lit: w.lit,
+            pen: Cursor {
+                cur: w.cur,
+                var: w.var,
+            },
+            next: b.next,
+        };
+    }
+    let w = less(a, y, buf, b.pen.cur, b.pen.var);
+    BoolOut {
+        lit: w.lit,
+        pen: Cursor {
+            cur: w.cur,
+            var: w.var,
+        },
+        next: b.next,
     }
 }
 
 // The literals of the integer variable v.
-pub fn load_variable(file: &[u8], v: usize, nv: usize, nm: usize, bits: &[u32]) -> [u32; 16]
-    requires { ⌜ Slotted (now file) nv nm (now bits) × (v < nv) × (getD (now file) (3 * v) 0 ≡ 1) ⌝ }
-    ensures { λ r. ⌜ fromCodes r ≡ integerAt (slotsOf (now (file .entry)) nv nm (now (bits .entry))) v ⌝ }
+pub fn load_variable(file: &[u8], v: usize, shape: Shape, bits: &[u32]) -> [u32; 16]
+    requires { ⌜ Slotted (now file) shape (now bits) × (v < shape .variables) × (getD (now file) (3 * v) 0 ≡ 1) ⌝ }
+    ensures { λ r. ⌜ fromCodes r ≡ integerAt (slotsOf (now (file .entry)) shape (now (bits .entry))) v ⌝ }
 {
     let o = offset(file, v);
     load(bits, o, 16)
 }
 
 // The literals of the status of matrix m.
-pub fn load_status(file: &[u8], m: usize, nv: usize, nm: usize, bits: &[u32]) -> [u32; 16]
-    requires { ⌜ Slotted (now file) nv nm (now bits) × (m < nm) ⌝ }
-    ensures { λ r. ⌜ fromCodes r ≡ integerAt (slotsOf (now (file .entry)) nv nm (now (bits .entry))) (nv + m) ⌝ }
+pub fn load_status(file: &[u8], m: usize, shape: Shape, bits: &[u32]) -> [u32; 16]
+    requires { ⌜ Slotted (now file) shape (now bits) × (m < shape .matrices) ⌝ }
+    ensures { λ r. ⌜ fromCodes r ≡ integerAt (slotsOf (now (file .entry)) shape (now (bits .entry))) (shape .variables + m) ⌝ }
 {
-    let o = offset(file, nv) + 4 * m;
+    let o = offset(file, shape.variables) + 4 * m;
     load(bits, o, 4)
 }
 
 // The literal of the Boolean or external variable v.
-pub fn load_flag(file: &[u8], v: usize, nv: usize, nm: usize, bits: &[u32]) -> u32
-    requires { ⌜ Slotted (now file) nv nm (now bits) × (v < nv) × (getD (now file) (3 * v) 0 ≡ 1 → ⊥) ⌝ }
-    ensures { λ r. ⌜ fromCode r ≡ booleanAt (slotsOf (now (file .entry)) nv nm (now (bits .entry))) v ⌝ }
+pub fn load_flag(file: &[u8], v: usize, shape: Shape, bits: &[u32]) -> u32
+    requires { ⌜ Slotted (now file) shape (now bits) × (v < shape .variables) × (getD (now file) (3 * v) 0 ≡ 1 → ⊥) ⌝ }
+    ensures { λ r. ⌜ fromCode r ≡ booleanAt (slotsOf (now (file .entry)) shape (now (bits .entry))) v ⌝ }
 {
     let o = offset(file, v);
     bits[o]
+}
+
+// The constant, variable or status at `at`: no gates.
+fn int_leaf(text: &[u8], file: &[u8], at: usize, shape: Shape, bits: &[u32], pen: Cursor) -> IntOut
+    requires { ⌜ Slotted (now file) shape (now bits) × IntHere (now text) (now file) shape at × (getD (now text) at 0 < 0x04) ⌝ }
+    ensures { λ r. ⌜ ((xs : List ℤ) → IntEncoded (now (text .entry)) (now (file .entry)) shape (now (bits .entry)) at pen xs xs r) ⌝ }
+{
+    let op = text[at];
+    if op == 0x01 {
+        let w = constant(word(text, at + 1) as u16);
+        return IntOut {
+            lits: w,
+            pen: pen,
+            next: at + 3,
+        };
+    }
+    if op == 0x02 {
+        let w = load_variable(file, wide(text[at + 1]), shape, bits);
+        return IntOut {
+            lits: w,
+            pen: pen,
+            next: at + 2,
+        };
+    }
+    let w = load_status(file, wide(text[at + 1]), shape, bits);
+    IntOut {
+        lits: w,
+        pen: pen,
+        next: at + 2,
+    }
 }
 
 // The gates of the integer expression at `at`.
@@ -161,94 +220,70 @@ pub fn encode_int(
     text: &[u8],
     file: &[u8],
     at: usize,
-    end: usize,
-    nv: usize,
-    nm: usize,
-    depth: usize,
+    shape: Shape,
     bits: &[u32],
     buf: &mut [i32],
-    cur: usize,
-    var: u32,
+    pen: Cursor,
 ) -> IntOut
-    requires { ⌜ (end ≤ length (now text)) × Slotted (now file) nv nm (now bits) ⌝ }
-    requires { ⌜ Reads (intExpr (now text) (namesOf (now file) nv nm) end depth at) ⌝ }
-    ensures { λ r. ⌜ ((e : IntExpr) (n : ℕ) → intExpr (now (text .entry)) (namesOf (now (file .entry)) nv nm) end depth at ≡ got e n → Emits var (int! (layoutOf nv) (slotsOf (now (file .entry)) nv nm (now (bits .entry))) e var) (now (buf .entry)) (now (buf .exit)) cur (fromCodes (r .lits)) (r .cur) (r .var) × (r .next ≡ n)) ⌝ }
+    requires { ⌜ Slotted (now file) shape (now bits) × IntHere (now text) (now file) shape at ⌝ }
+    ensures { λ r. ⌜ IntEncoded (now (text .entry)) (now (file .entry)) shape (now (bits .entry)) at pen (now (buf .entry)) (now (buf .exit)) r ⌝ }
 {
     let op = text[at];
-    match op {
-        0x01 => {
-            let w = constant(word(text, at + 1) as u16);
-            IntOut {
-                lits: w,
-                cur: cur,
-                var: var,
-                next: at + 3,
-            }
-        }
-        0x02 => {
-            let w = load_variable(file, wide(text[at + 1]), nv, nm, bits);
-            IntOut {
-                lits: w,
-                cur: cur,
-                var: var,
-                next: at + 2,
-            }
-        }
-        0x03 => {
-            let w = load_status(file, wide(text[at + 1]), nv, nm, bits);
-            IntOut {
-                lits: w,
-                cur: cur,
-                var: var,
-                next: at + 2,
-            }
-        }
-        0x04..=0x05 => {
-            let a = encode_int(
-                text,
-                file,
-                at + 1,
-                end,
-                nv,
-                nm,
-                depth - 1,
-                bits,
-                buf,
-                cur,
-                var,
-            );
-            let b = encode_int(
-                text,
-                file,
-                a.next,
-                end,
-                nv,
-                nm,
-                depth - 1,
-                bits,
-                buf,
-                a.cur,
-                a.var,
-            );
-            let x = a.lits;
-            let y = b.lits;
-            let w = arithmetic(op, x, y, buf, b.cur, b.var);
-            let z = w.lits;
-            IntOut {
-                lits: z,
-                cur: w.cur,
-                var: w.var,
-                next: b.next,
-            }
-        }
-        // not taken on bytes that the reader accepts
-        _ => IntOut {
-            lits: [3u32; 16],
-            cur: cur,
-            var: var,
-            next: at,
-        },
+    if op < 0x04 {
+        return int_leaf(text, file, at, shape, bits, pen);
     }
+    let a = encode_int(text, file, at + 1, shape, bits, buf, pen);
+    let b = encode_int(text, file, a.next, shape, bits, buf, a.pen);
+    let x = a.lits;
+    arithmetic(op, x, b, buf)
+}
+
+// The constant, Boolean or external at `at`: no gates.
+fn bool_leaf(
+    text: &[u8],
+    file: &[u8],
+    at: usize,
+    shape: Shape,
+    bits: &[u32],
+    pen: Cursor,
+) -> BoolOut
+    requires { ⌜ Slotted (now file) shape (now bits) × BoolHere (now text) (now file) shape at × (getD (now text) at 0 < 0x12) ⌝ }
+    ensures { λ r. ⌜ ((xs : List ℤ) → BoolEncoded (now (text .entry)) (now (file .entry)) shape (now (bits .entry)) at pen xs xs r) ⌝ }
+{
+    let op = text[at];
+    if op == 0x10 {
+        let l = truth_code(text[at + 1] as u16);
+        return BoolOut {
+            lit: l,
+            pen: pen,
+            next: at + 2,
+        };
+    }
+    let l = load_flag(file, wide(text[at + 1]), shape, bits);
+    BoolOut {
+        lit: l,
+        pen: pen,
+        next: at + 2,
+    }
+}
+
+// The gates of the comparison at `at`.
+fn encode_compare(
+    text: &[u8],
+    file: &[u8],
+    at: usize,
+    shape: Shape,
+    bits: &[u32],
+    buf: &mut [i32],
+    pen: Cursor,
+) -> BoolOut
+    requires { ⌜ Slotted (now file) shape (now bits) × BoolHere (now text) (now file) shape at × (0x15 ≤ getD (now text) at 0) ⌝ }
+    ensures { λ r. ⌜ BoolEncoded (now (text .entry)) (now (file .entry)) shape (now (bits .entry)) at pen (now (buf .entry)) (now (buf .exit)) r ⌝ }
+{
+    let a = encode_int(text, file, at + 1, shape, bits, buf, pen);
+    let b = encode_int(text, file, a.next, shape, bits, buf, a.pen);
+    let x = a.lits;
+    compare(text[at], x, b, buf)
 }
 
 // The gates of the Boolean expression at `at`.
@@ -256,139 +291,32 @@ pub fn encode_bool(
     text: &[u8],
     file: &[u8],
     at: usize,
-    end: usize,
-    nv: usize,
-    nm: usize,
-    depth: usize,
+    shape: Shape,
     bits: &[u32],
     buf: &mut [i32],
-    cur: usize,
-    var: u32,
+    pen: Cursor,
 ) -> BoolOut
-    requires { ⌜ (end ≤ length (now text)) × Slotted (now file) nv nm (now bits) ⌝ }
-    requires { ⌜ Reads (boolExpr (now text) (namesOf (now file) nv nm) end depth at) ⌝ }
-    ensures { λ r. ⌜ ((e : BoolExpr) (n : ℕ) → boolExpr (now (text .entry)) (namesOf (now (file .entry)) nv nm) end depth at ≡ got e n → Emits var (bool! (layoutOf nv) (slotsOf (now (file .entry)) nv nm (now (bits .entry))) e var) (now (buf .entry)) (now (buf .exit)) cur (fromCode (r .lit)) (r .cur) (r .var) × (r .next ≡ n)) ⌝ }
+    requires { ⌜ Slotted (now file) shape (now bits) × BoolHere (now text) (now file) shape at ⌝ }
+    ensures { λ r. ⌜ BoolEncoded (now (text .entry)) (now (file .entry)) shape (now (bits .entry)) at pen (now (buf .entry)) (now (buf .exit)) r ⌝ }
 {
     let op = text[at];
-    match op {
-        0x10 => {
-            let l = truth_code(text[at + 1] as u16);
-            BoolOut {
-                lit: l,
-                cur: cur,
-                var: var,
-                next: at + 2,
-            }
-        }
-        0x11 => {
-            let l = load_flag(file, wide(text[at + 1]), nv, nm, bits);
-            BoolOut {
-                lit: l,
-                cur: cur,
-                var: var,
-                next: at + 2,
-            }
-        }
-        0x12 => {
-            let a = encode_bool(
-                text,
-                file,
-                at + 1,
-                end,
-                nv,
-                nm,
-                depth - 1,
-                bits,
-                buf,
-                cur,
-                var,
-            );
-            let l = negate(a.lit);
-            BoolOut {
-                lit: l,
-                cur: a.cur,
-                var: a.var,
-                next: a.next,
-            }
-        }
-        0x13..=0x14 => {
-            let a = encode_bool(
-                text,
-                file,
-                at + 1,
-                end,
-                nv,
-                nm,
-                depth - 1,
-                bits,
-                buf,
-                cur,
-                var,
-            );
-            let b = encode_bool(
-                text,
-                file,
-                a.next,
-                end,
-                nv,
-                nm,
-                depth - 1,
-                bits,
-                buf,
-                a.cur,
-                a.var,
-            );
-            let w = logic(op, a.lit, b.lit, buf, b.cur, b.var);
-            BoolOut {
-                lit: w.lit,
-                cur: w.cur,
-                var: w.var,
-                next: b.next,
-            }
-        }
-        0x15..=0x16 => {
-            let a = encode_int(
-                text,
-                file,
-                at + 1,
-                end,
-                nv,
-                nm,
-                depth - 1,
-                bits,
-                buf,
-                cur,
-                var,
-            );
-            let b = encode_int(
-                text,
-                file,
-                a.next,
-                end,
-                nv,
-                nm,
-                depth - 1,
-                bits,
-                buf,
-                a.cur,
-                a.var,
-            );
-            let x = a.lits;
-            let y = b.lits;
-            let w = compare(op, x, y, buf, b.cur, b.var);
-            BoolOut {
-                lit: w.lit,
-                cur: w.cur,
-                var: w.var,
-                next: b.next,
-            }
-        }
-        // not taken on bytes that the reader accepts
-        _ => BoolOut {
-            lit: FALSE,
-            cur: cur,
-            var: var,
-            next: at,
-        },
+    if op < 0x12 {
+        return bool_leaf(text, file, at, shape, bits, pen);
     }
+    if op == 0x12 {
+        let a = encode_bool(text, file, at + 1, shape, bits, buf, pen);
+        let l = negate(a.lit);
+        let done = a.pen;
+        return BoolOut {
+            lit: l,
+            pen: done,
+            next: a.next,
+        };
+    }
+    if op < 0x15 {
+        let a = encode_bool(text, file, at + 1, shape, bits, buf, pen);
+        let b = encode_bool(text, file, a.next, shape, bits, buf, a.pen);
+        return logic(op, a.lit, b, buf);
+    }
+    encode_compare(text, file, at, shape, bits, buf, pen)
 }

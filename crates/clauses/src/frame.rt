@@ -1,26 +1,29 @@
 // The sizes of a frame, computed once from an accepted file, and the sizes of the formula's parts, which are arithmetic on them.
 ghost use mathlib.Core.Path.{_≡_};
 ghost use Prim.Native.Nat.{_*_, _≤_, _<_};
-ghost use lib.ListN.{length};
 ghost use Rattle.design.specs.Tree.{Design};
-ghost use Rattle.design.specs.Check.{check, accepted, variableCount, matrixCount};
+ghost use Rattle.design.specs.Limits.{maxMovers};
+ghost use Rattle.design.specs.Check.{check, accepted};
 ghost use Rattle.design.specs.Places.{Accepted};
 ghost use Rattle.design.specs.Sections.{Parts};
-ghost use Rattle.clauses.specs.Formula.{S};
+ghost use Rattle.step.specs.Limits.{maxBound};
+ghost use Rattle.step.specs.Property.{propertyOf};
+ghost use Rattle.clauses.specs.Writing.{variableLimit};
+ghost use Rattle.step.specs.Limits.{maxBound};
+ghost use Rattle.clauses.specs.Limits.{mostGates, frameLimit, countLimit, sizeLimit};
 ghost use Rattle.clauses.specs.Cost.{pairCount, propertyCost};
 ghost use Rattle.clauses.specs.FrameSizes.{HasGates, FewGates, Prepared, frameSizes, SmallFrame, frameLength, stepClausesOf, stepWordsOf, partWordsOf, variablesOf, formulaSizes};
 use super::cells::size_cells;
 use super::cost::GatesAt;
 use super::cost::size_bool;
-use design::index::INVARIANT_AT;
-use design::index::MATRICES;
-use design::index::VARIABLES;
 use design::index::index_cells;
 use design::index::index_events;
-use design::index::trailer_word;
+use design::index::invariant;
+use design::index::shape;
+use design::limits::EVENT_PLACES;
 use design::limits::MAX_DEPTH;
-use design::limits::TRAILER;
-use step::mover::external_count;
+use design::limits::MAX_MOVERS;
+use design::shape::Shape;
 
 // Gates by kind; `wides` are xors and muxes.
 pub struct Gates {
@@ -47,86 +50,62 @@ pub struct FormulaSizes {
     pub words: u64,
 }
 
-// The number of state bits: a variable's 1 or 16, a status's 4.
-pub fn state_bits(file: &[u8], nv: usize, nm: usize) -> u64
-    requires { ⌜ (3 * nv ≤ length (now file)) × (nv ≤ 32) × (nm ≤ 8) ⌝ }
-    ensures { λ r. ⌜ (r ≤ 544) × (nv ≡ variableCount (now (file .entry)) → nm ≡ matrixCount (now (file .entry)) → (d : Design) → Parts (now (file .entry)) d → r ≡ S d) ⌝ }
-{
-    let mut bits: u64 = 0;
-    let mut v = 0;
-    while v < nv {
-        if file[3 * v] == 1 {
-            bits = bits + 16;
-        } else {
-            bits = bits + 1;
-        }
-        v = v + 1;
-    }
-    bits + 4 * (nm as u64)
-}
-
 // The gates of the property.
 pub fn size_property(
     file: &[u8],
-    events: &[u16; 128],
-    nv: usize,
-    nm: usize,
-    bits: u64,
-    property: u8,
+    events: &[u16; EVENT_PLACES],
+    shape: Shape,
+    property: u64,
 ) -> GatesAt
-    requires { ⌜ Prepared (now file) (now events) nv nm bits ⌝ }
-    ensures { λ r. ⌜ FewGates r × ((d : Design) → Parts (now (file .entry)) d → HasGates r (propertyCost d property)) ⌝ }
+    requires { ⌜ Prepared (now file) (now events) shape ⌝ }
+    ensures { λ r. ⌜ FewGates mostGates r × ((d : Design) → Parts (now (file .entry)) d → HasGates r (propertyCost d (propertyOf d property))) ⌝ }
 {
     if property == 0 {
-        let end = file.len() - TRAILER;
-        let at = trailer_word(file, INVARIANT_AT);
-        size_bool(file, file, at, end, nv, nm, MAX_DEPTH)
+        let stands = invariant(file);
+        size_bool(file, stands.at, stands.end, shape, MAX_DEPTH)
     } else {
-        size_cells(file, events, nv, nm, bits, true)
+        size_cells(file, events, shape, true)
     }
 }
 
 // The sizes of a frame of an accepted file.
-pub fn sizes(file: &[u8], property: u8) -> FrameSizes
+pub fn sizes(file: &[u8], property: u64) -> FrameSizes
     requires { ⌜ Accepted (now file) ⌝ }
-    ensures { λ r. ⌜ SmallFrame r × ((d : Design) → check (now (file .entry)) ≡ accepted d → r ≡ frameSizes d property) ⌝ }
+    ensures { λ r. ⌜ SmallFrame r × ((d : Design) → check (now (file .entry)) ≡ accepted d → r ≡ frameSizes d (propertyOf d property)) ⌝ }
 {
-    let nv = trailer_word(file, VARIABLES);
-    let nm = trailer_word(file, MATRICES);
-    let mut events = [0u16; 128];
+    let mut events = [0u16; EVENT_PLACES];
     index_events(file, &mut events);
-    let mut cells = [0u16; 64];
-    let normals = index_cells(file, &mut cells);
-    let externals = external_count(file, nv);
-    let bits = state_bits(file, nv, nm);
-    let p = size_property(file, &events, nv, nm, bits, property);
-    let s = size_cells(file, &events, nv, nm, bits, false);
+    let mut cells = [0u16; MAX_MOVERS];
+    let shape = shape(file, index_cells(file, &mut cells));
+    let p = size_property(file, &events, shape, property);
+    let s = size_cells(file, &events, shape, false);
+    let bits = shape.bits as u64;
     FrameSizes {
         bits: bits,
-        movers: (normals + externals) as u64,
+        movers: (shape.normals + shape.externals) as u64,
         property: Gates {
             ands: p.ands,
             wides: p.wides,
         },
         step: Gates {
             ands: s.ands,
-            wides: s.wides + times(externals as u64, bits),
+            wides: s.wides + times(shape.externals as u64, bits),
         },
     }
 }
 
 // A product of a count and a size.
 pub fn times(k: u64, x: u64) -> u64
-    requires { ⌜ (k ≤ 101) × (x ≤ 1099511627776) ⌝ }
-    ensures { λ r. ⌜ (r ≡ k * x) × (r ≤ 111050674405376) ⌝ }
+    requires { ⌜ (k ≤ countLimit) × (x ≤ sizeLimit) ⌝ }
+    ensures { λ r. ⌜ (r ≡ k * x) × (r ≤ countLimit * sizeLimit) ⌝ }
 {
     k * x
 }
 
 // The number of pairs of so many flags.
 pub fn pairs(m: u64) -> u64
-    requires { ⌜ m ≤ 64 ⌝ }
-    ensures { λ r. ⌜ (r ≡ pairCount m) × (r ≤ 4096) ⌝ }
+    requires { ⌜ m ≤ maxMovers ⌝ }
+    ensures { λ r. ⌜ (r ≡ pairCount m) × (r ≤ maxMovers * maxMovers) ⌝ }
 {
     if m == 0 { 0 } else { times(m, m - 1) / 2 }
 }
@@ -134,7 +113,7 @@ pub fn pairs(m: u64) -> u64
 // Clauses of the step out of a frame: the clause of all flags, their pairs, the gates, the ties.
 pub fn step_clauses(s: FrameSizes) -> u64
     requires { ⌜ SmallFrame s ⌝ }
-    ensures { λ r. ⌜ (r ≡ stepClausesOf s) × (r ≤ 60000000) ⌝ }
+    ensures { λ r. ⌜ (r ≡ stepClausesOf s) × (r ≤ sizeLimit) ⌝ }
 {
     1 + pairs(s.movers) + 3 * s.step.ands + 4 * s.step.wides + 2 * times(s.movers, s.bits)
 }
@@ -142,7 +121,7 @@ pub fn step_clauses(s: FrameSizes) -> u64
 // Words of the same.
 pub fn step_words(s: FrameSizes) -> u64
     requires { ⌜ SmallFrame s ⌝ }
-    ensures { λ r. ⌜ (r ≡ stepWordsOf s) × (r ≤ 230000000) ⌝ }
+    ensures { λ r. ⌜ (r ≡ stepWordsOf s) × (r ≤ sizeLimit) ⌝ }
 {
     1
         + s.movers
@@ -154,7 +133,7 @@ pub fn step_words(s: FrameSizes) -> u64
 
 // The words of part i of the formula for bound k, for i up to k + 2.
 pub fn part_words(s: FrameSizes, k: u64, i: u64) -> u64
-    requires { ⌜ SmallFrame s × (k ≤ 100) ⌝ }
+    requires { ⌜ SmallFrame s × (k ≤ maxBound) ⌝ }
     ensures { λ r. ⌜ r ≡ partWordsOf s k i ⌝ }
 {
     if i == 0 {
@@ -173,15 +152,15 @@ pub fn part_words(s: FrameSizes, k: u64, i: u64) -> u64
 // F: how many variables a frame has.
 pub fn frame_length(s: FrameSizes) -> u64
     requires { ⌜ SmallFrame s ⌝ }
-    ensures { λ r. ⌜ (r ≡ frameLength s) × (r ≤ 14144608) ⌝ }
+    ensures { λ r. ⌜ (r ≡ frameLength s) × (r ≤ frameLimit) ⌝ }
 {
     s.bits + (s.property.ands + s.property.wides) + s.movers + (s.step.ands + s.step.wides)
 }
 
 // n for bound k.
 pub fn variables(s: FrameSizes, k: u64) -> u64
-    requires { ⌜ SmallFrame s × (k ≤ 100) ⌝ }
-    ensures { λ r. ⌜ (r ≡ variablesOf s k) × (r < 2147483648) ⌝ }
+    requires { ⌜ SmallFrame s × (k ≤ maxBound) ⌝ }
+    ensures { λ r. ⌜ (r ≡ variablesOf s k) × (r < variableLimit) ⌝ }
 {
     let property = s.property.ands + s.property.wides;
     1 + times(k, frame_length(s)) + s.bits + property
@@ -189,7 +168,7 @@ pub fn variables(s: FrameSizes, k: u64) -> u64
 
 // SIZE's numbers for bound k.
 pub fn formula(s: FrameSizes, k: u64) -> FormulaSizes
-    requires { ⌜ SmallFrame s × (k ≤ 100) ⌝ }
+    requires { ⌜ SmallFrame s × (k ≤ maxBound) ⌝ }
     ensures { λ r. ⌜ r ≡ formulaSizes s k ⌝ }
 {
     let property = s.property.ands + s.property.wides;

@@ -9,6 +9,12 @@ use super::literal::positive;
 use super::literal::put_end;
 use super::literal::put_literal;
 
+// Where a writer stands: at the place of the next word in the buffer, and before the next variable.
+pub struct Cursor {
+    pub cur: usize,
+    pub var: u32,
+}
+
 // A literal, and the cursor and the next variable after its gates.
 pub struct Out {
     pub lit: u32,

@@ -8,6 +8,7 @@ pub mod mover; // a cell, an external
 pub mod movers; // the gates of a step
 pub mod property; // the gates of a property
 pub mod clause; // clauses that are no gates
+pub mod instance; // what formula is written
 pub mod first; // part 0
 pub mod last; // the last part
 pub mod part; // a frame's part, any part, all parts
@@ -17,8 +18,3 @@ pub mod frame; // the sizes of a frame and of the formula
 pub mod size; // SIZE
 pub mod encode; // ENCODE
 pub mod decode; // DECODE
-
-// The greatest property and the greatest bound of a call, as specs/Answer.antt has them.
-pub const MAX_PROPERTY: u8 = 1;
-
-pub const MAX_BOUND: u8 = 100;

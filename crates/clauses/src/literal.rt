@@ -5,7 +5,7 @@ ghost use Prim.Native.Nat.{_+_, _<_};
 ghost use lib.IntN.{pos};
 ghost use Rattle.clauses.specs.Literal.{negate as negated, positive as positively};
 ghost use Rattle.clauses.specs.Words.{wordOf};
-ghost use Rattle.clauses.specs.Writing.{fromCode, Puts};
+ghost use Rattle.clauses.specs.Writing.{variableLimit, wordLimit, fromCode, Puts};
 
 pub const TRUE: u32 = 2;
 
@@ -24,14 +24,14 @@ pub fn negate(l: u32) -> u32
 
 // The literal of a variable.
 pub fn positive(v: u32) -> u32
-    ensures { λ r. ⌜ (v < 2147483648 → fromCode r ≡ positively v) ⌝ }
+    ensures { λ r. ⌜ (v < variableLimit → fromCode r ≡ positively v) ⌝ }
 {
     if v < VARIABLE_LIMIT { v * 2 } else { TRUE }
 }
 
 // The variable after one.
 pub fn next(v: u32) -> u32
-    ensures { λ r. ⌜ (v < 2147483648 → r ≡ v + 1) ⌝ }
+    ensures { λ r. ⌜ (v < variableLimit → r ≡ v + 1) ⌝ }
 {
     if v < VARIABLE_LIMIT { v + 1 } else { v }
 }
@@ -44,7 +44,7 @@ fn signed(l: u32) -> i32
 }
 
 fn advance(cur: usize) -> usize
-    ensures { λ r. ⌜ (cur < 4611686018427387904 → r ≡ cur + 1) ⌝ }
+    ensures { λ r. ⌜ (cur < wordLimit → r ≡ cur + 1) ⌝ }
 {
     if cur < WORD_LIMIT { cur + 1 } else { cur }
 }

@@ -1,18 +1,14 @@
 // Movers: a normal cell or an external, from the state's literals to the muxes of its result. `events` is the table of events, `p` where a
 // cell stands.
 ghost use mathlib.Core.Path.{_≡_};
-ghost use Prim.Native.Nat.{_+_, _*_, _<_};
+ghost use Prim.Native.Nat.{_*_, _<_};
 ghost use lib.ListN.{length, getD};
+ghost use Rattle.design.specs.Limits.{maxBits};
 ghost use Rattle.design.specs.Tree.{Design, cell, raise};
-ghost use Rattle.design.specs.DesignFile.{c-matrix, c-status, c-event, events as eventCount};
-ghost use Rattle.design.specs.Check.{matricesOffset, eventIn};
+ghost use Rattle.design.specs.Check.{eventIn};
 ghost use Rattle.design.specs.Sections.{Parts, CellFields};
-ghost use Rattle.step.specs.Ready.{NormalCell};
-ghost use Rattle.clauses.specs.Expression.{bool! };
-ghost use Rattle.clauses.specs.Action.{statusAndEvent!, enable!, mover! };
-ghost use Rattle.clauses.specs.Writing.{fromCode, Emits};
-ghost use Rattle.clauses.specs.FlatState.{slotsOf, layoutOf};
-ghost use Rattle.clauses.specs.Ready.{Ready, resultFrom};
+ghost use Rattle.design.specs.Sections.{NormalCell};
+ghost use Rattle.clauses.specs.Ready.{ShapedFile, Ready, BoolGates, CellGates, EnableGates, Moves};
 use super::action::encode_list;
 use super::action::muxes;
 use super::action::store_word;
@@ -21,15 +17,16 @@ use super::expression::constant;
 use super::expression::encode_bool;
 use super::expression::load_flag;
 use super::expression::load_status;
-use super::expression::offset;
+use super::gate::Cursor;
 use super::gate::Out;
 use super::gate::emit_and;
 use super::literal::TRUE;
 use super::literal::negate;
+use design::bits::offset;
 use design::bytes::wide;
-use design::bytes::word;
-use design::limits::MAX_DEPTH;
-use design::limits::MAX_NEST;
+use design::limits::EVENT_PLACES;
+use design::limits::MAX_BITS;
+use design::shape::Shape;
 
 // The first variable of a mover's result, the cursor, and the next variable.
 pub struct Moved {
@@ -38,167 +35,122 @@ pub struct Moved {
     pub var: u32,
 }
 
-// Event e of matrix m.
-pub fn encode_event(
-    file: &[u8],
-    events: &[u16; 128],
-    nv: usize,
-    nm: usize,
-    m: usize,
-    e: usize,
-    bits: &[u32; 544],
-    buf: &mut [i32],
-    cur: usize,
-    var: u32,
-) -> Out
-    requires { ⌜ Ready (now file) (now events) nv nm × (length (now bits) ≡ 544) × (m < nm) × (e < eventCount (now file) (matricesOffset (now file)) m) ⌝ }
-    ensures { λ r. ⌜ ((d : Design) (w : Parts (now (file .entry)) d) → Emits var (bool! (layoutOf nv) (slotsOf (now (file .entry)) nv nm (now (bits .entry))) (eventIn (w .rows) m e) var) (now (buf .entry)) (now (buf .exit)) cur (fromCode (r .lit)) (r .cur) (r .var)) ⌝ }
-{
-    let at = events[16 * m + e] as usize;
-    let past = at + 1 + wide(file[at]);
-    let x = encode_bool(
-        file,
-        file,
-        at + 1,
-        past,
-        nv,
-        nm,
-        MAX_DEPTH,
-        bits,
-        buf,
-        cur,
-        var,
-    );
-    Out {
-        lit: x.lit,
-        cur: x.cur,
-        var: x.var,
-    }
-}
-
 // and(equal(status, constant), event) of the cell.
 pub fn status_and_event(
     file: &[u8],
-    events: &[u16; 128],
-    nv: usize,
-    nm: usize,
+    events: &[u16; EVENT_PLACES],
     p: usize,
-    bits: &[u32; 544],
+    shape: Shape,
+    bits: &[u32; MAX_BITS],
     buf: &mut [i32],
-    cur: usize,
-    var: u32,
+    pen: Cursor,
 ) -> Out
-    requires { ⌜ Ready (now file) (now events) nv nm × (length (now bits) ≡ 544) × CellFields (now file) p ⌝ }
-    ensures { λ r. ⌜ ((d : Design) (w : Parts (now (file .entry)) d) → Emits var (statusAndEvent! (layoutOf nv) (slotsOf (now (file .entry)) nv nm (now (bits .entry))) (c-matrix (now (file .entry)) p) (c-status (now (file .entry)) p) (eventIn (w .rows) (c-matrix (now (file .entry)) p) (c-event (now (file .entry)) p)) var) (now (buf .entry)) (now (buf .exit)) cur (fromCode (r .lit)) (r .cur) (r .var)) ⌝ }
+    requires { ⌜ Ready (now file) (now events) shape × (length (now bits) ≡ maxBits) × CellFields (now file) p ⌝ }
+    ensures { λ r. ⌜ ((d : Design) (w : Parts (now (file .entry)) d) → CellGates (now (file .entry)) shape (now (bits .entry)) p (eventIn (w .rows)) pen (now (buf .entry)) (now (buf .exit)) r) ⌝ }
 {
     let m = wide(file[p]);
-    let x = load_status(file, m, nv, nm, bits);
+    let x = load_status(file, m, shape, bits);
     let k = constant(wide(file[p + 1]) as u16);
-    let q = equal(x, k, buf, cur, var);
+    let q = equal(x, k, buf, pen.cur, pen.var);
     let e = wide(file[p + 2]);
-    let v = encode_event(file, events, nv, nm, m, e, bits, buf, q.cur, q.var);
-    emit_and(buf, v.cur, v.var, q.lit, v.lit)
+    let at = events[16 * m + e] as usize;
+    let v = encode_bool(
+        file,
+        file,
+        at + 1,
+        shape,
+        bits,
+        buf,
+        Cursor {
+            cur: q.cur,
+            var: q.var,
+        },
+    );
+    emit_and(buf, v.pen.cur, v.pen.var, q.lit, v.lit)
 }
 
 // The guard of a normal cell; an absent one is true.
 pub fn encode_guard(
     file: &[u8],
-    events: &[u16; 128],
-    nv: usize,
-    nm: usize,
     p: usize,
-    bits: &[u32; 544],
+    shape: Shape,
+    bits: &[u32; MAX_BITS],
     buf: &mut [i32],
-    cur: usize,
-    var: u32,
+    pen: Cursor,
 ) -> Out
-    requires { ⌜ Ready (now file) (now events) nv nm × (length (now bits) ≡ 544) × NormalCell (now file) p ⌝ }
-    ensures { λ r. ⌜ ((x : NormalCell (now (file .entry)) p) → Emits var (bool! (layoutOf nv) (slotsOf (now (file .entry)) nv nm (now (bits .entry))) (x .cell .guard) var) (now (buf .entry)) (now (buf .exit)) cur (fromCode (r .lit)) (r .cur) (r .var)) ⌝ }
+    requires { ⌜ ShapedFile (now file) shape × (length (now bits) ≡ maxBits) × NormalCell (now file) p ⌝ }
+    ensures { λ r. ⌜ ((x : NormalCell (now (file .entry)) p) → BoolGates (now (file .entry)) shape (now (bits .entry)) (x .cell .guard) pen (now (buf .entry)) (now (buf .exit)) r) ⌝ }
 {
     let n = wide(file[p + 5]);
     if n == 0 {
         return Out {
             lit: TRUE,
-            cur: cur,
-            var: var,
+            cur: pen.cur,
+            var: pen.var,
         };
     }
-    let x = encode_bool(
-        file,
-        file,
-        p + 8,
-        p + 8 + n,
-        nv,
-        nm,
-        MAX_DEPTH,
-        bits,
-        buf,
-        cur,
-        var,
-    );
+    let x = encode_bool(file, file, p + 8, shape, bits, buf, pen);
     Out {
         lit: x.lit,
-        cur: x.cur,
-        var: x.var,
+        cur: x.pen.cur,
+        var: x.pen.var,
     }
 }
 
 // and(and(equal(status, constant), event), guard)
 pub fn encode_enable(
     file: &[u8],
-    events: &[u16; 128],
-    nv: usize,
-    nm: usize,
+    events: &[u16; EVENT_PLACES],
     p: usize,
-    bits: &[u32; 544],
+    shape: Shape,
+    bits: &[u32; MAX_BITS],
     buf: &mut [i32],
-    cur: usize,
-    var: u32,
+    pen: Cursor,
 ) -> Out
-    requires { ⌜ Ready (now file) (now events) nv nm × (length (now bits) ≡ 544) × NormalCell (now file) p ⌝ }
-    ensures { λ r. ⌜ ((x : NormalCell (now (file .entry)) p) → Emits var (enable! (layoutOf nv) (slotsOf (now (file .entry)) nv nm (now (bits .entry))) (cell (x .cell)) var) (now (buf .entry)) (now (buf .exit)) cur (fromCode (r .lit)) (r .cur) (r .var)) ⌝ }
+    requires { ⌜ Ready (now file) (now events) shape × (length (now bits) ≡ maxBits) × NormalCell (now file) p ⌝ }
+    ensures { λ r. ⌜ ((x : NormalCell (now (file .entry)) p) → EnableGates (now (file .entry)) shape (now (bits .entry)) (cell (x .cell)) pen (now (buf .entry)) (now (buf .exit)) r) ⌝ }
 {
-    let a = status_and_event(file, events, nv, nm, p, bits, buf, cur, var);
-    let g = encode_guard(file, events, nv, nm, p, bits, buf, a.cur, a.var);
+    let a = status_and_event(file, events, p, shape, bits, buf, pen);
+    let g = encode_guard(
+        file,
+        p,
+        shape,
+        bits,
+        buf,
+        Cursor {
+            cur: a.cur,
+            var: a.var,
+        },
+    );
     emit_and(buf, g.cur, g.var, a.lit, g.lit)
 }
 
 // A normal cell: enable, action and target, muxes.
 pub fn encode_cell(
     file: &[u8],
-    events: &[u16; 128],
-    nv: usize,
-    nm: usize,
+    events: &[u16; EVENT_PLACES],
     p: usize,
-    bits: &[u32; 544],
+    shape: Shape,
+    bits: &[u32; MAX_BITS],
     buf: &mut [i32],
-    cur: usize,
-    var: u32,
+    pen: Cursor,
 ) -> Moved
-    requires { ⌜ Ready (now file) (now events) nv nm × (length (now bits) ≡ 544) × NormalCell (now file) p ⌝ }
-    ensures { λ r. ⌜ ((x : NormalCell (now (file .entry)) p) → Emits var (mover! (layoutOf nv) (slotsOf (now (file .entry)) nv nm (now (bits .entry))) (cell (x .cell)) var) (now (buf .entry)) (now (buf .exit)) cur (resultFrom (now (file .entry)) nv nm (r .first)) (r .cur) (r .var)) ⌝ }
+    requires { ⌜ Ready (now file) (now events) shape × (length (now bits) ≡ maxBits) × NormalCell (now file) p ⌝ }
+    ensures { λ r. ⌜ ((x : NormalCell (now (file .entry)) p) → Moves (now (file .entry)) shape (now (bits .entry)) (cell (x .cell)) pen (now (buf .entry)) (now (buf .exit)) r) ⌝ }
 {
-    let e = encode_enable(file, events, nv, nm, p, bits, buf, cur, var);
+    let e = encode_enable(file, events, p, shape, bits, buf, pen);
     let mut state = *bits;
-    let middle = p + 8 + wide(file[p + 5]);
-    let past = middle + word(file, p + 6);
-    let a = encode_list(
-        file,
-        middle,
-        past,
-        nv,
-        nm,
-        MAX_NEST,
-        &mut state,
-        buf,
-        e.cur,
-        e.var,
-    );
-    let o = offset(file, nv) + 4 * wide(file[p]);
+    let at = p + 8 + wide(file[p + 5]);
+    let pen = Cursor {
+        cur: e.cur,
+        var: e.var,
+    };
+    let a = encode_list(file, at, shape, &mut state, buf, pen);
+    let o = offset(file, shape.variables) + 4 * wide(file[p]);
     store_word(&mut state, o, constant(wide(file[p + 4]) as u16), 4);
-    let x = muxes(file, nv, nm, e.lit, &mut state, bits, buf, a.cur, a.var);
+    let x = muxes(shape, e.lit, &mut state, bits, buf, a.pen);
     Moved {
-        first: a.var,
+        first: a.pen.var,
         cur: x.cur,
         var: x.var,
     }
@@ -207,25 +159,22 @@ pub fn encode_cell(
 // The external v: not(v), true, muxes.
 pub fn encode_external(
     file: &[u8],
-    events: &[u16; 128],
-    nv: usize,
-    nm: usize,
     v: usize,
-    bits: &[u32; 544],
+    shape: Shape,
+    bits: &[u32; MAX_BITS],
     buf: &mut [i32],
-    cur: usize,
-    var: u32,
+    pen: Cursor,
 ) -> Moved
-    requires { ⌜ Ready (now file) (now events) nv nm × (length (now bits) ≡ 544) × (v < nv) × (getD (now file) (3 * v) 0 ≡ 2) ⌝ }
-    ensures { λ r. ⌜ Emits var (mover! (layoutOf nv) (slotsOf (now (file .entry)) nv nm (now (bits .entry))) (raise v) var) (now (buf .entry)) (now (buf .exit)) cur (resultFrom (now (file .entry)) nv nm (r .first)) (r .cur) (r .var) ⌝ }
+    requires { ⌜ ShapedFile (now file) shape × (length (now bits) ≡ maxBits) × (v < shape .variables) × (getD (now file) (3 * v) 0 ≡ 2) ⌝ }
+    ensures { λ r. ⌜ Moves (now (file .entry)) shape (now (bits .entry)) (raise v) pen (now (buf .entry)) (now (buf .exit)) r ⌝ }
 {
-    let e = negate(load_flag(file, v, nv, nm, bits));
+    let e = negate(load_flag(file, v, shape, bits));
     let mut state = *bits;
     let o = offset(file, v);
     state[o] = TRUE;
-    let x = muxes(file, nv, nm, e, &mut state, bits, buf, cur, var);
+    let x = muxes(shape, e, &mut state, bits, buf, pen);
     Moved {
-        first: var,
+        first: pen.var,
         cur: x.cur,
         var: x.var,
     }

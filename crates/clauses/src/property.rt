@@ -1,18 +1,13 @@
 // The gates of a property: the invariant, or the chain over the invalid cells.
 ghost use mathlib.Core.Path.{_≡_};
 ghost use lib.ListN.{length};
+ghost use Rattle.design.specs.Limits.{maxBits};
 ghost use Rattle.design.specs.Tree.{Design};
-ghost use Rattle.design.specs.DesignFile.{c-matrix, c-status, c-event, c-kind};
 ghost use Rattle.design.specs.Check.{eventIn};
 ghost use Rattle.design.specs.Sections.{Parts, CellFields};
-ghost use Rattle.clauses.specs.Literal.{trueLiteral};
-ghost use Rattle.clauses.specs.Action.{noInvalid! };
-ghost use Rattle.clauses.specs.Formula.{property! };
-ghost use Rattle.clauses.specs.Writing.{fromCode, Emits};
-ghost use Rattle.clauses.specs.Piece.{link! };
-ghost use Rattle.clauses.specs.FlatState.{slotsOf, layoutOf};
-ghost use Rattle.clauses.specs.Ready.{Ready};
+ghost use Rattle.clauses.specs.Ready.{Ready, LinkGates, InvalidGates, PropertyGates};
 use super::expression::encode_bool;
+use super::gate::Cursor;
 use super::gate::Out;
 use super::gate::emit_and;
 use super::literal::TRUE;
@@ -24,60 +19,61 @@ use design::index::CELLS;
 use design::index::CELLS_AT;
 use design::index::INVARIANT_AT;
 use design::index::trailer_word;
-use design::limits::MAX_DEPTH;
-use design::limits::TRAILER;
+use design::limits::EVENT_PLACES;
+use design::limits::MAX_BITS;
+use design::shape::Shape;
 
-// The cell at p and the chain's gate; a normal cell adds nothing.
+// The chain's gate for the cell at p, after those so far; a normal cell adds nothing.
 pub fn encode_link(
     file: &[u8],
-    events: &[u16; 128],
-    nv: usize,
-    nm: usize,
+    events: &[u16; EVENT_PLACES],
     p: usize,
-    part: u32,
-    bits: &[u32; 544],
+    shape: Shape,
+    bits: &[u32; MAX_BITS],
     buf: &mut [i32],
-    cur: usize,
-    var: u32,
+    chain: Out,
 ) -> Out
-    requires { ⌜ Ready (now file) (now events) nv nm × (length (now bits) ≡ 544) × CellFields (now file) p ⌝ }
-    ensures { λ r. ⌜ ((d : Design) (w : Parts (now (file .entry)) d) → Emits var (link! (layoutOf nv) (slotsOf (now (file .entry)) nv nm (now (bits .entry))) (fromCode part) (c-kind (now (file .entry)) p) (c-matrix (now (file .entry)) p) (c-status (now (file .entry)) p) (eventIn (w .rows) (c-matrix (now (file .entry)) p) (c-event (now (file .entry)) p)) var) (now (buf .entry)) (now (buf .exit)) cur (fromCode (r .lit)) (r .cur) (r .var)) ⌝ }
+    requires { ⌜ Ready (now file) (now events) shape × (length (now bits) ≡ maxBits) × CellFields (now file) p ⌝ }
+    ensures { λ r. ⌜ ((d : Design) (w : Parts (now (file .entry)) d) → LinkGates (now (file .entry)) shape (now (bits .entry)) p (eventIn (w .rows)) chain (now (buf .entry)) (now (buf .exit)) r) ⌝ }
 {
     let kind = wide(file[p + 3]);
     if kind == 0 {
-        return Out {
-            lit: part,
-            cur: cur,
-            var: var,
-        };
+        return chain;
     }
-    let a = status_and_event(file, events, nv, nm, p, bits, buf, cur, var);
+    let pen = Cursor {
+        cur: chain.cur,
+        var: chain.var,
+    };
+    let a = status_and_event(file, events, p, shape, bits, buf, pen);
     let n = negate(a.lit);
-    emit_and(buf, a.cur, a.var, part, n)
+    emit_and(buf, a.cur, a.var, chain.lit, n)
 }
 
 // An and-chain from true over not(and(equal, event)) of the invalid cells.
 pub fn encode_invalid(
     file: &[u8],
-    events: &[u16; 128],
-    nv: usize,
-    nm: usize,
-    bits: &[u32; 544],
+    events: &[u16; EVENT_PLACES],
+    shape: Shape,
+    bits: &[u32; MAX_BITS],
     buf: &mut [i32],
-    cur: usize,
-    var: u32,
+    pen: Cursor,
 ) -> Out
-    requires { ⌜ Ready (now file) (now events) nv nm × (length (now bits) ≡ 544) ⌝ }
-    ensures { λ r. ⌜ ((d : Design) (w : Parts (now (file .entry)) d) → Emits var (noInvalid! (layoutOf nv) (slotsOf (now (file .entry)) nv nm (now (bits .entry))) trueLiteral (d .invalid) var) (now (buf .entry)) (now (buf .exit)) cur (fromCode (r .lit)) (r .cur) (r .var)) ⌝ }
+    requires { ⌜ Ready (now file) (now events) shape × (length (now bits) ≡ maxBits) ⌝ }
+    ensures { λ r. ⌜ ((d : Design) (w : Parts (now (file .entry)) d) → InvalidGates (now (file .entry)) shape (now (bits .entry)) (d .invalid) pen (now (buf .entry)) (now (buf .exit)) r) ⌝ }
 {
     let count = trailer_word(file, CELLS);
     let mut p = trailer_word(file, CELLS_AT);
     let mut part = TRUE;
-    let mut at = cur;
-    let mut g = var;
+    let mut at = pen.cur;
+    let mut g = pen.var;
     let mut i = 0;
     while i < count {
-        let t = encode_link(file, events, nv, nm, p, part, bits, buf, at, g);
+        let chain = Out {
+            lit: part,
+            cur: at,
+            var: g,
+        };
+        let t = encode_link(file, events, p, shape, bits, buf, chain);
         part = t.lit;
         at = t.cur;
         g = t.var;
@@ -93,28 +89,25 @@ pub fn encode_invalid(
 
 pub fn encode_property(
     file: &[u8],
-    events: &[u16; 128],
-    nv: usize,
-    nm: usize,
-    property: u8,
-    bits: &[u32; 544],
+    events: &[u16; EVENT_PLACES],
+    shape: Shape,
+    property: u64,
+    bits: &[u32; MAX_BITS],
     buf: &mut [i32],
-    cur: usize,
-    var: u32,
+    pen: Cursor,
 ) -> Out
-    requires { ⌜ Ready (now file) (now events) nv nm × (length (now bits) ≡ 544) ⌝ }
-    ensures { λ r. ⌜ ((d : Design) (w : Parts (now (file .entry)) d) → Emits var (property! d property (slotsOf (now (file .entry)) nv nm (now (bits .entry))) var) (now (buf .entry)) (now (buf .exit)) cur (fromCode (r .lit)) (r .cur) (r .var)) ⌝ }
+    requires { ⌜ Ready (now file) (now events) shape × (length (now bits) ≡ maxBits) ⌝ }
+    ensures { λ r. ⌜ ((d : Design) (w : Parts (now (file .entry)) d) → PropertyGates (now (file .entry)) shape (now (bits .entry)) d property pen (now (buf .entry)) (now (buf .exit)) r) ⌝ }
 {
     if property == 0 {
         let at = trailer_word(file, INVARIANT_AT);
-        let end = file.len() - TRAILER;
-        let x = encode_bool(file, file, at, end, nv, nm, MAX_DEPTH, bits, buf, cur, var);
+        let x = encode_bool(file, file, at, shape, bits, buf, pen);
         Out {
             lit: x.lit,
-            cur: x.cur,
-            var: x.var,
+            cur: x.pen.cur,
+            var: x.pen.var,
         }
     } else {
-        encode_invalid(file, events, nv, nm, bits, buf, cur, var)
+        encode_invalid(file, events, shape, bits, buf, pen)
     }
 }

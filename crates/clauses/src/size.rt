@@ -2,11 +2,10 @@
 ghost use mathlib.Core.Path.{_≡_};
 ghost use Rattle.clauses.specs.Size.{size as sizeOf};
 ghost use Rattle.clauses.specs.Replies.{sizeReply};
-use super::MAX_BOUND;
-use super::MAX_PROPERTY;
 use super::frame::FormulaSizes;
 use super::frame::formula;
 use super::frame::sizes;
+use step::gate::gate;
 
 pub enum SizeReply {
     Refused { number: u8, place: usize },
@@ -14,28 +13,16 @@ pub enum SizeReply {
 }
 
 // The numbers of the formula of a design for a property and a bound.
-pub fn size(file: &[u8], property: u8, bound: u8) -> SizeReply
+pub fn size(file: &[u8], property: u64, bound: u64) -> SizeReply
     ensures { λ r. ⌜ r ≡ sizeReply (sizeOf (now (file .entry)) property bound) ⌝ }
 {
-    let checked = design::check(file);
-    if checked.number != 0 {
+    let refusal = gate(file, property, bound);
+    if refusal.number != 0 {
         return SizeReply::Refused {
-            number: checked.number,
-            place: checked.place,
-        };
-    }
-    if MAX_PROPERTY < property {
-        return SizeReply::Refused {
-            number: 13,
-            place: 0,
-        };
-    }
-    if MAX_BOUND < bound {
-        return SizeReply::Refused {
-            number: 14,
-            place: 0,
+            number: refusal.number,
+            place: refusal.place,
         };
     }
     let s = sizes(file, property);
-    SizeReply::Sized(formula(s, bound as u64))
+    SizeReply::Sized(formula(s, bound))
 }

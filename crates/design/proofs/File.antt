@@ -12,8 +12,11 @@ use Rattle.design.specs.Tree.{BoolExpr, Variable, Kind, boolean, integer
 use Rattle.design.specs.Limits.{maxBytes, trailerBytes, maxVariables, maxMatrices, maxCells, maxMovers, lengthRight, countsRight, moversRight}
 use Rattle.design.specs.Expression.{Names}
 use Rattle.design.specs.DesignFile.{Item, item, refused, Walk, need, after, items, offset, Matrix, Entry, normal, invalid, variableAt, matrixAt, eventAt, events, eventsFrom, cellAt, cellsFrom, invariantAt}
-use Rattle.design.specs.Check.{namesOf, eventIn, normals, invalids, sections, trailer, version, variableCount, matricesOffset, matrixCount, eventsOffset, cellsOffset, cellCount, invariantOffset, body, last, check}
-use Rattle.design.specs.Answers.{walked, total, counted, raises, moves, bodied, VariablesRight, MatricesRight, EventsRight, refusal}
+use Rattle.design.specs.Check.{eventIn, normals, invalids, sections, trailer, version, variableCount, matricesOffset, matrixCount, eventsOffset, cellsOffset, cellCount, invariantOffset, body, last, check, namesOf, sectionNames, trailerCounts, trailerOffsets}
+use Rattle.design.specs.declared.shape.Shape.{Shape}
+use Rattle.design.specs.declared.shape.Counts.{Counts}
+use Rattle.design.specs.declared.shape.Offsets.{Offsets}
+use Rattle.design.specs.Answers.{walked, total, counted, raises, moves, bodied, VariablesRight, MatricesRight, EventsRight, refusal, shapeOf}
 use Rattle.design.specs.declared.item.Walked.{Walked}
 use Rattle.design.specs.declared.item.Walked.the-variants.{Past, Refused}
 use Rattle.design.specs.declared.item.Counted.{Counted}
@@ -71,12 +74,43 @@ externals-length (x ∷ xs) v = go (x .kind) (externals-length xs (suc v))
     go integer h = omega arith
     go external h = omega arith
 
-module _ (file : List ℕ) (end nv mo nm eo co nc io : ℕ) where
+module _ (file : List ℕ) (end : ℕ) (cs : Counts) (os : Offsets) where
+  abbrev nv : ℕ
+  nv = cs .variables
+
+  abbrev nm : ℕ
+  nm = cs .matrices
+
+  abbrev nc : ℕ
+  nc = cs .cells
+
+  abbrev mo : ℕ
+  mo = os .matrices
+
+  abbrev eo : ℕ
+  eo = os .events
+
+  abbrev co : ℕ
+  co = os .cells
+
+  abbrev io : ℕ
+  io = os .invariant
+
   abbrev N : Names
-  N = namesOf file nv nm
+  N = sectionNames file end cs os
 
   abbrev D : Item Design
-  D = sections file end nv mo nm eo co nc io 0
+  D = sections file end cs os 0
+
+  -- what was read with the shape of these counts
+  pub events-of : (s : Shape) → s ≡ shapeOf cs → (r : Walked) → r ≡ walked (eventsFrom file end (namesOf file s) mo 0 (s .matrices) eo) → r ≡ walked (eventsFrom file end N mo 0 nm eo)
+  events-of s e r h = h ∙ ap (λ (x : Shape). walked (eventsFrom file end (namesOf file x) mo 0 (x .matrices) eo)) e
+
+  pub cells-of : (s : Shape) → s ≡ shapeOf cs → (r : Counted) (f : ℕ → ℕ → BoolExpr) → r ≡ counted moves 0 (cellsFrom file end (namesOf file s) mo f nc co co) → r ≡ counted moves 0 (cellsFrom file end N mo f nc co co)
+  cells-of s e r f h = h ∙ ap (λ (x : Shape). counted moves 0 (cellsFrom file end (namesOf file x) mo f nc co co)) e
+
+  pub invariant-of : (s : Shape) → s ≡ shapeOf cs → (r : Walked) → r ≡ walked (invariantAt file end (namesOf file s) io) → r ≡ walked (invariantAt file end N io)
+  invariant-of s e r h = h ∙ ap (λ (x : Shape). walked (invariantAt file end (namesOf file x) io)) e
 
   abbrev VA : Walk Variable
   VA = variableAt file end
@@ -160,7 +194,7 @@ module _ (file : List ℕ) (end nv mo nm eo co nc io : ℕ) where
       sym (ap bodied (begin ∙ ap (λ (x : Item (List Variable)). after x W2) r ∙ wrong mo p _ h))
 
   -- from the matrices on
-  module _ (ext : ℕ) (e : VariablesRight file end nv mo ext) where
+  module _ (ext : ℕ) (e : VariablesRight file end cs os ext) where
     pub record S1 : Type 0 where
       pub vs : List Variable
       pub counts : ext ≡ total raises vs
@@ -180,7 +214,7 @@ module _ (file : List ℕ) (end nv mo nm eo co nc io : ℕ) where
         sym (ap bodied (s1 .is ∙ ap (λ (x : Item (List Matrix)). after x (W3 (s1 .vs))) r ∙ wrong eo q _ h))
 
     -- from the events on
-    module _ (e₂ : MatricesRight file end mo nm eo) where
+    module _ (e₂ : MatricesRight file end cs os) where
       pub before-events : (mo ≡ 3 * nv) × (mo + 2 * nm ≤ end) × (eo ≤ end)
       before-events = let a = variables-end mo ext e in let b = matrices-end eo (omega arith) e₂ in (omega arith, omega arith, omega arith)
 
@@ -204,7 +238,7 @@ module _ (file : List ℕ) (end nv mo nm eo co nc io : ℕ) where
           sym (ap bodied (s2 .is ∙ ap (λ (x : Item (List (List BoolExpr))). after x (W4 (s2 .vs) (s2 .ms))) r ∙ wrong co s _ h))
 
       -- from the cells on
-      module _ (e₃ : EventsRight file end nv mo nm eo co) where
+      module _ (e₃ : EventsRight file end cs os) where
         pub before-cells : (mo ≡ 3 * nv) × (mo + 2 * nm ≤ end) × (co ≤ end) × (ext ≤ nv)
         before-cells = let a = variables-end mo ext e in let b = before-events in let d = events-end co (omega arith) e₃ in (omega arith, omega arith, omega arith, omega arith)
 
@@ -325,12 +359,12 @@ module _ (file : List ℕ) where
       pub whole-version : (v ≡ 1 → ⊥) → answers 2 (trailer file)
       whole-version h = refuse 2 (trailer file) (in-length ∙ unmet (eqb (version file) 1) 2 (trailer file) R3 (ne-eqb (version file) 1 (λ e. h (ve ∙ e))))
 
-      module _ (v1 : v ≡ 1) (nv nm nc : ℕ) (nve : nv ≡ variableCount file) (nme : nm ≡ matrixCount file) (nce : nc ≡ cellCount file) (u : Bool) (ue : u ≡ countsRight nv nm nc) where
+      module _ (v1 : v ≡ 1) (cs : Counts) (cse : cs ≡ trailerCounts file) (u : Bool) (ue : u ≡ countsRight (cs .variables) (cs .matrices) (cs .cells)) where
         in-version : R1 ≡ R3
         in-version = in-length ∙ met (eqb (version file) 1) 2 (trailer file) R3 (eq-eqb (version file) 1 (sym ve ∙ v1))
 
         told : u ≡ counts
-        told = ue ∙ (λ i. countsRight (nve i) (nme i) (nce i))
+        told = ue ∙ ap (λ (x : Counts). countsRight (x .variables) (x .matrices) (x .cells)) cse
 
         pub whole-counts : u ≡ false → answers 3 (trailer file)
         whole-counts h = refuse 3 (trailer file) (in-version ∙ unmet counts 3 (trailer file) (body file 0) (sym told ∙ h))
@@ -340,9 +374,9 @@ module _ (file : List ℕ) where
           unfolding check
           whole-body = ap (last file) (in-version ∙ met counts 3 (trailer file) (body file 0) (sym told ∙ u1))
 
-          module _ (mo eo co io : ℕ) (moe : mo ≡ matricesOffset file) (eoe : eo ≡ eventsOffset file) (coe′ : co ≡ cellsOffset file) (ioe : io ≡ invariantOffset file) where
+          module _ (os : Offsets) (ose : os ≡ trailerOffsets file) where
             abbrev D′ : Item Design
-            D′ = sections file (trailer file) nv mo nm eo co nc io 0
+            D′ = sections file (trailer file) cs os 0
 
             same-body : D′ ≡ body file 0
             same-body = cc

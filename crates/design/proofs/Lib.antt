@@ -7,7 +7,10 @@ pub mod Items
 pub mod Cells
 pub mod File
 pub mod Numbers
+pub mod Widths
 pub mod Trees
 pub mod WellFormed
 pub mod Places
 pub mod Tables
+pub mod Externals
+pub mod Indexed

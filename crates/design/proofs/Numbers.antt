@@ -12,7 +12,9 @@ use Rattle.design.specs.Reading.{Read, got, bad}
 use Rattle.design.specs.Expression.{Names, boolExpr}
 use Rattle.design.specs.Action.{list}
 use Rattle.design.specs.DesignFile.{Item, item, refused, Walk, need, filling, after, items, offset, variableAt, matrixAt, eventAt, eventsFrom, events, guard, action, entry, cellAt, cellsFrom, c-guard, c-kind, c-middle, c-past, at8, at16, fields, ordered, invariantAt}
-use Rattle.design.specs.Check.{Checked, accepted, namesOf, sections, last, check, trailer, version, variableCount, matricesOffset, matrixCount, eventsOffset, cellsOffset, cellCount, invariantOffset, body}
+use Rattle.design.specs.Check.{Checked, accepted, sections, last, check, trailer, version, variableCount, matricesOffset, matrixCount, eventsOffset, cellsOffset, cellCount, invariantOffset, body, sectionNames, trailerCounts, trailerOffsets}
+use Rattle.design.specs.declared.shape.Counts.{Counts}
+use Rattle.design.specs.declared.shape.Offsets.{Offsets}
 use Rattle.design.specs.Answers.{refusal}
 use Rattle.design.proofs.File.{counts, R2, R3}
 
@@ -98,18 +100,18 @@ module _ (file : List ℕ) (end : ℕ) where
             n-after (cellAt file end N M f before at) _ (n-cell before at)
             (λ c j. n-after (cellsFrom file end N M f n at j) _ (n-cells n at j) (λ cs p. n-item (c ∷ cs) p))
 
-  n-sections : (nv mo nm eo co nc io : ℕ) → Numbered (sections file end nv mo nm eo co nc io 0)
+  n-sections : (cs : Counts) (os : Offsets) → Numbered (sections file end cs os 0)
   unfolding sections
-  n-sections nv mo nm eo co nc io =
-      n-after (items (variableAt file end) nv 0) _ (n-items (variableAt file end) n-variable nv 0) λ vs p.
-      n-after (offset mo p) _ (n-offset mo p) λ u₁ a₁.
-      n-after (items (matrixAt file end) nm a₁) _ (n-items (matrixAt file end) n-matrix nm a₁) λ ms q.
-      n-after (offset eo q) _ (n-offset eo q) λ u₂ a₂.
-      n-after (eventsFrom file end (namesOf file nv nm) mo 0 nm a₂) _ (n-events (namesOf file nv nm) mo 0 nm a₂) λ rows s.
-      n-after (offset co s) _ (n-offset co s) λ u₃ a₃.
-      n-after (cellsFrom file end (namesOf file nv nm) mo (λ m e. getD (getD rows m []) e (constantB false)) nc a₃ a₃) _ (n-cells (namesOf file nv nm) mo (λ m e. getD (getD rows m []) e (constantB false)) nc a₃ a₃) λ es t.
-      n-after (offset io t) _ (n-offset io t) λ u₄ a₄.
-      n-after (invariantAt file end (namesOf file nv nm) a₄) _ (n-invariant (namesOf file nv nm) a₄) λ inv n.
+  n-sections cs os =
+      n-after (items (variableAt file end) (cs .variables) 0) _ (n-items (variableAt file end) n-variable (cs .variables) 0) λ vs p.
+      n-after (offset (os .matrices) p) _ (n-offset (os .matrices) p) λ u₁ a₁.
+      n-after (items (matrixAt file end) (cs .matrices) a₁) _ (n-items (matrixAt file end) n-matrix (cs .matrices) a₁) λ ms q.
+      n-after (offset (os .events) q) _ (n-offset (os .events) q) λ u₂ a₂.
+      n-after (eventsFrom file end (sectionNames file end cs os) (os .matrices) 0 (cs .matrices) a₂) _ (n-events (sectionNames file end cs os) (os .matrices) 0 (cs .matrices) a₂) λ rows s.
+      n-after (offset (os .cells) s) _ (n-offset (os .cells) s) λ u₃ a₃.
+      n-after (cellsFrom file end (sectionNames file end cs os) (os .matrices) (λ m e. getD (getD rows m []) e (constantB false)) (cs .cells) a₃ a₃) _ (n-cells (sectionNames file end cs os) (os .matrices) (λ m e. getD (getD rows m []) e (constantB false)) (cs .cells) a₃ a₃) λ es t.
+      n-after (offset (os .invariant) t) _ (n-offset (os .invariant) t) λ u₄ a₄.
+      n-after (invariantAt file end (sectionNames file end cs os) a₄) _ (n-invariant (sectionNames file end cs os) a₄) λ inv n.
       n-item _ n
 
 -- an answer of number 0 is an accepted file
@@ -128,5 +130,5 @@ zero-accepted file e =
     (n-need (lengthRight (length file)) 1 (length file) (R2 file) (omega arith)
     (n-need (eqb (version file) 1) 2 (trailer file) (R3 file) (omega arith)
     (n-need (counts file) 3 (trailer file) (body file 0) (omega arith)
-    (n-sections file (trailer file) (variableCount file) (matricesOffset file) (matrixCount file) (eventsOffset file) (cellsOffset file) (cellCount file) (invariantOffset file)))))
+    (n-sections file (trailer file) (trailerCounts file) (trailerOffsets file)))))
     e

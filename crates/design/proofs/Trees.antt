@@ -13,7 +13,7 @@ use Rattle.design.specs.Reading.{Read, got, bad, Reader, provided, bind,
 use Rattle.design.specs.Expression.{Names, IntOp, BoolOp, intOps, boolOps, intOp, boolOp, byte, word, intOf, boolOf, intExpr, boolExpr}
 use Rattle.design.specs.Action.{StmtOp, stmtOp, value, assignment, statements, listOf, conditional, stmtOf, statement, list}
 use Rattle.design.specs.State.{Layout}
-use Rattle.design.specs.WellFormed.{IsStatus, IntOk, BoolOk, StmtOk, StmtsOk}
+use Rattle.design.specs.WellFormed.{IsStatus, IsInteger, IsBoolean, IntOk, BoolOk, StmtOk, StmtsOk}
 
 -- P holds of what was read
 pub record All {A : Type 0} (P : A → Type 0) (r : Read A) : Type 0 where
@@ -77,8 +77,8 @@ keepsB ws l b =
 
 module _ (text : List ℕ) (names : Names) (ws : List ℕ) (l : Layout)
     (bytes : (i : ℕ) → getD text i 0 < 256)
-    (flags : (v : ℕ) → v < names .variables → (names .kindOf v ≡ 1 → ⊥) → getD ws v 0 ≡ 1)
-    (ints : (v : ℕ) → v < names .variables → names .kindOf v ≡ 1 → getD ws v 0 ≡ 16)
+    (flags : (v : ℕ) → v < names .variables → (names .kindOf v ≡ 1 → ⊥) → IsBoolean ws l v)
+    (ints : (v : ℕ) → v < names .variables → names .kindOf v ≡ 1 → IsInteger ws l v)
     (statuses : (m : ℕ) → m < names .matrices → IsStatus ws l m) where
   abbrev OkI : IntExpr → Type 0
   OkI = IntOk ws l

@@ -16,7 +16,8 @@ use Rattle.design.specs.Reading.{Read, got, bad}
 use Rattle.design.specs.Expression.{Names, boolExpr}
 use Rattle.design.specs.DesignFile.{item, need, filling, Matrix, Entry, normal, invalid, kind, variableAt, matrixAt, eventAt, events, statuses, cellAt, invariantAt, c-past, fields, ending, ordered, guard, action, entry}
 use Rattle.design.specs.Check.{accepted, normals, invalids, trailer, variableCount, matricesOffset, matrixCount, eventsOffset, invariantOffset, names, check, eventIn}
-use Rattle.design.specs.WellFormed.{Narrow, IsStatus, BoolOk, StmtsOk, InRange, CellOk, InvalidOk, MoversOk, InvalidsOk, StatusesOk, WellFormed}
+use Rattle.design.specs.WellFormed.{Narrow, IsStatus, IsInteger, IsBoolean, BoolOk, StmtsOk, InRange, CellOk, InvalidOk, MoversOk, InvalidsOk, CountsOk, StatusesOk, WellFormed}
+use Rattle.design.proofs.Widths.{matrix-count}
 use Rattle.design.proofs.Trees.{All, bool-ok, list-ok}
 use Rattle.design.specs.Sections.{Run, Rows, Cells, Parts}
 use Rattle.design.proofs.Sections.{after-inv, need-inv, and-inv, item-same, item-past, whole}
@@ -88,6 +89,7 @@ module _ (file : List ℕ) (end : ℕ) (bytes : (i : ℕ) → getD file i 0 < 25
 
   pub record MatrixRight (at : ℕ) (x : Matrix) (n : ℕ) : Type 0 where
     pub count : x .statuses ≡ getD file at 0
+    pub some : 1 ≤ getD file at 0
     pub statuses : getD file at 0 ≤ 16
     pub past : n ≡ at + 2
 
@@ -101,7 +103,12 @@ module _ (file : List ℕ) (end : ℕ) (bytes : (i : ℕ) → getD file i 0 < 25
       let (t₁, h₁) = need-inv (leb (at + 2) end) 4 at _ x n e in
       let (t₂, h₂) = need-inv (a && b && c && d) 6 at _ x n h₁ in
       let s = and-inv a b (and-inv (a && b) c (and-inv (a && b && c) d t₂ .0) .0) in
-      record { count = sym (ap (λ (y : Matrix). y .statuses) (item-same _ _ _ _ h₂)); statuses = leb-true _ _ (s .1); past = sym (item-past _ _ _ _ h₂) }
+      record {
+        count = sym (ap (λ (y : Matrix). y .statuses) (item-same _ _ _ _ h₂));
+        some = leb-true _ _ (s .0);
+        statuses = leb-true _ _ (s .1);
+        past = sym (item-past _ _ _ _ h₂);
+      }
 
   matrix-small : (ms : List Matrix) (at past : ℕ) → Run (matrixAt file end) at ms past → (m p : ℕ) → p ≡ at + 2 * m → m < length ms → getD file p 0 ≤ 16
   matrix-small [] at past r m p q h = absurd (omega arith)
@@ -117,6 +124,12 @@ module _ (file : List ℕ) (end : ℕ) (bytes : (i : ℕ) → getD file i 0 < 25
   matrix-counts (x ∷ xs) at past r (suc m) p q h =
       let f = matrix-right at x (r .0) (r .1) in
       matrix-counts xs (r .0) past (r .2) m p (let z : r .0 ≡ at + 2 = f .past in omega arith) (omega arith)
+
+  counts-ok : (ms : List Matrix) (at past : ℕ) → Run (matrixAt file end) at ms past → CountsOk (map (λ (x : Matrix). x .statuses) ms)
+  counts-ok [] at past r = tt
+  counts-ok (x ∷ xs) at past r =
+      let f = matrix-right at x (r .0) (r .1) in
+      (omega (arith, f .count, f .some), omega (arith, f .count, f .statuses), counts-ok xs (r .0) past (r .2))
 
 fours : (k : ℕ) → Narrow (replicate k 4)
 fours zero = tt
@@ -147,21 +160,23 @@ module _ (file : List ℕ) (bytes : (i : ℕ) → getD file i 0 < 256) (d : Desi
       List·getD-append (map wide (d .variables)) (replicate (length (d .statuses)) 4) 0 v (omega (arith, length-map (d .variables) wide, p .variable-count))
       ∙ variable-width file E bytes (d .variables) 0 M (p .variable-run) v (3 * v) (omega arith) (omega (arith, p .variable-count))
 
-  flags : (v : ℕ) → v < variableCount file → (getD file (3 * v) 0 ≡ 1 → ⊥) → getD (widths d) v 0 ≡ 1
-  flags v h k = variable-widths v h ∙ flag-width _ k
+  flags : (v : ℕ) → v < variableCount file → (getD file (3 * v) 0 ≡ 1 → ⊥) → IsBoolean (widths d) (layout d) v
+  unfolding layout
+  flags v h k = record { inside = omega (arith, p .variable-count); width = variable-widths v h ∙ flag-width _ k }
 
-  ints : (v : ℕ) → v < variableCount file → getD file (3 * v) 0 ≡ 1 → getD (widths d) v 0 ≡ 16
-  ints v h k = variable-widths v h ∙ int-width _ k
-
-  status-count : length (d .statuses) ≡ matrixCount file
-  status-count = ap length (p .statuses) ∙ length-map (p .matrices) (λ (m : Matrix). m .statuses) ∙ p .matrix-count
+  ints : (v : ℕ) → v < variableCount file → getD file (3 * v) 0 ≡ 1 → IsInteger (widths d) (layout d) v
+  unfolding layout
+  ints v h k = record { inside = omega (arith, p .variable-count); width = variable-widths v h ∙ int-width _ k }
 
   status-width : (m : ℕ) → m < matrixCount file → IsStatus (widths d) (layout d) m
   unfolding widths layout
   status-width m h =
-      ap (λ (i : ℕ). getD (map wide (d .variables) ++ replicate (length (d .statuses)) 4) (i + m) 0) (sym (length-map (d .variables) wide))
-      ∙ getD-append-add (map wide (d .variables)) (replicate (length (d .statuses)) 4) m 0
-      ∙ getD-replicate (length (d .statuses)) m 4 0 (omega (arith, status-count))
+      record {
+        inside = omega (arith, matrix-count file d p);
+        width = ap (λ (i : ℕ). getD (map wide (d .variables) ++ replicate (length (d .statuses)) 4) (i + m) 0) (sym (length-map (d .variables) wide))
+            ∙ getD-append-add (map wide (d .variables)) (replicate (length (d .statuses)) 4) m 0
+            ∙ getD-replicate (length (d .statuses)) m 4 0 (omega (arith, matrix-count file d p));
+      }
 
   event-ok : (at : ℕ) (x : BoolExpr) (n : ℕ) → eventAt file E N at ≡ item x n → BoolOk (widths d) (layout d) x
   unfolding eventAt
@@ -268,14 +283,20 @@ module _ (file : List ℕ) (bytes : (i : ℕ) → getD file i 0 < 256) (d : Desi
   invalids-ok (invalid q ∷ es) h = (h .0, invalids-ok es (h .1))
 
   -- an external's width is 1
-  externals-ok : (vs : List Variable) (v : ℕ) → ((i : ℕ) → i < length vs → getD (widths d) (v + i) 0 ≡ getD (map wide vs) i 0) → MoversOk (widths d) (layout d) (externals v vs)
-  externals-ok [] v h = tt
-  externals-ok (x ∷ xs) v h = go (x .kind) refl (externals-ok xs (suc v) (λ i l. ap (λ (j : ℕ). getD (widths d) j 0) (let z : suc v + i ≡ v + suc i = omega arith in z) ∙ h (suc i) (omega arith)))
+  externals-ok : (vs : List Variable) (v : ℕ) → v + length vs ≡ length (d .variables) → ((i : ℕ) → i < length vs → getD (widths d) (v + i) 0 ≡ getD (map wide vs) i 0)
+      → MoversOk (widths d) (layout d) (externals v vs)
+  unfolding layout
+  externals-ok [] v n h = tt
+  externals-ok (x ∷ xs) v n h =
+      go (x .kind) refl
+      (externals-ok xs (suc v) (omega arith) (λ i l. ap (λ (j : ℕ). getD (widths d) j 0) (let z : suc v + i ≡ v + suc i = omega arith in z) ∙ h (suc i) (omega arith)))
     where
       go : (k : Kind) → x .kind ≡ k → MoversOk (widths d) (layout d) (externals (suc v) xs) → MoversOk (widths d) (layout d) (ifExternal k (raise v ∷ externals (suc v) xs) (externals (suc v) xs))
       go boolean q r = r
       go integer q r = r
-      go external q r = (ap (λ (j : ℕ). getD (widths d) j 0) (let z : v ≡ v + 0 = omega arith in z) ∙ h 0 (omega arith) ∙ ap width q, r)
+      go external q r =
+          let bits = ap (λ (j : ℕ). getD (widths d) j 0) (let z : v ≡ v + 0 = omega arith in z) ∙ h 0 (omega arith) ∙ ap width q in
+          (record { inside = omega arith; width = bits }, r)
 
   invariant-ok : (x : BoolExpr) (n : ℕ) → invariantAt file E N (invariantOffset file) ≡ item x n → BoolOk (widths d) (layout d) x
   unfolding invariantAt
@@ -290,7 +311,8 @@ module _ (file : List ℕ) (bytes : (i : ℕ) → getD file i 0 < 256) (d : Desi
         few-movers = few;
         narrow = variables-small file E bytes (d .variables) 0 0 (replicate (length (d .statuses)) 4) (fours (length (d .statuses)));
         movers = subst (λ (l : List Cell). MoversOk (widths d) (layout d) (map cell l ++ externals 0 (d .variables))) (sym (p .cells))
-            (normals-ok (p .entries) all (externals 0 (d .variables)) (externals-ok (d .variables) 0 (λ i l. ap (λ (j : ℕ). getD (widths d) j 0) (let z : 0 + i ≡ i = omega arith in z) ∙ List·getD-append (map wide (d .variables)) (replicate (length (d .statuses)) 4) 0 i (omega (arith, length-map (d .variables) wide)))));
+            (normals-ok (p .entries) all (externals 0 (d .variables)) (externals-ok (d .variables) 0 (omega arith) (λ i l. ap (λ (j : ℕ). getD (widths d) j 0) (let z : 0 + i ≡ i = omega arith in z) ∙ List·getD-append (map wide (d .variables)) (replicate (length (d .statuses)) 4) 0 i (omega (arith, length-map (d .variables) wide)))));
+        counts = subst CountsOk (sym (p .statuses)) (counts-ok file E bytes (p .matrices) M (eventsOffset file) (p .matrix-run));
         statuses = subst (StatusesOk (d .statuses)) (sym (p .cells)) (statuses-ok (p .entries) all);
         invariant = invariant-ok (d .invariant) (p .past) (p .invariant);
         invalid = subst (InvalidsOk (widths d) (layout d)) (sym (p .invalid)) (invalids-ok (p .entries) all);

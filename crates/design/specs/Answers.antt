@@ -1,5 +1,5 @@
 -- What the code answers, of what the definitions say.
-use Prim.Native.Nat.{ℕ, _+_}
+use Prim.Native.Nat.{ℕ, _+_, _<_}
 use mathlib.Core.Path.{_≡_}
 use mathlib.Core.Bool.{cond}
 use mathlib.Core.List.{List, [], _∷_}
@@ -7,9 +7,12 @@ use lib.Dec.{eqb}
 use Rattle.design.specs.Tree.{Variable, ifExternal, Design, movers}
 use Rattle.design.specs.Reading.{Read, got, bad}
 use Rattle.design.specs.DesignFile.{Item, item, refused, items, Entry, normal, invalid, variableAt, matrixAt, eventsFrom}
-use Rattle.design.specs.Check.{Checked, accepted, namesOf}
+use Rattle.design.specs.Check.{Checked, accepted, sectionNames}
 use lib.ListN.{length}
 use Rattle.design.specs.declared.Refusal.{Refusal}
+use Rattle.design.specs.declared.shape.Shape.{Shape}
+use Rattle.design.specs.declared.shape.Counts.{Counts}
+use Rattle.design.specs.declared.shape.Offsets.{Offsets}
 use Rattle.design.specs.declared.expression.Found.{Found}
 use Rattle.design.specs.declared.expression.Found.the-variants.{At, Bad}
 use Rattle.design.specs.declared.item.Walked.{Walked}
@@ -54,15 +57,24 @@ bodied (item d n) = Passed n (length (movers d))
 bodied (refused number place) = Stopped number place
 
 -- the first sections are right and end where the next ones stand
-module _ (file : List ℕ) (end : ℕ) where
-  abbrev pub VariablesRight : ℕ → ℕ → ℕ → Type 0
-  VariablesRight variables matricesAt externals = Passed matricesAt externals ≡ counted raises 0 (items (variableAt file end) variables 0)
+module _ (file : List ℕ) (end : ℕ) (counts : Counts) (offsets : Offsets) where
+  abbrev pub VariablesRight : ℕ → Type 0
+  VariablesRight externals = Passed (offsets .matrices) externals ≡ counted raises 0 (items (variableAt file end) (counts .variables) 0)
 
-  abbrev pub MatricesRight : ℕ → ℕ → ℕ → Type 0
-  MatricesRight matricesAt matrices eventsAt = Past eventsAt ≡ walked (items (matrixAt file end) matrices matricesAt)
+  abbrev pub MatricesRight : Type 0
+  MatricesRight = Past (offsets .events) ≡ walked (items (matrixAt file end) (counts .matrices) (offsets .matrices))
 
-  abbrev pub EventsRight : ℕ → ℕ → ℕ → ℕ → ℕ → Type 0
-  EventsRight variables matricesAt matrices eventsAt cellsAt = Past cellsAt ≡ walked (eventsFrom file end (namesOf file variables matrices) matricesAt 0 matrices eventsAt)
+  abbrev pub EventsRight : Type 0
+  EventsRight = Past (offsets .cells) ≡ walked (eventsFrom file end (sectionNames file end counts offsets) (offsets .matrices) 0 (counts .matrices) (offsets .events))
+
+-- counts are two-byte numbers
+pub record SmallCounts (counts : Counts) : Type 0 where
+  pub variables : counts .variables < 65536
+  pub cells : counts .cells < 65536
+
+-- while CHECK reads, the counts that the trailer does not have are 0
+abbrev pub shapeOf : Counts → Shape
+shapeOf counts = record { variables = counts .variables; matrices = counts .matrices; normals = 0; externals = 0; bits = 0 }
 
 -- of the whole, the refusal's number and place; 0 and 0 where it is accepted
 abbrev pub refusal : Checked → Refusal

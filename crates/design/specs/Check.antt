@@ -8,11 +8,17 @@ use Rattle.design.specs.Tree.{BoolExpr, constantB, Cell, InvalidCell, De
 use Rattle.design.specs.Limits.{trailerBytes, lengthRight, countsRight, moversRight}
 use Rattle.design.specs.Expression.{Names, intOp, boolOp, intExpr, boolExpr}
 use Rattle.design.specs.Action.{stmtOp, assignment, statements, listOf, statement}
+use Rattle.design.specs.declared.shape.Shape.{Shape}
+use Rattle.design.specs.declared.shape.Counts.{Counts}
+use Rattle.design.specs.declared.shape.Offsets.{Offsets}
 use Rattle.design.specs.DesignFile.{Item, item, Walk, give, need, _>>=_, _>>_, items, offset, Matrix, Entry, normal, invalid, at16, variableAt, matrixAt, eventAt, eventsFrom, cellAt, cellsFrom, invariantAt as invariantItem}
 
--- what an expression names in a file with so many variables and matrices
-abbrev pub namesOf : List ℕ → ℕ → ℕ → Names
-namesOf file nv nm = record { variables = nv; kindOf = λ v. getD file (3 * v) 0; matrices = nm }
+-- what an expression names in a file with so many variables and matrices, and with a shape
+abbrev pub namesIn : List ℕ → ℕ → ℕ → Names
+namesIn file variables matrices = record { variables = variables; kindOf = λ v. getD file (3 * v) 0; matrices = matrices }
+
+abbrev pub namesOf : List ℕ → Shape → Names
+namesOf file shape = namesIn file (shape .variables) (shape .matrices)
 
 pub data Checked : Type 0 where
   refused : ℕ → ℕ → Checked
@@ -32,19 +38,22 @@ invalids (invalid p ∷ es) = p ∷ invalids es
 abbrev pub eventIn : List (List BoolExpr) → ℕ → ℕ → BoolExpr
 eventIn rows m e = getD (getD rows m []) e (constantB false)
 
--- the items in file order, with what the trailer says of them; they end at `end`
-module _ (file : List ℕ) (end variables matricesAt matrices eventsAt cellsAt cells invariantAt : ℕ) where
+-- the items in file order, with what the trailer says of them: its counts and its offsets; they end at `end`
+module _ (file : List ℕ) (end : ℕ) (counts : Counts) (offsets : Offsets) where
+  abbrev pub sectionNames : Names
+  sectionNames = namesIn file (counts .variables) (counts .matrices)
+
   unfoldable pub sections : Walk Design
   sections = do
-    vs ← items (variableAt file end) variables
-    offset matricesAt
-    ms ← items (matrixAt file end) matrices
-    offset eventsAt
-    rows ← eventsFrom file end (namesOf file variables matrices) matricesAt 0 matrices
-    offset cellsAt
-    es ← (λ at. cellsFrom file end (namesOf file variables matrices) matricesAt (eventIn rows) cells at at)
-    offset invariantAt
-    invariant ← invariantItem file end (namesOf file variables matrices)
+    vs ← items (variableAt file end) (counts .variables)
+    offset (offsets .matrices)
+    ms ← items (matrixAt file end) (counts .matrices)
+    offset (offsets .events)
+    rows ← eventsFrom file end sectionNames (offsets .matrices) 0 (counts .matrices)
+    offset (offsets .cells)
+    es ← (λ at. cellsFrom file end sectionNames (offsets .matrices) (eventIn rows) (counts .cells) at at)
+    offset (offsets .invariant)
+    invariant ← invariantItem file end sectionNames
     give (record {
       variables = vs;
       statuses = map (λ (m : Matrix). m .statuses) ms;
@@ -83,10 +92,16 @@ module _ (file : List ℕ) where
   invariantOffset = at16 file (trailer + 14)
 
   abbrev pub names : Names
-  names = namesOf file variableCount matrixCount
+  names = namesIn file variableCount matrixCount
+
+  abbrev pub trailerCounts : Counts
+  trailerCounts = record { variables = variableCount; matrices = matrixCount; cells = cellCount }
+
+  abbrev pub trailerOffsets : Offsets
+  trailerOffsets = record { matrices = matricesOffset; events = eventsOffset; cells = cellsOffset; invariant = invariantOffset }
 
   abbrev pub body : Walk Design
-  body = sections file trailer variableCount matricesOffset matrixCount eventsOffset cellsOffset cellCount invariantOffset
+  body = sections file trailer trailerCounts trailerOffsets
 
   -- last, the number of movers
   abbrev pub last : Item Design → Checked

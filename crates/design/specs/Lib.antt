@@ -7,6 +7,7 @@ pub mod Expression
 pub mod Action
 pub mod DesignFile
 pub mod Check
+pub mod Answer
 pub mod Sections
 pub mod WellFormed
 pub mod Answers

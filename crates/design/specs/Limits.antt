@@ -1,5 +1,5 @@
 -- The limits of the design file, in one place.
-use Prim.Native.Nat.{ℕ}
+use Prim.Native.Nat.{ℕ, _+_, _*_}
 use mathlib.Core.Bool.{Bool, _&&_}
 use lib.Dec.{leb}
 
@@ -35,6 +35,17 @@ maxDepth = 16
 
 abbrev pub maxNest : ℕ
 maxNest = 4
+
+-- the first 16 events of a matrix have their places in a table
+abbrev pub eventPlaces : ℕ
+eventPlaces = maxMatrices * maxEvents
+
+-- slots of a state, and their bits where every variable is an integer
+abbrev pub maxSlots : ℕ
+maxSlots = maxVariables + maxMatrices
+
+abbrev pub maxBits : ℕ
+maxBits = 16 * maxVariables + 4 * maxMatrices
 
 -- the tests of a file's length, of the trailer's counts, and of the number of movers
 abbrev pub lengthRight : ℕ → Bool

@@ -2,17 +2,26 @@
 use mathlib.Core.Path.{_≡_}
 use mathlib.Core.Bool.{cond}
 use mathlib.Core.List.{List, [], _∷_}
-use Prim.Native.Nat.{ℕ, zero, suc, _+_, _*_, _<_}
+use Prim.Native.Nat.{ℕ, zero, suc, _+_, _*_, _<_, _≤_}
 use lib.ListN.{getD, length, take}
 use lib.Dec.{eqb}
-use Rattle.design.specs.Limits.{maxEvents}
+use Rattle.design.specs.Limits.{maxEvents, maxBits}
+use Rattle.design.specs.Tree.{Design}
+use Rattle.design.specs.State.{widthsOf, total, S}
+use Rattle.design.specs.Sections.{Parts}
 use Rattle.design.specs.DesignFile.{at8, events, c-kind, c-past}
-use Rattle.design.specs.Check.{check, matricesOffset, matrixCount, eventsOffset, cellsOffset, cellCount}
+use Rattle.design.specs.declared.shape.Shape.{Shape}
+use Rattle.design.specs.Check.{check, variableCount, matricesOffset, matrixCount, eventsOffset, cellsOffset, cellCount}
 use Rattle.design.specs.Answers.{refusal}
 
 -- CHECK refuses nothing
 abbrev pub Accepted : List ℕ → Type 0
 Accepted file = refusal (check file) .number ≡ 0
+
+-- the externals among n variables from v on, by their kind bytes
+unfoldable pub externalsFrom : List ℕ → ℕ → ℕ → List ℕ
+externalsFrom file v zero = []
+externalsFrom file v (suc n) = cond (eqb (getD file (3 * v) 0) 2) (v ∷ externalsFrom file (suc v) n) (externalsFrom file (suc v) n)
 
 module _ (file : List ℕ) where
   -- the position past so many events, and past so many cells
@@ -47,3 +56,33 @@ module _ (file : List ℕ) where
   pub record CellsIndexed (table : List ℕ) (normals : ℕ) : Type 0 where
     pub count : normals ≡ length normalPlaces
     pub entries : take normals table ≡ normalPlaces
+
+  -- the shape has the file's numbers of variables and matrices
+  pub record Shaped (h : Shape) : Type 0 where
+    pub variables : h .variables ≡ variableCount file
+    pub matrices : h .matrices ≡ matrixCount file
+
+  -- the table has the shape's normal cells, and the shape the number of externals
+  pub record MoversIndexed (cells : List ℕ) (h : Shape) : Type 0 where
+    pub normals : CellsIndexed cells (h .normals)
+    pub externals : h .externals ≡ length (externalsFrom file 0 (h .variables))
+
+-- the shape's number of state bits: by the bytes, of the tree, and not too many
+pub record StateBits (file : List ℕ) (h : Shape) : Type 0 where
+  pub total : h .bits ≡ total (widthsOf file (h .variables) (h .matrices))
+  pub state : (d : Design) → Parts file d → h .bits ≡ S d
+  pub few : h .bits ≤ maxBits
+
+-- all that the shape of a file with so many normal cells says
+pub record Measured (file : List ℕ) (count : ℕ) (h : Shape) : Type 0 where
+  pub shaped : Shaped file h
+  pub normals : h .normals ≡ count
+  pub externals : h .externals ≡ length (externalsFrom file 0 (h .variables))
+  pub few : h .externals ≤ h .variables
+  pub bits : StateBits file h
+
+-- what walkers of an accepted file are given: its table of events, and its shape
+pub record Indexed (file table : List ℕ) (h : Shape) : Type 0 where
+  pub accepted : Accepted file
+  pub events : EventsIndexed file table
+  pub shaped : Shaped file h

@@ -94,3 +94,10 @@ module _ (file : List ℕ) where
     pub event : c-event file p < events file (matricesOffset file) (c-matrix file p)
     pub header : p + 8 ≤ E
     pub past : c-past file p ≤ E
+
+-- a normal cell that stands at p
+pub record NormalCell (file : List ℕ) (p : ℕ) : Type 0 where
+  pub tree : Design
+  pub parts : Parts file tree
+  pub cell : Cell
+  pub stands : Standing file (eventIn (parts .rows)) p (normal cell)

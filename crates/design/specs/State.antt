@@ -1,19 +1,34 @@
--- The state of a design: one flat list of slots, in the order of document 01's state bits ("variables, then statuses").
+-- The state of a design: one flat list of slots, in the order of its bits (document 01: "State bits S, low first: variables, then statuses.").
 -- A slot holds a number below 2 to the power of its width.
-use mathlib.Core.List.{List, [], _++_, map}
-use Prim.Native.Nat.{ℕ, _+_}
-use lib.ListN.{length, replicate}
+use mathlib.Core.Bool.{cond}
+use mathlib.Core.List.{List, [], _∷_, _++_, map}
+use Prim.Native.Nat.{ℕ, zero, suc, _+_, _-_, _*_}
+use lib.Dec.{eqb}
+use lib.ListN.{length, getD, take, drop, replicate}
+use Rattle.design.specs.declared.shape.Shape.{Shape}
 use Rattle.design.specs.Tree.{Kind, boolean, integer, external, Variable, Design}
 
 abbrev pub State : Type 0
 State = List ℕ
 
--- Where the slots of each part begin. Variables begin at slot 0.
+-- Where the slots of each part begin and end: variables from 0 up to `statuses`, statuses from there up to `end`. A later part begins where the one before ends.
 pub record Layout : Type 0 where
   pub statuses : ℕ
+  pub end : ℕ
+
+-- of so many variables and matrices, and of a design
+abbrev pub layoutIn : ℕ → ℕ → Layout
+layoutIn variables matrices = record { statuses = variables; end = variables + matrices }
 
 unfoldable pub layout : Design → Layout
-layout d = record { statuses = length (d .variables) }
+layout d = layoutIn (length (d .variables)) (length (d .statuses))
+
+-- the slots from one place up to another, and those of the statuses
+abbrev pub slotsBetween : ℕ → ℕ → State → List ℕ
+slotsBetween from to s = take (to - from) (drop from s)
+
+abbrev pub statusesIn : Layout → State → List ℕ
+statusesIn l s = slotsBetween (l .statuses) (l .end) s
 
 -- the slot of a matrix's status
 abbrev pub statusSlot : Layout → ℕ → ℕ
@@ -31,6 +46,29 @@ statusWidth = 4
 unfoldable pub widths : Design → List ℕ
 widths d = map (λ (x : Variable). width (x .kind)) (d .variables) ++ replicate (length (d .statuses)) statusWidth
 
+-- The same by the file's bytes: the widths of n variables from v on, and of all slots.
+unfoldable pub widthsFrom : List ℕ → ℕ → ℕ → List ℕ
+widthsFrom file v zero = []
+widthsFrom file v (suc n) = cond (eqb (getD file (3 * v) 0) 1) 16 1 ∷ widthsFrom file (suc v) n
+
+unfoldable pub widthsOf : List ℕ → ℕ → ℕ → List ℕ
+widthsOf file nv nm = widthsFrom file 0 nv ++ replicate nm statusWidth
+
+abbrev pub total : List ℕ → ℕ
+total [] = 0
+total (x ∷ xs) = x + total xs
+
+-- document 01's S, the number of state bits
+unfoldable pub S : Design → ℕ
+S d = total (widths d)
+
 -- The first state: the initial values, and every status 0.
 unfoldable pub start : Design → State
 start d = map (λ (x : Variable). x .initial) (d .variables) ++ replicate (length (d .statuses)) 0
+
+-- By a shape: the layout, and how many slots there are.
+abbrev pub layoutOf : Shape → Layout
+layoutOf h = layoutIn (h .variables) (h .matrices)
+
+abbrev pub slotCount : Shape → ℕ
+slotCount h = layoutOf h .end

@@ -3,6 +3,7 @@
 use mathlib.Core.Bool.{Bool, true, false}
 use mathlib.Core.List.{List, [], _∷_, _++_, map}
 use Prim.Native.Nat.{ℕ, zero, suc}
+use lib.ListN.{length}
 
 -- a Boolean as a number, and a number read as a Boolean
 abbrev pub bit : Bool → ℕ
@@ -83,6 +84,9 @@ abbrev pub externals : ℕ → List Variable → List Mover
 externals v [] = []
 externals v (x ∷ xs) = ifExternal (x .kind) (raise v ∷ externals (suc v) xs) (externals (suc v) xs)
 
--- "Movers: normal cells in file order, then externals in order"; document 01's w is the length of this list.
+-- "Movers: normal cells in file order, then externals in order"; document 01's w is their number.
 unfoldable pub movers : Design → List Mover
 movers d = map cell (d .cells) ++ externals 0 (d .variables)
+
+unfoldable pub w : Design → ℕ
+w d = length (movers d)

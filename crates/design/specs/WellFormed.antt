@@ -3,7 +3,7 @@ use mathlib.Core.Path.{_≡_}
 use mathlib.Core.List.{List, [], _∷_}
 use Prim.Native.Nat.{ℕ, _^_, _<_, _≤_}
 use lib.ListN.{length, getD}
-use Rattle.design.specs.Limits.{maxMovers}
+use Rattle.design.specs.Limits.{maxStatuses, maxMovers}
 use Rattle.design.specs.Tree.{IntExpr, BoolExpr, Stmt, Stmts, constant, variable, status, sum, difference, constantB, variableB, notB, andB, orB, equal, less, assign, assignB, ifElse, done, then, Cell, InvalidCell, Design, Mover, cell, raise, movers}
 use Rattle.design.specs.State.{Layout, layout, statusSlot, statusWidth, widths, start}
 
@@ -19,21 +19,35 @@ InRange [] (v ∷ vs) = ⊥
 InRange (w ∷ ws) [] = ⊥
 InRange (w ∷ ws) (v ∷ vs) = (v < 2 ^ w) × InRange ws vs
 
--- `ws` has the slots' widths. A slot that there is not has width 0, so a width also says that the slot is there.
+-- `ws` has the slots' widths, `l` says where each part of them lies: two parts may have slots of one width.
 module _ (ws : List ℕ) (l : Layout) where
-  abbrev pub IsStatus : ℕ → Type 0
-  IsStatus m = getD ws (statusSlot l m) 0 ≡ statusWidth
+  -- matrix m is there: its status's slot lies among the statuses
+  pub record IsStatus (m : ℕ) : Type 0 where
+    pub inside : statusSlot l m < l .end
+    pub width : getD ws (statusSlot l m) 0 ≡ statusWidth
+
+  -- variable v is there: its slot lies among the variables, and has so many bits
+  pub record HasBits (v bits : ℕ) : Type 0 where
+    pub inside : v < l .statuses
+    pub width : getD ws v 0 ≡ bits
+
+  -- an integer; a Boolean or external
+  abbrev pub IsInteger : ℕ → Type 0
+  IsInteger v = HasBits v 16
+
+  abbrev pub IsBoolean : ℕ → Type 0
+  IsBoolean v = HasBits v 1
 
   abbrev pub IntOk : IntExpr → Type 0
   IntOk (constant c) = c < 65536
-  IntOk (variable v) = getD ws v 0 ≡ 16
+  IntOk (variable v) = IsInteger v
   IntOk (status m) = IsStatus m
   IntOk (sum a b) = IntOk a × IntOk b
   IntOk (difference a b) = IntOk a × IntOk b
 
   abbrev pub BoolOk : BoolExpr → Type 0
   BoolOk (constantB b) = Unit {0}
-  BoolOk (variableB v) = getD ws v 0 ≡ 1
+  BoolOk (variableB v) = IsBoolean v
   BoolOk (notB a) = BoolOk a
   BoolOk (andB a b) = BoolOk a × BoolOk b
   BoolOk (orB a b) = BoolOk a × BoolOk b
@@ -42,8 +56,8 @@ module _ (ws : List ℕ) (l : Layout) where
 
   abbrev mutual
     pub StmtOk : Stmt → Type 0
-    StmtOk (assign v e) = (getD ws v 0 ≡ 16) × IntOk e
-    StmtOk (assignB v e) = (getD ws v 0 ≡ 1) × BoolOk e
+    StmtOk (assign v e) = IsInteger v × IntOk e
+    StmtOk (assignB v e) = IsBoolean v × BoolOk e
     StmtOk (ifElse c a b) = BoolOk c × StmtsOk a × StmtsOk b
 
     pub StmtsOk : Stmts → Type 0
@@ -65,7 +79,7 @@ module _ (ws : List ℕ) (l : Layout) where
 
   abbrev pub MoverOk : Mover → Type 0
   MoverOk (cell c) = CellOk c
-  MoverOk (raise v) = getD ws v 0 ≡ 1
+  MoverOk (raise v) = IsBoolean v
 
   abbrev pub MoversOk : List Mover → Type 0
   MoversOk [] = Unit {0}
@@ -74,6 +88,11 @@ module _ (ws : List ℕ) (l : Layout) where
   abbrev pub InvalidsOk : List InvalidCell → Type 0
   InvalidsOk [] = Unit {0}
   InvalidsOk (c ∷ cs) = InvalidOk c × InvalidsOk cs
+
+-- "Matrix, 2 bytes: status count, event count, each 1..16."
+abbrev pub CountsOk : List ℕ → Type 0
+CountsOk [] = Unit {0}
+CountsOk (n ∷ ns) = (1 ≤ n) × (n ≤ maxStatuses) × CountsOk ns
 
 -- each cell's status and target are statuses of its matrix; `counts` has the matrices' status counts
 abbrev pub StatusesOk : List ℕ → List Cell → Type 0
@@ -85,6 +104,7 @@ pub record WellFormed (d : Design) : Type 0 where
   pub some-mover : 1 ≤ length (movers d)
   pub few-movers : length (movers d) ≤ maxMovers
   pub movers : MoversOk (widths d) (layout d) (movers d)
+  pub counts : CountsOk (d .statuses)
   pub statuses : StatusesOk (d .statuses) (d .cells)
   pub invalid : InvalidsOk (widths d) (layout d) (d .invalid)
   pub invariant : BoolOk (widths d) (layout d) (d .invariant)

@@ -9,24 +9,25 @@ use super::expression::Found;
 use super::expression::check_bool;
 use super::expression::check_int;
 use super::limits::MAX_DEPTH;
+use super::shape::Shape;
 
 // What follows the operator byte of an assignment.
-pub fn check_assign(text: &[u8], file: &[u8], at: usize, end: usize, nv: usize, nm: usize) -> Found
-    requires { ⌜ (end ≤ length (now text)) × (3 * nv ≤ length (now file)) ⌝ }
-    ensures { λ r. ⌜ r ≡ found (assignment (now (text .entry)) (namesOf (now (file .entry)) nv nm) end at) ⌝ }
+pub fn check_assign(text: &[u8], file: &[u8], at: usize, end: usize, shape: Shape) -> Found
+    requires { ⌜ (end ≤ length (now text)) × (3 * shape .variables ≤ length (now file)) ⌝ }
+    ensures { λ r. ⌜ r ≡ found (assignment (now (text .entry)) (namesOf (now (file .entry)) shape) end at) ⌝ }
 {
     if end <= at {
         return Found::Bad;
     }
     let v = text[at] as usize;
-    if nv <= v {
+    if shape.variables <= v {
         return Found::Bad;
     }
     let k = file[3 * v];
     if k == 1 {
-        check_int(text, file, at + 1, end, nv, nm, MAX_DEPTH)
+        check_int(text, file, at + 1, end, shape, MAX_DEPTH)
     } else {
-        check_bool(text, file, at + 1, end, nv, nm, MAX_DEPTH)
+        check_bool(text, file, at + 1, end, shape, MAX_DEPTH)
     }
 }
 
@@ -36,12 +37,11 @@ pub fn check_stmt(
     file: &[u8],
     at: usize,
     end: usize,
-    nv: usize,
-    nm: usize,
+    shape: Shape,
     nest: usize,
 ) -> Found
-    requires { ⌜ (end ≤ length (now text)) × (3 * nv ≤ length (now file)) ⌝ }
-    ensures { λ r. ⌜ r ≡ found (statement (now (text .entry)) (namesOf (now (file .entry)) nv nm) end nest at) ⌝ }
+    requires { ⌜ (end ≤ length (now text)) × (3 * shape .variables ≤ length (now file)) ⌝ }
+    ensures { λ r. ⌜ r ≡ found (statement (now (text .entry)) (namesOf (now (file .entry)) shape) end nest at) ⌝ }
 {
     if end <= at {
         return Found::Bad;
@@ -50,14 +50,14 @@ pub fn check_stmt(
     match op {
         0x20..=0x21 => {
             if op == 0x20 {
-                return check_assign(text, file, at + 1, end, nv, nm);
+                return check_assign(text, file, at + 1, end, shape);
             }
             if nest == 0 {
                 return Found::Bad;
             }
-            match check_bool(text, file, at + 1, end, nv, nm, MAX_DEPTH) {
-                Found::At(m) => match check_list(text, file, m, end, nv, nm, nest - 1) {
-                    Found::At(p) => check_list(text, file, p, end, nv, nm, nest - 1),
+            match check_bool(text, file, at + 1, end, shape, MAX_DEPTH) {
+                Found::At(m) => match check_list(text, file, m, end, shape, nest - 1) {
+                    Found::At(p) => check_list(text, file, p, end, shape, nest - 1),
                     Found::Bad => Found::Bad,
                 },
                 Found::Bad => Found::Bad,
@@ -73,12 +73,11 @@ pub fn check_list(
     file: &[u8],
     at: usize,
     end: usize,
-    nv: usize,
-    nm: usize,
+    shape: Shape,
     nest: usize,
 ) -> Found
-    requires { ⌜ (end ≤ length (now text)) × (3 * nv ≤ length (now file)) ⌝ }
-    ensures { λ r. ⌜ r ≡ found (list (now (text .entry)) (namesOf (now (file .entry)) nv nm) end nest at) ⌝ }
+    requires { ⌜ (end ≤ length (now text)) × (3 * shape .variables ≤ length (now file)) ⌝ }
+    ensures { λ r. ⌜ r ≡ found (list (now (text .entry)) (namesOf (now (file .entry)) shape) end nest at) ⌝ }
 {
     if end <= at {
         return Found::Bad;
@@ -86,7 +85,7 @@ pub fn check_list(
     let mut left = text[at] as usize;
     let mut p = at + 1;
     while 0 < left {
-        match check_stmt(text, file, p, end, nv, nm, nest) {
+        match check_stmt(text, file, p, end, shape, nest) {
             Found::At(m) => {
                 p = m;
                 left = left - 1;

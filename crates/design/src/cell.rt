@@ -1,5 +1,6 @@
 // Cells. `mats` is where the matrices stand.
 ghost use mathlib.Core.Path.{_≡_};
+ghost use Rattle.design.specs.Limits.{trailerBytes};
 ghost use Prim.Native.Nat.{ℕ, _+_, _*_, _≤_};
 ghost use lib.ListN.{length};
 ghost use Rattle.design.specs.Tree.{BoolExpr};
@@ -14,6 +15,7 @@ use super::item::Walked;
 use super::item::fill_length;
 use super::limits::MAX_DEPTH;
 use super::limits::MAX_NEST;
+use super::shape::Shape;
 
 // A cell's place, as a number that ascends.
 pub fn rank_at(file: &[u8], at: usize) -> usize
@@ -24,12 +26,12 @@ pub fn rank_at(file: &[u8], at: usize) -> usize
 }
 
 // Whether the fields of the cell at `at` are right.
-pub fn fields_ok(file: &[u8], nm: usize, mats: usize, at: usize) -> bool
-    requires { ⌜ (at + 8 ≤ length (now file)) × (mats + 2 * nm ≤ length (now file)) ⌝ }
-    ensures { λ r. ⌜ r ≡ fields (now (file .entry)) mats nm at ⌝ }
+pub fn fields_ok(file: &[u8], shape: Shape, mats: usize, at: usize) -> bool
+    requires { ⌜ (at + 8 ≤ length (now file)) × (mats + 2 * shape .matrices ≤ length (now file)) ⌝ }
+    ensures { λ r. ⌜ r ≡ fields (now (file .entry)) mats (shape .matrices) at ⌝ }
 {
     let m = file[at] as usize;
-    if nm <= m {
+    if shape.matrices <= m {
         return false;
     }
     let statuses = file[mats + 2 * m];
@@ -86,9 +88,9 @@ pub fn in_order(file: &[u8], before: usize, at: usize) -> bool
 }
 
 // The guard, which may be empty.
-pub fn check_guard(file: &[u8], end: usize, nv: usize, nm: usize, at: usize) -> Walked
-    requires { ⌜ (c-past (now file) at ≤ end) × (end ≤ length (now file)) × (3 * nv ≤ length (now file)) ⌝ }
-    ensures { λ r. ⌜ r ≡ walked (guard (now (file .entry)) end (namesOf (now (file .entry)) nv nm) at (c-guard (now (file .entry)) at)) ⌝ }
+pub fn check_guard(file: &[u8], shape: Shape, at: usize) -> Walked
+    requires { ⌜ (c-past (now file) at ≤ length (now file)) × (3 * shape .variables ≤ length (now file)) ⌝ }
+    ensures { λ r. ⌜ ((end : ℕ) → r ≡ walked (guard (now (file .entry)) end (namesOf (now (file .entry)) shape) at (c-guard (now (file .entry)) at))) ⌝ }
 {
     let n = file[at + 5];
     let middle = at + 8 + (n as usize);
@@ -96,7 +98,7 @@ pub fn check_guard(file: &[u8], end: usize, nv: usize, nm: usize, at: usize) -> 
         return Walked::Past(middle);
     }
     fill_length(
-        check_bool(file, file, at + 8, middle, nv, nm, MAX_DEPTH),
+        check_bool(file, file, at + 8, middle, shape, MAX_DEPTH),
         8,
         at,
         middle,
@@ -104,14 +106,14 @@ pub fn check_guard(file: &[u8], end: usize, nv: usize, nm: usize, at: usize) -> 
 }
 
 // The action.
-pub fn check_action(file: &[u8], end: usize, nv: usize, nm: usize, at: usize) -> Walked
-    requires { ⌜ (c-past (now file) at ≤ end) × (end ≤ length (now file)) × (3 * nv ≤ length (now file)) ⌝ }
-    ensures { λ r. ⌜ r ≡ walked (action (now (file .entry)) end (namesOf (now (file .entry)) nv nm) at) ⌝ }
+pub fn check_action(file: &[u8], shape: Shape, at: usize) -> Walked
+    requires { ⌜ (c-past (now file) at ≤ length (now file)) × (3 * shape .variables ≤ length (now file)) ⌝ }
+    ensures { λ r. ⌜ ((end : ℕ) → r ≡ walked (action (now (file .entry)) end (namesOf (now (file .entry)) shape) at)) ⌝ }
 {
     let middle = at + 8 + wide(file[at + 5]);
     let past = middle + word(file, at + 6);
     fill_length(
-        check_list(file, file, middle, past, nv, nm, MAX_NEST),
+        check_list(file, file, middle, past, shape, MAX_NEST),
         9,
         at,
         past,
@@ -122,20 +124,19 @@ pub fn check_action(file: &[u8], end: usize, nv: usize, nm: usize, at: usize) ->
 pub fn check_cell(
     file: &[u8],
     end: usize,
-    nv: usize,
-    nm: usize,
+    shape: Shape,
     mats: usize,
     before: usize,
     at: usize,
 ) -> Walked
-    requires { ⌜ (at ≤ end) × (before ≤ end) × (end + 16 ≤ length (now file)) × (3 * nv ≤ length (now file)) × (mats + 2 * nm ≤ length (now file)) ⌝ }
-    ensures { λ r. ⌜ ((f : ℕ → ℕ → BoolExpr) → r ≡ walked (cellAt (now (file .entry)) end (namesOf (now (file .entry)) nv nm) mats f before at)) ⌝ }
+    requires { ⌜ (at ≤ end) × (before ≤ end) × (end + trailerBytes ≤ length (now file)) × (3 * shape .variables ≤ length (now file)) × (mats + 2 * shape .matrices ≤ length (now file)) ⌝ }
+    ensures { λ r. ⌜ ((f : ℕ → ℕ → BoolExpr) → r ≡ walked (cellAt (now (file .entry)) end (namesOf (now (file .entry)) shape) mats f before at)) ⌝ }
 {
     let past = at + 8 + wide(file[at + 5]) + word(file, at + 6);
     if end < past {
         return Walked::Refused(4, at);
     }
-    if !fields_ok(file, nm, mats, at) {
+    if !fields_ok(file, shape, mats, at) {
         return Walked::Refused(7, at);
     }
     if !in_order(file, before, at) {
@@ -145,8 +146,8 @@ pub fn check_cell(
     if kind != 0 {
         return Walked::Past(past);
     }
-    match check_guard(file, end, nv, nm, at) {
-        Walked::Past(_) => check_action(file, end, nv, nm, at),
+    match check_guard(file, shape, at) {
+        Walked::Past(_) => check_action(file, shape, at),
         Walked::Refused(number, place) => Walked::Refused(number, place),
     }
 }

@@ -1,13 +1,15 @@
 // Expressions: a decision over the operator byte, with ranges for operators of one shape.
 // In every function: `text` holds the expression, `file` the variables' kinds; what is read starts at `at` and must not pass `end`;
-// `nv` and `nm` are the numbers of variables and matrices.
+// `shape` has the numbers of variables and matrices.
 ghost use mathlib.Core.Path.{_≡_};
-ghost use Prim.Native.Nat.{_*_, _≤_};
+ghost use mathlib.Core.List.{List};
+ghost use Prim.Native.Nat.{ℕ, _*_, _≤_};
 ghost use lib.ListN.{length};
 ghost use Rattle.design.specs.Reading.{fail};
-ghost use Rattle.design.specs.Expression.{intOf, boolOf, intExpr, boolExpr, IntOp, BoolOp};
+ghost use Rattle.design.specs.Expression.{Names, intOf, boolOf, intExpr, boolExpr, IntOp, BoolOp};
 ghost use Rattle.design.specs.Check.{namesOf};
 ghost use Rattle.design.specs.Answers.{found};
+use super::shape::Shape;
 
 // What reading answers: the position past what was read, or that it is not right.
 pub enum Found {
@@ -16,18 +18,11 @@ pub enum Found {
 }
 
 // The integer constant at `at`.
-pub fn read_integer_constant(
-    text: &[u8],
-    file: &[u8],
-    at: usize,
-    end: usize,
-    nv: usize,
-    nm: usize,
-) -> Found
-    requires { ⌜ (at ≤ end) × (end ≤ length (now text)) ⌝ }
-    ensures { λ r. ⌜ r ≡ found (intOf (now (text .entry)) (namesOf (now (file .entry)) nv nm) end fail IntOp.op-constant at) ⌝ }
+pub fn read_integer_constant(at: usize, end: usize) -> Found
+    requires { ⌜ at ≤ end ⌝ }
+    ensures { λ r. ⌜ ((text : List ℕ) (N : Names) → r ≡ found (intOf text N end fail IntOp.op-constant at)) ⌝ }
 {
-    if at + 2 <= end {
+    if 2 <= end - at {
         Found::At(at + 2)
     } else {
         Found::Bad
@@ -35,22 +30,15 @@ pub fn read_integer_constant(
 }
 
 // The integer variable named at `at`.
-pub fn read_integer_variable(
-    text: &[u8],
-    file: &[u8],
-    at: usize,
-    end: usize,
-    nv: usize,
-    nm: usize,
-) -> Found
-    requires { ⌜ (end ≤ length (now text)) × (3 * nv ≤ length (now file)) ⌝ }
-    ensures { λ r. ⌜ r ≡ found (intOf (now (text .entry)) (namesOf (now (file .entry)) nv nm) end fail IntOp.op-variable at) ⌝ }
+pub fn read_integer_variable(text: &[u8], file: &[u8], at: usize, end: usize, shape: Shape) -> Found
+    requires { ⌜ (end ≤ length (now text)) × (3 * shape .variables ≤ length (now file)) ⌝ }
+    ensures { λ r. ⌜ r ≡ found (intOf (now (text .entry)) (namesOf (now (file .entry)) shape) end fail IntOp.op-variable at) ⌝ }
 {
     if end <= at {
         return Found::Bad;
     }
     let v = text[at] as usize;
-    if nv <= v {
+    if shape.variables <= v {
         return Found::Bad;
     }
     let k = file[3 * v];
@@ -62,15 +50,15 @@ pub fn read_integer_variable(
 }
 
 // The matrix whose status is read.
-pub fn read_status(text: &[u8], file: &[u8], at: usize, end: usize, nv: usize, nm: usize) -> Found
+pub fn read_status(text: &[u8], at: usize, end: usize, shape: Shape) -> Found
     requires { ⌜ end ≤ length (now text) ⌝ }
-    ensures { λ r. ⌜ r ≡ found (intOf (now (text .entry)) (namesOf (now (file .entry)) nv nm) end fail IntOp.op-status at) ⌝ }
+    ensures { λ r. ⌜ ((file : List ℕ) → r ≡ found (intOf (now (text .entry)) (namesOf file shape) end fail IntOp.op-status at)) ⌝ }
 {
     if end <= at {
         return Found::Bad;
     }
     let m = text[at] as usize;
-    if m < nm {
+    if m < shape.matrices {
         Found::At(at + 1)
     } else {
         Found::Bad
@@ -78,16 +66,9 @@ pub fn read_status(text: &[u8], file: &[u8], at: usize, end: usize, nv: usize, n
 }
 
 // The byte 0 or 1.
-pub fn read_boolean_constant(
-    text: &[u8],
-    file: &[u8],
-    at: usize,
-    end: usize,
-    nv: usize,
-    nm: usize,
-) -> Found
+pub fn read_boolean_constant(text: &[u8], at: usize, end: usize) -> Found
     requires { ⌜ end ≤ length (now text) ⌝ }
-    ensures { λ r. ⌜ r ≡ found (boolOf (now (text .entry)) (namesOf (now (file .entry)) nv nm) end fail fail BoolOp.op-constant at) ⌝ }
+    ensures { λ r. ⌜ ((N : Names) → r ≡ found (boolOf (now (text .entry)) N end fail fail BoolOp.op-constant at)) ⌝ }
 {
     if end <= at {
         return Found::Bad;
@@ -101,22 +82,15 @@ pub fn read_boolean_constant(
 }
 
 // The Boolean or external variable named at `at`.
-pub fn read_boolean_variable(
-    text: &[u8],
-    file: &[u8],
-    at: usize,
-    end: usize,
-    nv: usize,
-    nm: usize,
-) -> Found
-    requires { ⌜ (end ≤ length (now text)) × (3 * nv ≤ length (now file)) ⌝ }
-    ensures { λ r. ⌜ r ≡ found (boolOf (now (text .entry)) (namesOf (now (file .entry)) nv nm) end fail fail BoolOp.op-variable at) ⌝ }
+pub fn read_boolean_variable(text: &[u8], file: &[u8], at: usize, end: usize, shape: Shape) -> Found
+    requires { ⌜ (end ≤ length (now text)) × (3 * shape .variables ≤ length (now file)) ⌝ }
+    ensures { λ r. ⌜ r ≡ found (boolOf (now (text .entry)) (namesOf (now (file .entry)) shape) end fail fail BoolOp.op-variable at) ⌝ }
 {
     if end <= at {
         return Found::Bad;
     }
     let v = text[at] as usize;
-    if nv <= v {
+    if shape.variables <= v {
         return Found::Bad;
     }
     let k = file[3 * v];
@@ -133,12 +107,11 @@ pub fn check_int(
     file: &[u8],
     at: usize,
     end: usize,
-    nv: usize,
-    nm: usize,
+    shape: Shape,
     depth: usize,
 ) -> Found
-    requires { ⌜ (end ≤ length (now text)) × (3 * nv ≤ length (now file)) ⌝ }
-    ensures { λ r. ⌜ r ≡ found (intExpr (now (text .entry)) (namesOf (now (file .entry)) nv nm) end depth at) ⌝ }
+    requires { ⌜ (end ≤ length (now text)) × (3 * shape .variables ≤ length (now file)) ⌝ }
+    ensures { λ r. ⌜ r ≡ found (intExpr (now (text .entry)) (namesOf (now (file .entry)) shape) end depth at) ⌝ }
 {
     if depth == 0 {
         return Found::Bad;
@@ -148,11 +121,11 @@ pub fn check_int(
     }
     let op = text[at];
     match op {
-        0x01 => read_integer_constant(text, file, at + 1, end, nv, nm),
-        0x02 => read_integer_variable(text, file, at + 1, end, nv, nm),
-        0x03 => read_status(text, file, at + 1, end, nv, nm),
-        0x04..=0x05 => match check_int(text, file, at + 1, end, nv, nm, depth - 1) {
-            Found::At(m) => check_int(text, file, m, end, nv, nm, depth - 1),
+        0x01 => read_integer_constant(at + 1, end),
+        0x02 => read_integer_variable(text, file, at + 1, end, shape),
+        0x03 => read_status(text, at + 1, end, shape),
+        0x04..=0x05 => match check_int(text, file, at + 1, end, shape, depth - 1) {
+            Found::At(m) => check_int(text, file, m, end, shape, depth - 1),
             Found::Bad => Found::Bad,
         },
         _ => Found::Bad,
@@ -165,12 +138,11 @@ pub fn check_bool(
     file: &[u8],
     at: usize,
     end: usize,
-    nv: usize,
-    nm: usize,
+    shape: Shape,
     depth: usize,
 ) -> Found
-    requires { ⌜ (end ≤ length (now text)) × (3 * nv ≤ length (now file)) ⌝ }
-    ensures { λ r. ⌜ r ≡ found (boolExpr (now (text .entry)) (namesOf (now (file .entry)) nv nm) end depth at) ⌝ }
+    requires { ⌜ (end ≤ length (now text)) × (3 * shape .variables ≤ length (now file)) ⌝ }
+    ensures { λ r. ⌜ r ≡ found (boolExpr (now (text .entry)) (namesOf (now (file .entry)) shape) end depth at) ⌝ }
 {
     if depth == 0 {
         return Found::Bad;
@@ -180,15 +152,15 @@ pub fn check_bool(
     }
     let op = text[at];
     match op {
-        0x10 => read_boolean_constant(text, file, at + 1, end, nv, nm),
-        0x11 => read_boolean_variable(text, file, at + 1, end, nv, nm),
-        0x12 => check_bool(text, file, at + 1, end, nv, nm, depth - 1),
-        0x13..=0x14 => match check_bool(text, file, at + 1, end, nv, nm, depth - 1) {
-            Found::At(m) => check_bool(text, file, m, end, nv, nm, depth - 1),
+        0x10 => read_boolean_constant(text, at + 1, end),
+        0x11 => read_boolean_variable(text, file, at + 1, end, shape),
+        0x12 => check_bool(text, file, at + 1, end, shape, depth - 1),
+        0x13..=0x14 => match check_bool(text, file, at + 1, end, shape, depth - 1) {
+            Found::At(m) => check_bool(text, file, m, end, shape, depth - 1),
             Found::Bad => Found::Bad,
         },
-        0x15..=0x16 => match check_int(text, file, at + 1, end, nv, nm, depth - 1) {
-            Found::At(m) => check_int(text, file, m, end, nv, nm, depth - 1),
+        0x15..=0x16 => match check_int(text, file, at + 1, end, shape, depth - 1) {
+            Found::At(m) => check_int(text, file, m, end, shape, depth - 1),
             Found::Bad => Found::Bad,
         },
         _ => Found::Bad,

@@ -2,12 +2,20 @@
 ghost use mathlib.Core.Path.{_≡_};
 ghost use Prim.Native.Nat.{ℕ, _+_, _*_, _≤_, _<_};
 ghost use lib.ListN.{length, getD};
+ghost use Rattle.design.specs.Limits.{maxBytes, trailerBytes, maxMatrices, maxEvents, maxMovers, eventPlaces};
 ghost use Rattle.design.specs.DesignFile.{at16};
-ghost use Rattle.design.specs.Check.{trailer};
-ghost use Rattle.design.specs.Places.{Accepted, pastEvents, EventsIndexed, CellsIndexed};
+ghost use Rattle.design.specs.Check.{trailer, invariantOffset, trailerCounts, trailerOffsets};
+ghost use Rattle.design.specs.Answers.{SmallCounts};
+ghost use Rattle.design.specs.Places.{Accepted, Measured, pastEvents, externalsFrom, EventsIndexed, CellsIndexed};
+use super::bits::state_bits;
 use super::bytes::wide;
 use super::bytes::word;
+use super::limits::EVENT_PLACES;
+use super::limits::MAX_MOVERS;
 use super::limits::TRAILER;
+use super::shape::Counts;
+use super::shape::Offsets;
+use super::shape::Shape;
 
 // Where the trailer holds its numbers.
 pub const VARIABLES: usize = 2;
@@ -26,16 +34,64 @@ pub const INVARIANT_AT: usize = 14;
 
 // The trailer's number at k.
 pub fn trailer_word(file: &[u8], k: usize) -> usize
-    requires { ⌜ (16 ≤ length (now file)) × (k + 2 ≤ 16) ⌝ }
+    requires { ⌜ (trailerBytes ≤ length (now file)) × (k + 2 ≤ trailerBytes) ⌝ }
     ensures { λ r. ⌜ (r ≡ at16 (now (file .entry)) (trailer (now (file .entry)) + k)) × (r < 65536) ⌝ }
 {
     word(file, file.len() - TRAILER + k)
 }
 
+// What the trailer counts.
+pub fn trailer_counts(file: &[u8]) -> Counts
+    requires { ⌜ trailerBytes ≤ length (now file) ⌝ }
+    ensures { λ r. ⌜ (r ≡ trailerCounts (now (file .entry))) × SmallCounts r ⌝ }
+{
+    Counts {
+        variables: trailer_word(file, VARIABLES),
+        matrices: trailer_word(file, MATRICES),
+        cells: trailer_word(file, CELLS),
+    }
+}
+
+// Where it says that sections start.
+pub fn trailer_offsets(file: &[u8]) -> Offsets
+    requires { ⌜ trailerBytes ≤ length (now file) ⌝ }
+    ensures { λ r. ⌜ r ≡ trailerOffsets (now (file .entry)) ⌝ }
+{
+    Offsets {
+        matrices: trailer_word(file, MATRICES_AT),
+        events: trailer_word(file, EVENTS_AT),
+        cells: trailer_word(file, CELLS_AT),
+        invariant: trailer_word(file, INVARIANT_AT),
+    }
+}
+
+// Where an expression stands: from `at` up to `end`.
+pub struct Extent {
+    pub at: usize,
+    pub end: usize,
+}
+
+// Where the invariant stands: up to the trailer.
+pub fn invariant(file: &[u8]) -> Extent
+    requires { ⌜ trailerBytes ≤ length (now file) ⌝ }
+    ensures { λ r. ⌜ (r .at ≡ invariantOffset (now (file .entry))) × (r .end ≡ trailer (now (file .entry))) ⌝ }
+{
+    Extent {
+        at: trailer_word(file, INVARIANT_AT),
+        end: file.len() - TRAILER,
+    }
+}
+
 // The events of matrix m, of which the first stands at `at`; answers the position past them.
-pub fn index_row(file: &[u8], at: usize, count: usize, m: usize, table: &mut [u16; 128]) -> usize
-    requires { ⌜ (count ≤ 16) × (m < 8) × (length (now file) ≤ 16384) × (length (now table) ≡ 128) × ((i : ℕ) → i < count → pastEvents (now file) i at < length (now file)) ⌝ }
-    ensures { λ r. ⌜ (r ≡ pastEvents (now (file .entry)) count at) × ((i : ℕ) → i < count → getD (now (table .exit)) (16 * m + i) 0 ≡ pastEvents (now (file .entry)) i at) × ((i : ℕ) → i < 16 * m → getD (now (table .exit)) i 0 ≡ getD (now (table .entry)) i 0) × (length (now (table .exit)) ≡ 128) ⌝ }
+pub fn index_row(
+    file: &[u8],
+    at: usize,
+    count: usize,
+    m: usize,
+    table: &mut [u16; EVENT_PLACES],
+) -> usize
+    requires { ⌜ (count ≤ maxEvents) × (m < maxMatrices) × (length (now file) ≤ maxBytes) × (length (now table) ≡ eventPlaces) × ((i : ℕ) → i < count → pastEvents (now file) i at < length (now file)) ⌝ }
+    ensures { λ r. ⌜ (r ≡ pastEvents (now (file .entry)) count at) × ((i : ℕ) → i < count → getD (now (table .exit)) (maxEvents * m + i) 0 ≡ pastEvents (now (file .entry)) i at) × ((i : ℕ) → i < maxEvents * m → getD (now (table .exit)) i 0 ≡ getD (now (table .entry)) i 0) × (length (now (table .exit)) ≡ eventPlaces) ⌝ }
 {
     let mut p = at;
     let mut i = 0;
@@ -48,8 +104,8 @@ pub fn index_row(file: &[u8], at: usize, count: usize, m: usize, table: &mut [u1
 }
 
 // The events of all matrices.
-pub fn index_events(file: &[u8], table: &mut [u16; 128])
-    requires { ⌜ Accepted (now file) × (length (now table) ≡ 128) ⌝ }
+pub fn index_events(file: &[u8], table: &mut [u16; EVENT_PLACES])
+    requires { ⌜ Accepted (now file) × (length (now table) ≡ eventPlaces) ⌝ }
     ensures { λ r. ⌜ EventsIndexed (now (file .entry)) (now (table .exit)) ⌝ }
 {
     let mats = trailer_word(file, MATRICES_AT);
@@ -63,8 +119,8 @@ pub fn index_events(file: &[u8], table: &mut [u16; 128])
 }
 
 // The normal cells; answers how many there are.
-pub fn index_cells(file: &[u8], table: &mut [u16; 64]) -> usize
-    requires { ⌜ Accepted (now file) × (length (now table) ≡ 64) ⌝ }
+pub fn index_cells(file: &[u8], table: &mut [u16; MAX_MOVERS]) -> usize
+    requires { ⌜ Accepted (now file) × (length (now table) ≡ maxMovers) ⌝ }
     ensures { λ r. ⌜ CellsIndexed (now (file .entry)) (now (table .exit)) r ⌝ }
 {
     let count = trailer_word(file, CELLS);
@@ -80,4 +136,55 @@ pub fn index_cells(file: &[u8], table: &mut [u16; 64]) -> usize
         i = i + 1;
     }
     normals
+}
+
+// The number of externals.
+pub fn external_count(file: &[u8], variables: usize) -> usize
+    requires { ⌜ 3 * variables ≤ length (now file) ⌝ }
+    ensures { λ r. ⌜ (r ≡ length (externalsFrom (now (file .entry)) 0 variables)) × (r ≤ variables) ⌝ }
+{
+    let mut v = 0;
+    let mut count = 0;
+    while v < variables {
+        if file[3 * v] == 2 {
+            count = count + 1;
+        }
+        v = v + 1;
+    }
+    count
+}
+
+// External number k.
+pub fn external(file: &[u8], variables: usize, k: usize) -> usize
+    requires { ⌜ (3 * variables ≤ length (now file)) × (k < length (externalsFrom (now file) 0 variables)) ⌝ }
+    ensures { λ r. ⌜ (r ≡ getD (externalsFrom (now (file .entry)) 0 variables) k 0) × (r < variables) ⌝ }
+{
+    let mut v = 0;
+    let mut left = k;
+    while v < variables {
+        if file[3 * v] == 2 {
+            if left == 0 {
+                return v;
+            }
+            left = left - 1;
+        }
+        v = v + 1;
+    }
+    v
+}
+
+// The shape of a file with so many normal cells.
+pub fn shape(file: &[u8], normals: usize) -> Shape
+    requires { ⌜ Accepted (now file) ⌝ }
+    ensures { λ r. ⌜ Measured (now (file .entry)) normals r ⌝ }
+{
+    let variables = trailer_word(file, VARIABLES);
+    let matrices = trailer_word(file, MATRICES);
+    Shape {
+        variables,
+        matrices,
+        normals,
+        externals: external_count(file, variables),
+        bits: state_bits(file, variables, matrices),
+    }
 }

@@ -1,5 +1,6 @@
 // Items: each is walked from its first byte to the position past it, or refused. `end` is where the items end.
 ghost use mathlib.Core.Path.{_≡_};
+ghost use Rattle.design.specs.Limits.{trailerBytes};
 ghost use Prim.Native.Nat.{_+_, _*_, _≤_};
 ghost use lib.ListN.{length};
 ghost use Rattle.design.specs.DesignFile.{variableAt, matrixAt, eventAt, invariantAt};
@@ -12,6 +13,7 @@ use super::expression::check_bool;
 use super::limits::MAX_DEPTH;
 use super::limits::MAX_EVENTS;
 use super::limits::MAX_STATUSES;
+use super::shape::Shape;
 
 // What walking an item or a section answers: the position past it, or a refusal's number and place.
 pub enum Walked {
@@ -90,16 +92,16 @@ pub fn check_matrix(file: &[u8], end: usize, at: usize) -> Walked
 }
 
 // An event: length byte, Boolean expression.
-pub fn check_event(file: &[u8], end: usize, nv: usize, nm: usize, at: usize) -> Walked
-    requires { ⌜ (at ≤ end) × (end + 16 ≤ length (now file)) × (3 * nv ≤ length (now file)) ⌝ }
-    ensures { λ r. ⌜ r ≡ walked (eventAt (now (file .entry)) end (namesOf (now (file .entry)) nv nm) at) ⌝ }
+pub fn check_event(file: &[u8], end: usize, shape: Shape, at: usize) -> Walked
+    requires { ⌜ (at ≤ end) × (end + trailerBytes ≤ length (now file)) × (3 * shape .variables ≤ length (now file)) ⌝ }
+    ensures { λ r. ⌜ r ≡ walked (eventAt (now (file .entry)) end (namesOf (now (file .entry)) shape) at) ⌝ }
 {
     let past = at + 1 + wide(file[at]);
     if end < past {
         return Walked::Refused(4, at);
     }
     fill_length(
-        check_bool(file, file, at + 1, past, nv, nm, MAX_DEPTH),
+        check_bool(file, file, at + 1, past, shape, MAX_DEPTH),
         8,
         at,
         past,
@@ -107,12 +109,12 @@ pub fn check_event(file: &[u8], end: usize, nv: usize, nm: usize, at: usize) -> 
 }
 
 // The invariant runs up to `end`.
-pub fn check_invariant(file: &[u8], end: usize, nv: usize, nm: usize, at: usize) -> Walked
-    requires { ⌜ (end ≤ length (now file)) × (3 * nv ≤ length (now file)) ⌝ }
-    ensures { λ r. ⌜ r ≡ walked (invariantAt (now (file .entry)) end (namesOf (now (file .entry)) nv nm) at) ⌝ }
+pub fn check_invariant(file: &[u8], end: usize, shape: Shape, at: usize) -> Walked
+    requires { ⌜ (end ≤ length (now file)) × (3 * shape .variables ≤ length (now file)) ⌝ }
+    ensures { λ r. ⌜ r ≡ walked (invariantAt (now (file .entry)) end (namesOf (now (file .entry)) shape) at) ⌝ }
 {
     fill_length(
-        check_bool(file, file, at, end, nv, nm, MAX_DEPTH),
+        check_bool(file, file, at, end, shape, MAX_DEPTH),
         8,
         at,
         end,

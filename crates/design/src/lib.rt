@@ -1,5 +1,6 @@
 // The file reader: CHECK.
 pub mod action;
+pub mod bits;
 pub mod bytes;
 pub mod cell;
 pub mod expression;
@@ -7,19 +8,14 @@ pub mod index;
 pub mod item;
 pub mod limits;
 pub mod section;
+pub mod shape;
 
 ghost use mathlib.Core.Path.{_≡_};
 ghost use Rattle.design.specs.Check.{check as checked, refused};
 ghost use Rattle.design.specs.Answers.{refusal};
 use bytes::word;
-use index::CELLS;
-use index::CELLS_AT;
-use index::EVENTS_AT;
-use index::INVARIANT_AT;
-use index::MATRICES;
-use index::MATRICES_AT;
-use index::VARIABLES;
-use index::trailer_word;
+use index::trailer_counts;
+use index::trailer_offsets;
 use item::Counted;
 use limits::TRAILER;
 use limits::counts_right;
@@ -55,17 +51,11 @@ pub fn check(file: &[u8]) -> Refusal
     if version != 1 {
         return answer(2, end);
     }
-    let nv = trailer_word(file, VARIABLES);
-    let mats = trailer_word(file, MATRICES_AT);
-    let nm = trailer_word(file, MATRICES);
-    let events = trailer_word(file, EVENTS_AT);
-    let cells = trailer_word(file, CELLS_AT);
-    let nc = trailer_word(file, CELLS);
-    let invariant = trailer_word(file, INVARIANT_AT);
-    if !counts_right(nv, nm, nc) {
+    let counts = trailer_counts(file);
+    if !counts_right(counts.variables, counts.matrices, counts.cells) {
         return answer(3, end);
     }
-    match check_sections(file, end, nv, mats, nm, events, cells, nc, invariant) {
+    match check_sections(file, end, counts, trailer_offsets(file)) {
         Counted::Passed(_, movers) => {
             if movers_right(movers) {
                 answer(0, 0)

@@ -22,6 +22,14 @@ pub const MAX_DEPTH: usize = 16;
 
 pub const MAX_NEST: usize = 4;
 
+// Places of events, 16 for a matrix.
+pub const EVENT_PLACES: usize = MAX_MATRICES * 16;
+
+// Slots of a state, and their bits where every variable is an integer.
+pub const MAX_SLOTS: usize = MAX_VARIABLES + MAX_MATRICES;
+
+pub const MAX_BITS: usize = 16 * MAX_VARIABLES + 4 * MAX_MATRICES;
+
 // Whether a file may have so many bytes.
 pub fn length_right(bytes: usize) -> bool
     ensures { λ r. ⌜ r ≡ lengthRight bytes ⌝ }

@@ -1,11 +1,12 @@
 // The sections, item by item.
 ghost use mathlib.Core.Path.{_≡_};
+ghost use Rattle.design.specs.Limits.{trailerBytes};
 ghost use Prim.Native.Nat.{ℕ, _+_, _*_, _≤_, _<_};
 ghost use lib.ListN.{length};
 ghost use Rattle.design.specs.Tree.{BoolExpr};
 ghost use Rattle.design.specs.DesignFile.{items, variableAt, matrixAt, eventAt, eventsFrom, cellsFrom};
 ghost use Rattle.design.specs.Check.{namesOf, sections};
-ghost use Rattle.design.specs.Answers.{walked, counted, raises, moves, bodied, VariablesRight, MatricesRight, EventsRight};
+ghost use Rattle.design.specs.Answers.{walked, counted, raises, moves, bodied, SmallCounts, VariablesRight, MatricesRight, EventsRight};
 use super::bytes::wide;
 use super::cell::check_cell;
 use super::item::Counted;
@@ -14,6 +15,10 @@ use super::item::check_event;
 use super::item::check_invariant;
 use super::item::check_matrix;
 use super::item::check_variable;
+use super::shape::Counts;
+use super::shape::Offsets;
+use super::shape::Shape;
+use super::shape::shape_of;
 
 // The variables, from byte 0 on, with the number of externals.
 pub fn check_variables(file: &[u8], end: usize, nv: usize) -> Counted
@@ -58,21 +63,14 @@ pub fn check_matrices(file: &[u8], end: usize, nm: usize, at: usize) -> Walked
 }
 
 // The events of one matrix.
-pub fn check_matrix_events(
-    file: &[u8],
-    end: usize,
-    nv: usize,
-    nm: usize,
-    count: usize,
-    at: usize,
-) -> Walked
-    requires { ⌜ (at ≤ end) × (end + 16 ≤ length (now file)) × (3 * nv ≤ length (now file)) ⌝ }
-    ensures { λ r. ⌜ r ≡ walked (items (eventAt (now (file .entry)) end (namesOf (now (file .entry)) nv nm)) count at) ⌝ }
+pub fn check_matrix_events(file: &[u8], end: usize, shape: Shape, count: usize, at: usize) -> Walked
+    requires { ⌜ (at ≤ end) × (end + trailerBytes ≤ length (now file)) × (3 * shape .variables ≤ length (now file)) ⌝ }
+    ensures { λ r. ⌜ r ≡ walked (items (eventAt (now (file .entry)) end (namesOf (now (file .entry)) shape)) count at) ⌝ }
 {
     let mut left = count;
     let mut p = at;
     while 0 < left {
-        match check_event(file, end, nv, nm, p) {
+        match check_event(file, end, shape, p) {
             Walked::Past(n) => {
                 p = n;
                 left = left - 1;
@@ -84,16 +82,16 @@ pub fn check_matrix_events(
 }
 
 // The events, matrix by matrix.
-pub fn check_events(file: &[u8], end: usize, nv: usize, nm: usize, mats: usize, at: usize) -> Walked
-    requires { ⌜ (at ≤ end) × (end + 16 ≤ length (now file)) × (3 * nv ≤ length (now file)) × (mats + 2 * nm ≤ length (now file)) ⌝ }
-    ensures { λ r. ⌜ r ≡ walked (eventsFrom (now (file .entry)) end (namesOf (now (file .entry)) nv nm) mats 0 nm at) ⌝ }
+pub fn check_events(file: &[u8], end: usize, shape: Shape, mats: usize, at: usize) -> Walked
+    requires { ⌜ (at ≤ end) × (end + trailerBytes ≤ length (now file)) × (3 * shape .variables ≤ length (now file)) × (mats + 2 * shape .matrices ≤ length (now file)) ⌝ }
+    ensures { λ r. ⌜ r ≡ walked (eventsFrom (now (file .entry)) end (namesOf (now (file .entry)) shape) mats 0 (shape .matrices) at) ⌝ }
 {
-    let mut left = nm;
+    let mut left = shape.matrices;
     let mut m = 0;
     let mut p = at;
     while 0 < left {
         let count = wide(file[mats + 2 * m + 1]);
-        match check_matrix_events(file, end, nv, nm, count, p) {
+        match check_matrix_events(file, end, shape, count, p) {
             Walked::Past(n) => {
                 p = n;
                 m = m + 1;
@@ -109,21 +107,20 @@ pub fn check_events(file: &[u8], end: usize, nv: usize, nm: usize, mats: usize, 
 pub fn check_cells(
     file: &[u8],
     end: usize,
-    nv: usize,
-    nm: usize,
+    shape: Shape,
     mats: usize,
     count: usize,
     at: usize,
 ) -> Counted
-    requires { ⌜ (at ≤ end) × (count < 65536) × (end + 16 ≤ length (now file)) × (3 * nv ≤ length (now file)) × (mats + 2 * nm ≤ length (now file)) ⌝ }
-    ensures { λ r. ⌜ ((f : ℕ → ℕ → BoolExpr) → r ≡ counted moves 0 (cellsFrom (now (file .entry)) end (namesOf (now (file .entry)) nv nm) mats f count at at)) ⌝ }
+    requires { ⌜ (at ≤ end) × (count < 65536) × (end + trailerBytes ≤ length (now file)) × (3 * shape .variables ≤ length (now file)) × (mats + 2 * shape .matrices ≤ length (now file)) ⌝ }
+    ensures { λ r. ⌜ ((f : ℕ → ℕ → BoolExpr) → r ≡ counted moves 0 (cellsFrom (now (file .entry)) end (namesOf (now (file .entry)) shape) mats f count at at)) ⌝ }
 {
     let mut left = count;
     let mut before = at;
     let mut p = at;
     let mut normals = 0;
     while 0 < left {
-        match check_cell(file, end, nv, nm, mats, before, p) {
+        match check_cell(file, end, shape, mats, before, p) {
             Walked::Past(n) => {
                 if file[p + 3] == 0 {
                     normals = normals + 1;
@@ -142,24 +139,28 @@ pub fn check_cells(
 pub fn check_from_cells(
     file: &[u8],
     end: usize,
-    nv: usize,
-    mats: usize,
-    nm: usize,
-    events: usize,
-    cells: usize,
-    nc: usize,
-    invariant: usize,
+    counts: Counts,
+    offsets: Offsets,
     externals: usize,
 ) -> Counted
-    requires { ⌜ (end + 16 ≤ length (now file)) × (nv < 65536) × (nc < 65536) × VariablesRight (now file) end nv mats externals × MatricesRight (now file) end mats nm events × EventsRight (now file) end nv mats nm events cells ⌝ }
-    ensures { λ r. ⌜ r ≡ bodied (sections (now (file .entry)) end nv mats nm events cells nc invariant 0) ⌝ }
+    requires { ⌜ (end + trailerBytes ≤ length (now file)) × SmallCounts counts ⌝ }
+    requires { ⌜ VariablesRight (now file) end counts offsets externals × MatricesRight (now file) end counts offsets × EventsRight (now file) end counts offsets ⌝ }
+    ensures { λ r. ⌜ r ≡ bodied (sections (now (file .entry)) end counts offsets 0) ⌝ }
 {
-    match check_cells(file, end, nv, nm, mats, nc, cells) {
+    let shape = shape_of(counts);
+    match check_cells(
+        file,
+        end,
+        shape,
+        offsets.matrices,
+        counts.cells,
+        offsets.cells,
+    ) {
         Counted::Passed(p, normals) => {
-            if invariant != p {
+            if offsets.invariant != p {
                 return Counted::Stopped(4, p);
             }
-            match check_invariant(file, end, nv, nm, invariant) {
+            match check_invariant(file, end, shape, offsets.invariant) {
                 Walked::Past(q) => Counted::Passed(q, normals + externals),
                 Walked::Refused(number, place) => Counted::Stopped(number, place),
             }
@@ -172,35 +173,26 @@ pub fn check_from_cells(
 pub fn check_from_events(
     file: &[u8],
     end: usize,
-    nv: usize,
-    mats: usize,
-    nm: usize,
-    events: usize,
-    cells: usize,
-    nc: usize,
-    invariant: usize,
+    counts: Counts,
+    offsets: Offsets,
     externals: usize,
 ) -> Counted
-    requires { ⌜ (end + 16 ≤ length (now file)) × (nv < 65536) × (nc < 65536) × VariablesRight (now file) end nv mats externals × MatricesRight (now file) end mats nm events ⌝ }
-    ensures { λ r. ⌜ r ≡ bodied (sections (now (file .entry)) end nv mats nm events cells nc invariant 0) ⌝ }
+    requires { ⌜ (end + trailerBytes ≤ length (now file)) × SmallCounts counts ⌝ }
+    requires { ⌜ VariablesRight (now file) end counts offsets externals × MatricesRight (now file) end counts offsets ⌝ }
+    ensures { λ r. ⌜ r ≡ bodied (sections (now (file .entry)) end counts offsets 0) ⌝ }
 {
-    match check_events(file, end, nv, nm, mats, events) {
+    match check_events(
+        file,
+        end,
+        shape_of(counts),
+        offsets.matrices,
+        offsets.events,
+    ) {
         Walked::Past(p) => {
-            if cells != p {
+            if offsets.cells != p {
                 return Counted::Stopped(4, p);
             }
-            check_from_cells(
-                file,
-                end,
-                nv,
-                mats,
-                nm,
-                events,
-                cells,
-                nc,
-                invariant,
-                externals,
-            )
+            check_from_cells(file, end, counts, offsets, externals)
         }
         Walked::Refused(number, place) => Counted::Stopped(number, place),
     }
@@ -210,72 +202,35 @@ pub fn check_from_events(
 pub fn check_from_matrices(
     file: &[u8],
     end: usize,
-    nv: usize,
-    mats: usize,
-    nm: usize,
-    events: usize,
-    cells: usize,
-    nc: usize,
-    invariant: usize,
+    counts: Counts,
+    offsets: Offsets,
     externals: usize,
 ) -> Counted
-    requires { ⌜ (end + 16 ≤ length (now file)) × (nv < 65536) × (nc < 65536) × VariablesRight (now file) end nv mats externals ⌝ }
-    ensures { λ r. ⌜ r ≡ bodied (sections (now (file .entry)) end nv mats nm events cells nc invariant 0) ⌝ }
+    requires { ⌜ (end + trailerBytes ≤ length (now file)) × SmallCounts counts × VariablesRight (now file) end counts offsets externals ⌝ }
+    ensures { λ r. ⌜ r ≡ bodied (sections (now (file .entry)) end counts offsets 0) ⌝ }
 {
-    match check_matrices(file, end, nm, mats) {
+    match check_matrices(file, end, counts.matrices, offsets.matrices) {
         Walked::Past(p) => {
-            if events != p {
+            if offsets.events != p {
                 return Counted::Stopped(4, p);
             }
-            check_from_events(
-                file,
-                end,
-                nv,
-                mats,
-                nm,
-                events,
-                cells,
-                nc,
-                invariant,
-                externals,
-            )
+            check_from_events(file, end, counts, offsets, externals)
         }
         Walked::Refused(number, place) => Counted::Stopped(number, place),
     }
 }
 
 // All sections, each at its offset.
-pub fn check_sections(
-    file: &[u8],
-    end: usize,
-    nv: usize,
-    mats: usize,
-    nm: usize,
-    events: usize,
-    cells: usize,
-    nc: usize,
-    invariant: usize,
-) -> Counted
-    requires { ⌜ (end + 16 ≤ length (now file)) × (nv < 65536) × (nc < 65536) ⌝ }
-    ensures { λ r. ⌜ r ≡ bodied (sections (now (file .entry)) end nv mats nm events cells nc invariant 0) ⌝ }
+pub fn check_sections(file: &[u8], end: usize, counts: Counts, offsets: Offsets) -> Counted
+    requires { ⌜ (end + trailerBytes ≤ length (now file)) × SmallCounts counts ⌝ }
+    ensures { λ r. ⌜ r ≡ bodied (sections (now (file .entry)) end counts offsets 0) ⌝ }
 {
-    match check_variables(file, end, nv) {
+    match check_variables(file, end, counts.variables) {
         Counted::Passed(p, externals) => {
-            if mats != p {
+            if offsets.matrices != p {
                 return Counted::Stopped(4, p);
             }
-            check_from_matrices(
-                file,
-                end,
-                nv,
-                mats,
-                nm,
-                events,
-                cells,
-                nc,
-                invariant,
-                externals,
-            )
+            check_from_matrices(file, end, counts, offsets, externals)
         }
         Counted::Stopped(number, place) => Counted::Stopped(number, place),
     }

@@ -10,7 +10,7 @@ use clauses::size::SizeReply;
 use clauses::size::size;
 
 #[no_mangle]
-pub extern "C" fn stm_size(file: &[u8], property: u8, bound: u8, answer: &mut [u64; 7]) -> u64
+pub extern "C" fn stm_size(file: &[u8], property: u64, bound: u64, answer: &mut [u64; 7]) -> u64
     ensures { λ r. ⌜ record { code = r; answer = now (answer .exit) } ≡ sizeEntry (now (file .entry)) property bound (now (answer .entry)) ⌝ }
 {
     match size(file, property, bound) {
@@ -33,8 +33,8 @@ pub extern "C" fn stm_size(file: &[u8], property: u8, bound: u8, answer: &mut [u
 #[no_mangle]
 pub extern "C" fn stm_encode(
     file: &[u8],
-    property: u8,
-    bound: u8,
+    property: u64,
+    bound: u64,
     part: u64,
     clauses: &mut [i32],
     answer: &mut [u64; 1],
@@ -53,8 +53,8 @@ pub extern "C" fn stm_encode(
 #[no_mangle]
 pub extern "C" fn stm_decode(
     file: &[u8],
-    property: u8,
-    bound: u8,
+    property: u64,
+    bound: u64,
     values: &[u8],
     choices: &mut [u8],
 ) -> u64

@@ -21,16 +21,16 @@ fn verdict_step(v: Verdict) -> u64
 {
     match v {
         Verdict::Clean => 0,
-        Verdict::Violated(i) => i as u64,
-        Verdict::Spent(i) => i as u64,
+        Verdict::Violated(i) => i,
+        Verdict::Spent(i) => i,
     }
 }
 
 #[no_mangle]
 pub extern "C" fn stm_verdict(
     file: &[u8],
-    property: u8,
-    bound: u8,
+    property: u64,
+    bound: u64,
     budget: u64,
     clauses: &mut [i32],
     values: &mut [u8],

@@ -61,7 +61,7 @@ pub extern "C" fn stm_holds(
     file: &[u8],
     values: &[i16; 32],
     statuses: &[u16; 8],
-    property: u8,
+    property: u64,
     holds: &mut [u8; 1],
 ) -> u64
     ensures { λ r. ⌜ record { code = r; holds = now (holds .exit) } ≡ holdsEntry (now (file .entry)) (now (values .entry)) (now (statuses .entry)) property (now (holds .entry)) ⌝ }
@@ -79,7 +79,7 @@ pub extern "C" fn stm_holds(
 #[no_mangle]
 pub extern "C" fn stm_replay(
     file: &[u8],
-    property: u8,
+    property: u64,
     choices: &[u8],
     answer: &mut [u64; 2],
 ) -> u64

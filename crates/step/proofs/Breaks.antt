@@ -9,17 +9,18 @@ use borrow.Author.Tests.{le-leb}
 use lib.ListN.{length, take}
 use Rattle.design.specs.Tree.{Design}
 use Rattle.design.specs.State.{State, start}
-use Rattle.step.specs.OneStep.{step, run, property, breaksAt, breaksFrom, breaks}
+use Rattle.step.specs.Property.{Property}
+use Rattle.step.specs.OneStep.{step, run, holds, breaksAt, breaksFrom, breaks}
 use Rattle.step.specs.Operations.{firstBreak}
 
 or-true : (a b : Bool) → a ≡ true → (a || b) ≡ true
 or-true true b e = refl
 or-true false b e = absurd (false≢true e)
 
-module _ (d : Design) (p : ℕ) where
+module _ (d : Design) (p : Property) where
   -- false after the first k choices, from the state s
   abbrev brokenAt : State → List ℕ → ℕ → Bool
-  brokenAt s cs k = not (property d p (run d s (take k cs)))
+  brokenAt s cs k = not (holds d p (run d s (take k cs)))
 
   -- k steps from s: the first at which the property is false
   record First (s : State) (cs : List ℕ) (k : ℕ) : Type 0 where
@@ -27,11 +28,11 @@ module _ (d : Design) (p : ℕ) where
     broken : brokenAt s cs k ≡ true
     before : (m : ℕ) → m < k → brokenAt s cs m ≡ false
 
-  at-once : (s : State) (cs : List ℕ) → property d p s ≡ false → First s cs 0
+  at-once : (s : State) (cs : List ℕ) → holds d p s ≡ false → First s cs 0
   unfolding run
   at-once s cs e = record { inside = omega arith; broken = ap not e; before = λ m l. absurd (omega arith) }
 
-  later : (s : State) (c : ℕ) (cs : List ℕ) (k : ℕ) → property d p s ≡ true → First (step d s c) cs k → First s (c ∷ cs) (suc k)
+  later : (s : State) (c : ℕ) (cs : List ℕ) (k : ℕ) → holds d p s ≡ true → First (step d s c) cs k → First s (c ∷ cs) (suc k)
   unfolding run
   later s c cs k e f = record { inside = (let i = f .inside in omega arith); broken = f .broken; before = go }
     where
@@ -45,14 +46,14 @@ module _ (d : Design) (p : ℕ) where
 
   found : (s : State) (cs : List ℕ) (i : ℕ) → Found s cs i (firstBreak d p s cs i)
   unfolding firstBreak breaksFrom
-  found s [] i = go (property d p s) refl
+  found s [] i = go (holds d p s) refl
     where
-      go : (t : Bool) → property d p s ≡ t → Found s [] i (cond t none (some i))
+      go : (t : Bool) → holds d p s ≡ t → Found s [] i (cond t none (some i))
       go true e = ap not e
       go false e = (0, (omega arith), at-once s [] e)
-  found s (c ∷ cs) i = go (property d p s) refl (firstBreak d p (step d s c) cs (suc i)) (found (step d s c) cs (suc i))
+  found s (c ∷ cs) i = go (holds d p s) refl (firstBreak d p (step d s c) cs (suc i)) (found (step d s c) cs (suc i))
     where
-      go : (t : Bool) → property d p s ≡ t → (o : Option ℕ) → Found (step d s c) cs (suc i) o → Found s (c ∷ cs) i (cond t o (some i))
+      go : (t : Bool) → holds d p s ≡ t → (o : Option ℕ) → Found (step d s c) cs (suc i) o → Found s (c ∷ cs) i (cond t o (some i))
       go true e (some j) (k, q, f) = (suc k, (omega arith), later s c cs k e f)
       go true e none f = ap (λ (t : Bool). not t || breaksFrom d p (step d s c) cs) e ∙ f
       go false e o f = (0, (omega arith), at-once s (c ∷ cs) e)
@@ -61,9 +62,9 @@ module _ (d : Design) (p : ℕ) where
   breaks-somewhere : (s : State) (cs : List ℕ) → breaksFrom d p s cs ≡ true → (k : ℕ) × (k ≤ length cs) × (brokenAt s cs k ≡ true)
   unfolding breaksFrom run
   breaks-somewhere s [] e = (0, (omega arith), e)
-  breaks-somewhere s (c ∷ cs) e = go (breaks-somewhere (step d s c) cs) (not (property d p s)) refl e
+  breaks-somewhere s (c ∷ cs) e = go (breaks-somewhere (step d s c) cs) (not (holds d p s)) refl e
     where
-      go : (breaksFrom d p (step d s c) cs ≡ true → (k : ℕ) × (k ≤ length cs) × (brokenAt (step d s c) cs k ≡ true)) → (t : Bool) → not (property d p s) ≡ t → (t || breaksFrom d p (step d s c) cs) ≡ true → (k : ℕ) × (k ≤ suc (length cs)) × (brokenAt s (c ∷ cs) k ≡ true)
+      go : (breaksFrom d p (step d s c) cs ≡ true → (k : ℕ) × (k ≤ length cs) × (brokenAt (step d s c) cs k ≡ true)) → (t : Bool) → not (holds d p s) ≡ t → (t || breaksFrom d p (step d s c) cs) ≡ true → (k : ℕ) × (k ≤ suc (length cs)) × (brokenAt s (c ∷ cs) k ≡ true)
       go f true q h = (0, (omega arith), q)
       go f false q h = let (k, l, b) = f h in (suc k, (omega arith), b)
 
@@ -71,8 +72,8 @@ module _ (d : Design) (p : ℕ) where
   unfolding breaksFrom run
   somewhere-breaks s [] zero l e = e
   somewhere-breaks s [] (suc k) l e = absurd (omega arith)
-  somewhere-breaks s (c ∷ cs) zero l e = or-true (not (property d p s)) (breaksFrom d p (step d s c) cs) e
-  somewhere-breaks s (c ∷ cs) (suc k) l e = go (not (property d p s)) (somewhere-breaks (step d s c) cs k (omega arith) e)
+  somewhere-breaks s (c ∷ cs) zero l e = or-true (not (holds d p s)) (breaksFrom d p (step d s c) cs) e
+  somewhere-breaks s (c ∷ cs) (suc k) l e = go (not (holds d p s)) (somewhere-breaks (step d s c) cs k (omega arith) e)
     where
       go : (t : Bool) → breaksFrom d p (step d s c) cs ≡ true → (t || breaksFrom d p (step d s c) cs) ≡ true
       go true h = refl

@@ -3,23 +3,22 @@ use mathlib.Core.Path.{_≡_, sym, ap, subst, _∙_}
 use mathlib.Core.Bool.{Bool, not, false}
 use mathlib.Core.List.{List, []}
 use mathlib.Core.Option.{some}
-use Prim.Native.Nat.{ℕ, _-_, _<_, _≤_}
+use Prim.Native.Nat.{ℕ, _+_, _-_, _<_, _≤_}
 use native.Mathlib.Omega.{arith}
 use lib.ListN.{getD, length, getElem?}
 use lib.Seq.{getD-take}
 use Rattle.design.specs.Tree.{Cell, Design, Mover, cell, raise, constantB, done, movers}
-use Rattle.design.specs.State.{State, Layout, layout}
+use Rattle.design.specs.State.{State, Layout, layout, layoutOf}
 use Rattle.design.specs.DesignFile.{normal}
 use Rattle.design.specs.Check.{check, accepted, variableCount, eventIn}
-use Rattle.design.specs.Places.{Accepted, CellsIndexed, normalPlaces}
-use Rattle.design.specs.Sections.{Parts, Standing}
+use Rattle.design.specs.Places.{Accepted, Shaped, CellsIndexed, MoversIndexed, normalPlaces, externalsFrom}
+use Rattle.design.specs.Sections.{Parts, Standing, NormalCell}
 use Rattle.design.proofs.Sections.{whole}
 use Rattle.design.proofs.Places.{read, normal-stands, cell-fields}
 use Rattle.design.proofs.Tables.{few-normals}
 use Rattle.step.specs.OneStep.{enabled, move, moved, idles, step, idle}
-use Rattle.step.specs.Accepted.{layoutOf}
-use Rattle.step.specs.Ready.{NormalCell, externalsFrom}
-use Rattle.step.proofs.Externals.{cell-mover, raise-mover}
+use Rattle.design.specs.declared.shape.Shape.{Shape}
+use Rattle.design.proofs.Externals.{cell-mover, raise-mover}
 use Rattle.step.proofs.Scanning.{same-layout}
 
 -- stands in where there is no cell
@@ -53,26 +52,27 @@ module _ (file cells : List ℕ) (normals : ℕ) (h : CellsIndexed file cells no
       let c = read file a .all .short in
       omega arith
 
-module _ (file : List ℕ) (nv : ℕ) (q : nv ≡ variableCount file) (s s′ : State) (r : Bool) (d : Design) (e : check file ≡ accepted d) where
+module _ (file : List ℕ) (h : Shape) (q : Shaped file h) (s s′ : State) (r : Bool) (d : Design) (e : check file ≡ accepted d) where
   w : Parts file d
   w = whole file d e .parts
 
-  made : (c : ℕ) (m : Mover) → getElem? (movers d) c ≡ some m → (s′ ≡ move (layoutOf nv) s m) × (r ≡ not (enabled (layoutOf nv) s m)) → (s′ ≡ step d s c) × (r ≡ idle d s c)
+  made : (c : ℕ) (m : Mover) → getElem? (movers d) c ≡ some m → (s′ ≡ move (layoutOf h) s m) × (r ≡ not (enabled (layoutOf h) s m)) → (s′ ≡ step d s c) × (r ≡ idle d s c)
   unfolding step idle
   made c m g k =
-      let y = same-layout file d w nv q in (
+      let y = same-layout file d w h q in (
         k .0 ∙ ap (λ (z : Layout). move z s m) y ∙ sym (ap (moved (layout d) s) g),
         k .1 ∙ ap (λ (z : Layout). not (enabled z s m)) y ∙ sym (ap (idles (layout d) s) g),
       )
 
-  pub step-cell : (cells : List ℕ) (normals : ℕ) → CellsIndexed file cells normals → (c : ℕ) → c < normals
-      → ((x : NormalCell file (getD cells c 0)) → (s′ ≡ move (layoutOf nv) s (cell (x .cell))) × (r ≡ not (enabled (layoutOf nv) s (cell (x .cell))))) → (s′ ≡ step d s c) × (r ≡ idle d s c)
+  pub step-cell : (cells : List ℕ) → MoversIndexed file cells h → (c : ℕ) → c < h .normals
+      → ((x : NormalCell file (getD cells c 0)) → (s′ ≡ move (layoutOf h) s (cell (x .cell))) × (r ≡ not (enabled (layoutOf h) s (cell (x .cell))))) → (s′ ≡ step d s c) × (r ≡ idle d s c)
   unfolding named
-  step-cell cells normals h c l k = made c (cell (getD (d .cells) c no-cell)) (cell-mover file d w c (omega (arith, h .count)) no-cell) (k (named file cells normals h c l d w))
+  step-cell cells m c l k = made c (cell (getD (d .cells) c no-cell)) (cell-mover file d w c (omega (arith, m .normals .count)) no-cell) (k (named file cells (h .normals) (m .normals) c l d w))
 
-  pub step-external : (cells : List ℕ) (normals : ℕ) → CellsIndexed file cells normals → (c v : ℕ) → normals ≤ c → c - normals < length (externalsFrom file 0 nv) → v ≡ getD (externalsFrom file 0 nv) (c - normals) 0
-      → (s′ ≡ move (layoutOf nv) s (raise v)) × (r ≡ not (enabled (layoutOf nv) s (raise v))) → (s′ ≡ step d s c) × (r ≡ idle d s c)
-  step-external cells normals h c v l b g k =
-      let b′ = subst (λ (n : ℕ). c - normals < length (externalsFrom file 0 n)) q b in
-      let g′ : v ≡ getD (externalsFrom file 0 (variableCount file)) (c - normals) 0 = g ∙ ap (λ (n : ℕ). getD (externalsFrom file 0 n) (c - normals) 0) q in
-      made c (raise v) (raise-mover file d w c (c - normals) (omega (arith, h .count)) b′ ∙ ap (λ (n : ℕ). some (raise n)) (sym g′)) k
+  pub step-external : (cells : List ℕ) → MoversIndexed file cells h → (c v : ℕ) → h .normals ≤ c → c < h .normals + h .externals → v ≡ getD (externalsFrom file 0 (h .variables)) (c - h .normals) 0
+      → (s′ ≡ move (layoutOf h) s (raise v)) × (r ≡ not (enabled (layoutOf h) s (raise v))) → (s′ ≡ step d s c) × (r ≡ idle d s c)
+  step-external cells m c v l b g k =
+      let j = c - h .normals in
+      let b′ : j < length (externalsFrom file 0 (variableCount file)) = subst (λ (n : ℕ). j < length (externalsFrom file 0 n)) (q .variables) (omega (arith, m .externals)) in
+      let g′ : v ≡ getD (externalsFrom file 0 (variableCount file)) j 0 = g ∙ ap (λ (n : ℕ). getD (externalsFrom file 0 n) j 0) (q .variables) in
+      made c (raise v) (raise-mover file d w c j (omega (arith, m .normals .count)) b′ ∙ ap (λ (n : ℕ). some (raise n)) (sym g′)) k

@@ -20,9 +20,9 @@ use Rattle.design.proofs.Positions.{variable-stands, matrix-stands}
 use Rattle.design.proofs.Places.{read, matrix-inside}
 use Rattle.step.specs.Interface.{rightKind, valuesRight, statusesRight, firstWrong}
 use Rattle.step.specs.Entries.{valueRight, statusRight}
-use Rattle.step.proofs.Externals.{variable-is}
+use Rattle.design.proofs.Widths.{variable-is, matrix-count}
 use Rattle.step.proofs.Looking.{Looking, looking-start, looking-wrong, looking-right, looking-end}
-use Rattle.step.proofs.Replays.{matrix-count, drop-replicate}
+use Rattle.step.proofs.Replays.{drop-replicate}
 use Rattle.step.proofs.Answering.{wrong-most}
 
 pub values-length : (xs : List Variable) (ps : List ℕ) → length (valuesRight xs ps) ≡ length ps
@@ -199,10 +199,6 @@ pub copied-all : {A : Type 0} (m n : ℕ) (z : A) (src now : List A) → n ≡ m
 copied-all {A} m n z src now e l g =
     copied m n z src now (omega arith) g ∙ ap₂ (λ (x y : List A). x ++ y) (take-all n src (omega arith)) (ap (λ (k : ℕ). replicate k z) (let q : m - n ≡ 0 = omega arith in q)) ∙ append-none src
 
-pub copied-rest : (m n k : ℕ) (src now : List ℕ) → k ≡ length src → k ≤ m → Copying (replicate m 0) 0 src k now → now ≡ src ++ replicate (m - length src) 0
-copied-rest m n k src now e h g =
-    copied m k 0 src now h g ∙ ap₂ (λ (x y : List ℕ). x ++ y) (take-all k src (omega arith)) (ap (λ (j : ℕ). replicate (m - j) 0) e)
-
 -- the loops of the interface
 module _ (m : ℕ) where
   pub copying-mapped : {A B : Type 0} (f : A → B) (z : B) (a : A) (src : List A) (i : ℕ) (now : List B) (x : B) → i < m → i < length src → x ≡ f (getD src i a) → Copying (replicate m z) 0 (map f src) i now → Copying (replicate m z) 0 (map f src) (i + 1) (set now i x)
@@ -212,9 +208,6 @@ module _ (m : ℕ) where
   pub copying-from : (n : ℕ) (src : List ℕ) (i : ℕ) (now : List ℕ) (x : ℕ) → i < m → n + i < length src → x ≡ getD src (n + i) 0 → Copying (replicate m 0) 0 (drop n src) i now → Copying (replicate m 0) 0 (drop n src) (i + 1) (set now i x)
   copying-from n src i now x l k e g =
       copying-on (replicate m 0) 0 (drop n src) i i now x 0 (omega arith) (let q : length (replicate {A = ℕ} m 0) ≡ m = length-replicate m 0 in omega arith) (let q = length-drop n src in omega arith) (e ∙ sym (getD-drop n src i 0)) g
-
-pub rest-length : (n : ℕ) (src : List ℕ) → length (drop n src) ≡ length src - n
-rest-length n src = length-drop n src
 
 -- the entries, values and then statuses
 module _ (xs : List Variable) (ns ps ss : List ℕ) (n : length ps ≡ 32) where

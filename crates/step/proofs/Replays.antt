@@ -11,17 +11,20 @@ use lib.Seq.{paste, paste-zero, paste-suc, take-all, drop-cons, drop-length}
 use lib.Dec.{leb, eqb}
 use Rattle.design.specs.Tree.{Variable, boolean, Design}
 use Rattle.design.specs.State.{State, start}
-use Rattle.design.specs.DesignFile.{Item, item, need, Matrix, kind, at8, at16, variableAt}
+use Rattle.design.specs.DesignFile.{Item, item, need, kind, at8, at16, variableAt}
 use Rattle.design.specs.Check.{check, accepted, trailer, variableCount, matrixCount}
 use Rattle.design.specs.Places.{Accepted}
 use Rattle.design.specs.Sections.{Parts}
 use Rattle.design.proofs.Sections.{whole, need-inv, item-same}
 use Rattle.design.proofs.Positions.{variable-stands}
 use Rattle.design.proofs.Places.{read}
-use Rattle.step.specs.OneStep.{step, property}
+use Rattle.step.specs.Property.{propertyOf}
+use Rattle.step.specs.OneStep.{step, holds}
 use Rattle.step.specs.Operations.{firstBreak}
-use Rattle.step.specs.Ready.{Ready}
-use Rattle.step.proofs.Cells.{variables-inside}
+use Rattle.step.specs.Ready.{Ready, Replayable}
+use Rattle.design.specs.declared.shape.Shape.{Shape}
+use Rattle.design.proofs.Indexed.{variables-inside}
+use Rattle.design.proofs.Widths.{matrix-count}
 
 pub drop-replicate : {A : Type 0} (n m : ℕ) (z : A) → drop n (replicate (n + m) z) ≡ replicate m z
 drop-replicate zero m z = ap (λ (k : ℕ). replicate k z) (let q : 0 + m ≡ m = omega arith in q)
@@ -42,9 +45,6 @@ initial-at file d w v h =
     let a = need-inv (leb (3 * v + 3) (trailer file)) 4 (3 * v) (need right 5 (3 * v) made) _ _ (variable-stands file d w v h none) .1 in
     let b = need-inv right 5 (3 * v) made _ _ a .1 in
     List·getD-map (λ (x : Variable). x .initial) (d .variables) v none ∙ ap (λ (x : Variable). x .initial) (sym (item-same _ _ _ _ b))
-
-pub matrix-count : (file : List ℕ) (d : Design) (w : Parts file d) → length (d .statuses) ≡ matrixCount file
-matrix-count file d w = ap length (w .statuses) ∙ length-map (w .matrices) (λ (m : Matrix). m .statuses) ∙ w .matrix-count
 
 -- the first v values are loaded
 pub record Loading (file : List ℕ) (nv nm v : ℕ) (s : State) : Type 0 where
@@ -85,29 +85,32 @@ module _ (file : List ℕ) (a : Accepted file) (nv nm : ℕ) (e : nv ≡ variabl
       ∙ ap₂ (λ (x y : State). x ++ y) (take-all nv xs (omega arith)) (ap (λ (k : ℕ). drop k (replicate (nv + nm) 0)) (let z : 0 + nv ≡ nv = omega arith in z) ∙ drop-replicate nv nm 0 ∙ ap (λ (k : ℕ). replicate k 0) m)
 
 -- a state of the same size
-pub ready-same : (file events : List ℕ) (nv nm : ℕ) (s s′ : State) → length s′ ≡ length s → Ready file events nv nm s → Ready file events nv nm s′
-ready-same file events nv nm s s′ e h = record { accepted = h .accepted; events = h .events; variables = h .variables; matrices = h .matrices; size = e ∙ h .size }
+pub ready-same : (file events : List ℕ) (h : Shape) (s s′ : State) → length s′ ≡ length s → Ready file events h s → Ready file events h s′
+ready-same file events h s s′ e r = record { indexed = r .indexed; size = e ∙ r .size }
+
+pub replayable-same : (file events cells : List ℕ) (h : Shape) (s s′ : State) (cs : List ℕ) → length s′ ≡ length s → Replayable file events cells h s cs → Replayable file events cells h s′ cs
+replayable-same file events cells h s s′ cs e r = record { ready = ready-same file events h s s′ e (r .ready); movers = r .movers; few = r .few; named = r .named }
 
 -- what is left of the list breaks as the whole does
 pub record Replaying (file : List ℕ) (p : ℕ) (cs : List ℕ) (s₀ : State) (i : ℕ) (s : State) : Type 0 where
   pub inside : i ≤ length cs
   pub size : length s ≡ length s₀
-  pub same : (d : Design) → check file ≡ accepted d → firstBreak d p s (drop i cs) i ≡ firstBreak d p s₀ cs 0
+  pub same : (d : Design) → check file ≡ accepted d → firstBreak d (propertyOf d p) s (drop i cs) i ≡ firstBreak d (propertyOf d p) s₀ cs 0
 
 pub replaying-start : (file : List ℕ) (p : ℕ) (cs : List ℕ) (s : State) → Replaying file p cs s 0 s
 replaying-start file p cs s = record { inside = omega arith; size = refl; same = λ d e. refl }
 
-module _ (file : List ℕ) (p : ℕ) (cs : List ℕ) (s₀ : State) (i : ℕ) (s : State) (g : Replaying file p cs s₀ i s) (r : Bool) (h : (d : Design) (w : Parts file d) → r ≡ property d p s) where
-  holds : (d : Design) → check file ≡ accepted d → r ≡ property d p s
-  holds d e = h d (whole file d e .parts)
+module _ (file : List ℕ) (p : ℕ) (cs : List ℕ) (s₀ : State) (i : ℕ) (s : State) (g : Replaying file p cs s₀ i s) (r : Bool) (h : (d : Design) (w : Parts file d) → r ≡ holds d (propertyOf d p) s) where
+  is-held : (d : Design) → check file ≡ accepted d → r ≡ holds d (propertyOf d p) s
+  is-held d e = h d (whole file d e .parts)
 
-  broken : (d : Design) (xs : List ℕ) → property d p s ≡ false → firstBreak d p s xs i ≡ some i
+  broken : (d : Design) (xs : List ℕ) → holds d (propertyOf d p) s ≡ false → firstBreak d (propertyOf d p) s xs i ≡ some i
   unfolding firstBreak
   broken d [] e = ap (λ (t : Bool). cond t none (some i)) e
-  broken d (x ∷ xs) e = ap (λ (t : Bool). cond t (firstBreak d p (step d s x) xs (suc i)) (some i)) e
+  broken d (x ∷ xs) e = ap (λ (t : Bool). cond t (firstBreak d (propertyOf d p) (step d s x) xs (suc i)) (some i)) e
 
-  pub replaying-broken : r ≡ false → (d : Design) → check file ≡ accepted d → some i ≡ firstBreak d p s₀ cs 0
-  replaying-broken f d e = sym (broken d (drop i cs) (sym (holds d e) ∙ f)) ∙ g .same d e
+  pub replaying-broken : r ≡ false → (d : Design) → check file ≡ accepted d → some i ≡ firstBreak d (propertyOf d p) s₀ cs 0
+  replaying-broken f d e = sym (broken d (drop i cs) (sym (is-held d e) ∙ f)) ∙ g .same d e
 
   pub replaying-on : r ≡ true → i < length cs → (c : ℕ) → c ≡ getD cs i 0 → (s′ : State) (u : Bool) (v : Design → Bool) → length s′ ≡ length s → ((d : Design) → check file ≡ accepted d → (s′ ≡ step d s c) × (u ≡ v d)) → Replaying file p cs s₀ (i + 1) s′
   unfolding firstBreak
@@ -115,14 +118,14 @@ module _ (file : List ℕ) (p : ℕ) (cs : List ℕ) (s₀ : State) (i : ℕ) (s
     inside = omega arith;
     size = n ∙ g .size;
     same = λ d e.
-        ap (λ (j : ℕ). firstBreak d p s′ (drop j cs) j) (add-one i) ∙ ap (λ (x : State). firstBreak d p x (drop (suc i) cs) (suc i)) (k d e .0 ∙ ap (step d s) q)
-        ∙ ap (λ (b : Bool). cond b (firstBreak d p (step d s (getD cs i 0)) (drop (suc i) cs) (suc i)) (some i)) (sym t ∙ holds d e)
-        ∙ ap (λ (xs : List ℕ). firstBreak d p s xs i) (sym (drop-cons cs i 0 l)) ∙ g .same d e;
+        ap (λ (j : ℕ). firstBreak d (propertyOf d p) s′ (drop j cs) j) (add-one i) ∙ ap (λ (x : State). firstBreak d (propertyOf d p) x (drop (suc i) cs) (suc i)) (k d e .0 ∙ ap (step d s) q)
+        ∙ ap (λ (b : Bool). cond b (firstBreak d (propertyOf d p) (step d s (getD cs i 0)) (drop (suc i) cs) (suc i)) (some i)) (sym t ∙ is-held d e)
+        ∙ ap (λ (xs : List ℕ). firstBreak d (propertyOf d p) s xs i) (sym (drop-cons cs i 0 l)) ∙ g .same d e;
   }
 
-  pub replaying-never : r ≡ true → length cs ≤ i → (d : Design) → check file ≡ accepted d → none ≡ firstBreak d p s₀ cs 0
+  pub replaying-never : r ≡ true → length cs ≤ i → (d : Design) → check file ≡ accepted d → none ≡ firstBreak d (propertyOf d p) s₀ cs 0
   unfolding firstBreak
   replaying-never t l d e =
       let k = g .inside in
-      ap (λ (b : Bool). cond b none (some i)) (sym t ∙ holds d e)
-      ∙ ap (λ (xs : List ℕ). firstBreak d p s xs i) (sym (ap (λ (j : ℕ). drop j cs) (let z : i ≡ length cs = omega arith in z) ∙ drop-length cs)) ∙ g .same d e
+      ap (λ (b : Bool). cond b none (some i)) (sym t ∙ is-held d e)
+      ∙ ap (λ (xs : List ℕ). firstBreak d (propertyOf d p) s xs i) (sym (ap (λ (j : ℕ). drop j cs) (let z : i ≡ length cs = omega arith in z) ∙ drop-length cs)) ∙ g .same d e

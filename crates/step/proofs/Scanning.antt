@@ -9,66 +9,63 @@ use lib.ListN.{getD, length, drop}
 use lib.Seq.{drop-cons, drop-length}
 use Rattle.design.specs.Tree.{BoolExpr, constantB, Design}
 use Rattle.design.specs.Limits.{maxDepth}
-use Rattle.design.specs.State.{State, Layout, layout}
+use Rattle.design.specs.State.{State, Layout, layout, layoutOf}
 use Rattle.design.specs.Reading.{got}
 use Rattle.design.specs.Expression.{Names, boolExpr}
 use Rattle.design.specs.DesignFile.{Entry, normal, invalid, c-matrix, c-status, c-event, c-kind, c-past}
 use Rattle.design.specs.Check.{invalids, namesOf, names, trailer, variableCount, matricesOffset, cellsOffset, cellCount, invariantOffset, eventIn}
-use Rattle.design.specs.Places.{pastCells}
+use Rattle.design.specs.Places.{pastCells, Shaped}
 use Rattle.design.specs.Sections.{Parts, EntryRead, Standing, CellFields}
-use Rattle.design.proofs.Positions.{invariant-stands}
 use Rattle.design.proofs.Places.{Read as Tree, read, cell-stands, cell-fields}
 use Rattle.step.specs.Evaluation.{evalBool}
-use Rattle.step.specs.OneStep.{statusAndEvent, noInvalid, property}
-use Rattle.step.specs.Accepted.{isRead, layoutOf, boolValue}
+use Rattle.step.specs.Property.{propertyOf}
+use Rattle.step.specs.OneStep.{statusAndEvent, noInvalid, holds}
+use Rattle.step.specs.Accepted.{isRead, boolValue}
+use Rattle.design.specs.declared.shape.Shape.{Shape}
+use Rattle.design.proofs.Indexed.{invariant-got, invariant-some}
+use Rattle.design.proofs.Widths.{layout-is}
 use Rattle.step.specs.Ready.{Ready}
 
--- the layout of the tree, by the count of the file
-pub same-layout : (file : List ℕ) (d : Design) (w : Parts file d) (nv : ℕ) → nv ≡ variableCount file → layoutOf nv ≡ layout d
-unfolding layout
-same-layout file d w nv e = ap layoutOf (e ∙ sym (w .variable-count))
+-- the layout of the tree, by the shape of the file
+pub same-layout : (file : List ℕ) (d : Design) (w : Parts file d) (h : Shape) → Shaped file h → layoutOf h ≡ layout d
+same-layout file d w h s = layout-is file d w (h .variables) (h .matrices) (s .variables) (s .matrices)
 
-pub invariant-property : (file : List ℕ) (d : Design) (w : Parts file d) (nv : ℕ) → nv ≡ variableCount file → (p : ℕ) → p ≡ 0 → (s : State) (r : Bool) → r ≡ evalBool (layoutOf nv) s (d .invariant) → r ≡ property d p s
-unfolding property
-invariant-property file d w nv e p z s r h = h ∙ ap (λ (l : Layout). evalBool l s (d .invariant)) (same-layout file d w nv e) ∙ ap (λ (k : ℕ). property d k s) (sym z)
+pub invariant-property : (file : List ℕ) (d : Design) (w : Parts file d) (h : Shape) → Shaped file h → (p : ℕ) → p ≡ 0 → (s : State) (r : Bool) → r ≡ evalBool (layoutOf h) s (d .invariant) → r ≡ holds d (propertyOf d p) s
+unfolding holds propertyOf
+invariant-property file d w h q p z s r k = k ∙ ap (λ (l : Layout). evalBool l s (d .invariant)) (same-layout file d w h q) ∙ ap (λ (j : ℕ). holds d (propertyOf d j) s) (sym z)
 
-pub invalid-property : (file : List ℕ) (d : Design) (w : Parts file d) (nv : ℕ) → nv ≡ variableCount file → (p : ℕ) → (p ≡ 0 → ⊥) → (s : State) (r : Bool) → r ≡ noInvalid (layoutOf nv) s (d .invalid) → r ≡ property d p s
-unfolding property
-invalid-property file d w nv e zero z s r h = absurd (z refl)
-invalid-property file d w nv e (suc p) z s r h = h ∙ ap (λ (l : Layout). noInvalid l s (d .invalid)) (same-layout file d w nv e)
+pub invalid-property : (file : List ℕ) (d : Design) (w : Parts file d) (h : Shape) → Shaped file h → (p : ℕ) → (p ≡ 0 → ⊥) → (s : State) (r : Bool) → r ≡ noInvalid (layoutOf h) s (d .invalid) → r ≡ holds d (propertyOf d p) s
+unfolding holds propertyOf
+invalid-property file d w h q zero z s r k = absurd (z refl)
+invalid-property file d w h q (suc p) z s r k = k ∙ ap (λ (l : Layout). noInvalid l s (d .invalid)) (same-layout file d w h q)
 
 -- what is left to look at decides as the whole does
-pub record Scanning (file : List ℕ) (nv : ℕ) (slots : State) (p i : ℕ) : Type 0 where
+pub record Scanning (file : List ℕ) (h : Shape) (slots : State) (p i : ℕ) : Type 0 where
   pub here : p ≡ pastCells file i (cellsOffset file)
   pub inside : i ≤ cellCount file
-  pub same : (d : Design) (w : Parts file d) → noInvalid (layoutOf nv) slots (invalids (drop i (w .entries))) ≡ noInvalid (layoutOf nv) slots (d .invalid)
+  pub same : (d : Design) (w : Parts file d) → noInvalid (layoutOf h) slots (invalids (drop i (w .entries))) ≡ noInvalid (layoutOf h) slots (d .invalid)
 
-pub scanning-start : (file : List ℕ) (nv : ℕ) (slots : State) (p : ℕ) → p ≡ cellsOffset file → Scanning file nv slots p 0
+pub scanning-start : (file : List ℕ) (h : Shape) (slots : State) (p : ℕ) → p ≡ cellsOffset file → Scanning file h slots p 0
 unfolding pastCells
-scanning-start file nv slots p e = record { here = e; inside = omega arith; same = λ d w. ap (noInvalid (layoutOf nv) slots) (sym (w .invalid)) }
+scanning-start file h slots p e = record { here = e; inside = omega arith; same = λ d w. ap (noInvalid (layoutOf h) slots) (sym (w .invalid)) }
 
-module _ (file events′ : List ℕ) (nv nm : ℕ) (slots : State) (h : Ready file events′ nv nm slots) where
+module _ (file events′ : List ℕ) (h : Shape) (slots : State) (ready : Ready file events′ h slots) where
   abbrev N : Names
-  N = namesOf file nv nm
+  N = namesOf file h
 
   tree : Tree file
-  tree = read file (h .accepted)
-
-  pub invariant-got : (d : Design) (w : Parts file d) (at end : ℕ) → at ≡ invariantOffset file → end ≡ trailer file → boolExpr file N end maxDepth at ≡ got (d .invariant) end
-  invariant-got d w at end a e =
-      ap (λ (y : Names). boolExpr file y end maxDepth at) (ap₂ (namesOf file) (h .variables) (h .matrices)) ∙ ap (boolExpr file (names file) end maxDepth) a
-      ∙ subst (λ (j : ℕ). boolExpr file (names file) j maxDepth (invariantOffset file) ≡ got (d .invariant) j) (sym e) (invariant-stands file d w)
+  tree = read file (ready .indexed .accepted)
 
   pub invariant-reads : (at end : ℕ) → at ≡ invariantOffset file → end ≡ trailer file → isRead (boolExpr file N end maxDepth at) ≡ true
-  invariant-reads at end a e = ap isRead (invariant-got (tree .tree) (tree .all .parts) at end a e)
+  invariant-reads at end a e = ap isRead (invariant-some file (ready .indexed .accepted) h (ready .indexed .shaped) at end a e .1)
 
-  pub invariant-value : (at end : ℕ) → at ≡ invariantOffset file → end ≡ trailer file → (r : Bool) → r ≡ boolValue (layoutOf nv) slots (boolExpr file N end maxDepth at) → (d : Design) (w : Parts file d) → r ≡ evalBool (layoutOf nv) slots (d .invariant)
-  invariant-value at end a e r v d w = v ∙ ap (boolValue (layoutOf nv) slots) (invariant-got d w at end a e)
+  pub invariant-value : (at end : ℕ) → at ≡ invariantOffset file → end ≡ trailer file → (r : Bool) → r ≡ boolValue (layoutOf h) slots (boolExpr file N end maxDepth at) → (d : Design) (w : Parts file d) → r ≡ evalBool (layoutOf h) slots (d .invariant)
+  invariant-value at end a e r v d w = v ∙ ap (boolValue (layoutOf h) slots) (invariant-got file (ready .indexed .accepted) h (ready .indexed .shaped) at end a e d w)
 
   abbrev l : Layout
-  l = layoutOf nv
+  l = layoutOf h
 
-  module _ (p i : ℕ) (g : Scanning file nv slots p i) (k : i < cellCount file) where
+  module _ (p i : ℕ) (g : Scanning file h slots p i) (k : i < cellCount file) where
     none : Entry
     none = invalid (record { matrix = 0; status = 0; event = constantB false })
 
@@ -110,7 +107,7 @@ module _ (file events′ : List ℕ) (nv nm : ℕ) (slots : State) (h : Ready fi
         let t = is-invalid (eventIn (w .rows)) (entry d w) (drop (suc i) (w .entries)) (stands d w .1 .entry) e in
         ap (λ (b : Bool). not b && noInvalid l slots (invalids (drop (suc i) (w .entries)))) (sym q ∙ s d w) ∙ sym t ∙ sym (ap (λ (es : List Entry). noInvalid l slots (invalids es)) (split d w)) ∙ g .same d w
 
-    onward : (q : ℕ) → q ≡ c-past file p → ((d : Design) (w : Parts file d) → noInvalid l slots (invalids (drop (suc i) (w .entries))) ≡ noInvalid l slots (invalids (drop i (w .entries)))) → Scanning file nv slots q (i + 1)
+    onward : (q : ℕ) → q ≡ c-past file p → ((d : Design) (w : Parts file d) → noInvalid l slots (invalids (drop (suc i) (w .entries))) ≡ noInvalid l slots (invalids (drop i (w .entries)))) → Scanning file h slots q (i + 1)
     unfolding pastCells
     onward q e s = record {
       here = e ∙ ap (c-past file) (g .here) ∙ sym (ap (λ (n : ℕ). pastCells file n (cellsOffset file)) (add-one i));
@@ -118,14 +115,14 @@ module _ (file events′ : List ℕ) (nv nm : ℕ) (slots : State) (h : Ready fi
       same = λ d w. ap (λ (n : ℕ). noInvalid l slots (invalids (drop n (w .entries)))) (add-one i) ∙ s d w ∙ g .same d w;
     }
 
-    pub scan-normal : c-kind file p ≡ 0 → (q : ℕ) → q ≡ c-past file p → Scanning file nv slots q (i + 1)
+    pub scan-normal : c-kind file p ≡ 0 → (q : ℕ) → q ≡ c-past file p → Scanning file h slots q (i + 1)
     scan-normal e q f = onward q f (λ d w. sym (is-normal (eventIn (w .rows)) (entry d w) (drop (suc i) (w .entries)) (stands d w .1 .entry) e) ∙ sym (ap (λ (es : List Entry). noInvalid l slots (invalids es)) (split d w)))
 
-    pub scan-invalid : (c-kind file p ≡ 0 → ⊥) → (r : Bool) → Sees r → r ≡ false → (q : ℕ) → q ≡ c-past file p → Scanning file nv slots q (i + 1)
+    pub scan-invalid : (c-kind file p ≡ 0 → ⊥) → (r : Bool) → Sees r → r ≡ false → (q : ℕ) → q ≡ c-past file p → Scanning file h slots q (i + 1)
     scan-invalid e r s z q f = onward q f (λ d w.
         ap (λ (b : Bool). not b && noInvalid l slots (invalids (drop (suc i) (w .entries)))) (sym z ∙ s d w) ∙ sym (is-invalid (eventIn (w .rows)) (entry d w) (drop (suc i) (w .entries)) (stands d w .1 .entry) e) ∙ sym (ap (λ (es : List Entry). noInvalid l slots (invalids es)) (split d w)))
 
-  pub scanning-end : (p i : ℕ) → cellCount file ≤ i → Scanning file nv slots p i → (d : Design) (w : Parts file d) → true ≡ noInvalid l slots (d .invalid)
+  pub scanning-end : (p i : ℕ) → cellCount file ≤ i → Scanning file h slots p i → (d : Design) (w : Parts file d) → true ≡ noInvalid l slots (d .invalid)
   scanning-end p i k g d w =
       let s = g .inside in
       let z : i ≡ length (w .entries) = omega (arith, w .cell-count) in

@@ -10,23 +10,27 @@ use lib.Seq.{paste, length-paste, take-paste, drop-length}
 use lib.Dec.{ltb, leb}
 use borrow.Author.Tests.{lt-ltb, le-ltb, le-leb, lt-leb, eq-eqb, ne-eqb}
 use Rattle.design.specs.Tree.{Design, movers}
-use Rattle.design.specs.State.{State, start}
-use Rattle.design.specs.Check.{Checked, accepted, check, variableCount, matrixCount}
+use Rattle.design.specs.State.{State, layout, start}
+use Rattle.design.specs.Check.{accepted, check, variableCount, matrixCount}
+use Rattle.design.specs.Answer.{Answer, refused, answer, need}
 use Rattle.design.specs.Answers.{refusal}
 use Rattle.design.specs.Places.{Accepted}
 use Rattle.design.specs.declared.Refusal.{Refusal}
 use Rattle.design.specs.Sections.{Parts}
 use Rattle.design.proofs.Sections.{whole}
 use Rattle.design.proofs.Places.{read}
+use Rattle.design.proofs.Widths.{matrix-count}
 use Rattle.step.specs.Pattern.{signed, wrap}
-use Rattle.step.specs.OneStep.{step, idle, property}
-use Rattle.step.specs.Interface.{valuesRight, statusesRight, firstWrong, entriesRight, slotsOf, valuesOf, statusesOf}
-use Rattle.step.specs.Operations.{refusedAt, unless, allRight, refuseStart, started, START, refuseStep, answerStep, stepped, STEP, refuseHolds, answerHolds, held, HOLDS}
+use Rattle.step.specs.Limits.{lastProperty}
+use Rattle.step.specs.Property.{propertyOf}
+use Rattle.step.specs.OneStep.{step, idle, holds}
+use Rattle.step.specs.Interface.{valuesRight, statusesRight, firstWrong, entriesRight, slotsOf, valuesOf, statusesOf, Entries}
+use Rattle.step.specs.Operations.{refusedAt, allRight, started, START, next, stepped, STEP, held, HOLDS}
 use Rattle.step.specs.declared.Started.{Started}
 use Rattle.step.specs.declared.Stepped.{Stepped}
 use Rattle.step.specs.declared.Held.{Held}
-use Rattle.step.proofs.Replays.{matrix-count}
-use Rattle.step.proofs.Answering.{unless-no, unless-yes, refused-is, wrong-most}
+use Rattle.step.proofs.Gates.{need-no, need-yes, on-refused, on-accepted}
+use Rattle.step.proofs.Answering.{wrong-most}
 use Rattle.step.proofs.Entries.{append-none, values-length, statuses-length}
 
 -- two copies make the state
@@ -50,32 +54,36 @@ module _ (file : List ℕ) (d : Design) (c : check file ≡ accepted d) (nv nm :
   pub values-are : (s : State) (vs : List ℤ) → vs ≡ take nv (map signed s) ++ replicate (32 - nv) (pos 0) → vs ≡ valuesOf d s
   values-are s vs h = h ∙ ap (λ (k : ℕ). take k (map signed s) ++ replicate (32 - k) (pos 0)) variables-are
 
-  pub statuses-are : (s : State) (ss : List ℕ) → length s ≡ nv + nm → ss ≡ drop nv s ++ replicate (8 - (length s - nv)) 0 → ss ≡ statusesOf d s
-  statuses-are s ss n h = h ∙ ap₂ (λ (k j : ℕ). drop k s ++ replicate (8 - j) 0) variables-are (let z : length s - nv ≡ nm = omega arith in z ∙ matrices-are)
+  pub statuses-are : (s : State) (ss : List ℕ) → ss ≡ take nm (drop nv s) ++ replicate (8 - nm) 0 → ss ≡ statusesOf d s
+  unfolding layout
+  statuses-are s ss h =
+      h ∙ ap₂ (λ (k j : ℕ). take j (drop k s) ++ replicate (8 - j) 0) variables-are matrices-are
+      ∙ ap (λ (j : ℕ). take j (drop (length (d .variables)) s) ++ replicate (8 - length (d .statuses)) 0)
+      (let z : length (d .statuses) ≡ length (d .variables) + length (d .statuses) - length (d .variables) = omega arith in z)
 
   pub slots-are : (values : List ℤ) (ps ss s : List ℕ) → ps ≡ map wrap values → s ≡ take nv ps ++ take nm ss → s ≡ slotsOf d values ss
   slots-are values ps ss s a b = b ∙ ap (λ (x : List ℕ). take nv x ++ take nm ss) a ∙ ap₂ (λ (k j : ℕ). take k (map wrap values) ++ take j ss) variables-are matrices-are
 
-  pub step-answer : (s s′ : State) (vs : List ℤ) (ss : List ℕ) (i : Bool) (choice : ℕ) → length s′ ≡ nv + nm → (s′ ≡ step d s choice) × (i ≡ idle d s choice) → vs ≡ take nv (map signed s′) ++ replicate (32 - nv) (pos 0) → ss ≡ drop nv s′ ++ replicate (8 - (length s′ - nv)) 0
-      → _≡_ {A = Stepped} (record { refusal = refusedAt 0 0; values = vs; statuses = ss; idle = i }) (answerStep d s choice)
-  step-answer s s′ vs ss i choice n m a b =
+  pub step-answer : (s s′ : State) (vs : List ℤ) (ss : List ℕ) (i : Bool) (choice : ℕ) → (s′ ≡ step d s choice) × (i ≡ idle d s choice) → vs ≡ take nv (map signed s′) ++ replicate (32 - nv) (pos 0) → ss ≡ take nm (drop nv s′) ++ replicate (8 - nm) 0
+      → _≡_ {A = Stepped} (record { refusal = refusedAt 0 0; values = vs; statuses = ss; idle = i }) (stepped (answer (next d s choice)))
+  step-answer s s′ vs ss i choice m a b =
       ap (λ (x : List ℤ). record { refusal = refusedAt 0 0; values = x; statuses = ss; idle = i }) (values-are s′ vs a ∙ ap (valuesOf d) (m .0))
-      ∙ ap (λ (x : List ℕ). record { refusal = refusedAt 0 0; values = valuesOf d (step d s choice); statuses = x; idle = i }) (statuses-are s′ ss n b ∙ ap (statusesOf d) (m .0))
+      ∙ ap (λ (x : List ℕ). record { refusal = refusedAt 0 0; values = valuesOf d (step d s choice); statuses = x; idle = i }) (statuses-are s′ ss b ∙ ap (statusesOf d) (m .0))
       ∙ ap (λ (x : Bool). record { refusal = refusedAt 0 0; values = valuesOf d (step d s choice); statuses = statusesOf d (step d s choice); idle = x }) (m .1)
 
 -- START
-pub start-refused : (file : List ℕ) (r : Refusal) → r ≡ refusal (check file) → (r .number ≡ 0 → ⊥) → refuseStart (r .number) (r .place) ≡ START file
+pub start-refused : (file : List ℕ) (r : Refusal) → r ≡ refusal (check file) → (r .number ≡ 0 → ⊥) → started (refused (r .number) (r .place)) ≡ START file
 unfolding START
-start-refused file r e z = sym (ap started (refused-is (check file) r e z))
+start-refused file r e z = sym (ap started (on-refused file _ r e z))
 
-pub start-answer : (file : List ℕ) → Accepted file → (nv nm : ℕ) → nv ≡ variableCount file → nm ≡ matrixCount file → (s : State) (vs : List ℤ) (ss : List ℕ) → length s ≡ nv + nm → ((d : Design) → check file ≡ accepted d → s ≡ start d) → vs ≡ take nv (map signed s) ++ replicate (32 - nv) (pos 0) → ss ≡ drop nv s ++ replicate (8 - (length s - nv)) 0
+pub start-answer : (file : List ℕ) → Accepted file → (nv nm : ℕ) → nv ≡ variableCount file → nm ≡ matrixCount file → (s : State) (vs : List ℤ) (ss : List ℕ) → ((d : Design) → check file ≡ accepted d → s ≡ start d) → vs ≡ take nv (map signed s) ++ replicate (32 - nv) (pos 0) → ss ≡ take nm (drop nv s) ++ replicate (8 - nm) 0
     → _≡_ {A = Started} (record { refusal = refusedAt 0 0; values = vs; statuses = ss }) (START file)
 unfolding START
-start-answer file a nv nm e q s vs ss n h k j =
+start-answer file a nv nm e q s vs ss h k j =
     let t = read file a in
     let x = values-are file (t .tree) (t .is) nv nm e q s vs k ∙ ap (valuesOf (t .tree)) (h (t .tree) (t .is)) in
-    let y = statuses-are file (t .tree) (t .is) nv nm e q s ss n j ∙ ap (statusesOf (t .tree)) (h (t .tree) (t .is)) in
-    ap₂ (λ (u : List ℤ) (v : List ℕ). record { refusal = refusedAt 0 0; values = u; statuses = v }) x y ∙ sym (ap started (t .is))
+    let y = statuses-are file (t .tree) (t .is) nv nm e q s ss j ∙ ap (statusesOf (t .tree)) (h (t .tree) (t .is)) in
+    ap₂ (λ (u : List ℤ) (v : List ℕ). record { refusal = refusedAt 0 0; values = u; statuses = v }) x y ∙ sym (ap started (on-accepted file _ a))
 
 -- the tests of the entries
 module _ (d : Design) (values : List ℤ) (ps ss : List ℕ) (a : ps ≡ map wrap values) (n : length values ≡ 32) (k : length ss ≡ 8) (wrong : ℕ) (h : wrong ≡ firstWrong (valuesRight (d .variables) ps ++ statusesRight (d .statuses) ss)) where
@@ -98,9 +106,9 @@ module _ (d : Design) (values : List ℤ) (ps ss : List ℕ) (a : ps ≡ map wra
 
 -- STEP
 module _ (file : List ℕ) (values : List ℤ) (ss : List ℕ) (choice : ℕ) where
-  pub step-refused : (r : Refusal) → r ≡ refusal (check file) → (r .number ≡ 0 → ⊥) → refuseStep (r .number) (r .place) ≡ STEP file values ss choice
+  pub step-refused : (r : Refusal) → r ≡ refusal (check file) → (r .number ≡ 0 → ⊥) → stepped (refused (r .number) (r .place)) ≡ STEP file values ss choice
   unfolding STEP
-  step-refused r e z = sym (ap (λ (x : Checked). stepped x values ss choice) (refused-is (check file) r e z))
+  step-refused r e z = sym (ap stepped (on-refused file _ r e z))
 
   module _ (x : Accepted file) (ps : List ℕ) (a : ps ≡ map wrap values) (n : length values ≡ 32) (k : length ss ≡ 8) (wrong : ℕ) (h : (d : Design) → check file ≡ accepted d → wrong ≡ firstWrong (valuesRight (d .variables) ps ++ statusesRight (d .statuses) ss)) where
     d : Design
@@ -110,30 +118,36 @@ module _ (file : List ℕ) (values : List ℤ) (ss : List ℕ) (choice : ℕ) wh
     unfolding d
     c = read file x .is
 
-    answers : stepped (accepted d) values ss choice ≡ STEP file values ss choice
-    unfolding STEP
-    answers = sym (ap (λ (y : Checked). stepped y values ss choice) c)
+    abbrev ends : Answer (Entries × Bool)
+    ends = need (ltb choice (length (movers d))) 12 0 (answer (next d (slotsOf d values ss) choice))
 
-    pub step-11 : wrong < 40 → refuseStep 11 wrong ≡ STEP file values ss choice
-    step-11 l = ap (refuseStep 11) (wrong-is d values ps ss a n k wrong (h d c)) ∙ unless-no (allRight (entriesRight d values ss)) _ _ (wrong-found d values ps ss a n k wrong (h d c) l) ∙ answers
+    answers : stepped (need (allRight (entriesRight d values ss)) 11 (firstWrong (entriesRight d values ss)) ends) ≡ STEP file values ss choice
+    unfolding STEP d
+    answers = sym (ap stepped (on-accepted file _ x))
+
+    pub step-11 : wrong < 40 → stepped (refused 11 wrong) ≡ STEP file values ss choice
+    step-11 l =
+        ap (λ (j : ℕ). stepped (refused 11 j)) (wrong-is d values ps ss a n k wrong (h d c))
+        ∙ sym (ap stepped (need-no (allRight (entriesRight d values ss)) 11 (firstWrong (entriesRight d values ss)) ends (wrong-found d values ps ss a n k wrong (h d c) l))) ∙ answers
 
     module _ (l : 40 ≤ wrong) (w : ℕ) (m : (d : Design) → check file ≡ accepted d → w ≡ length (movers d)) where
-      after-11 : unless (ltb choice (length (movers d))) (refuseStep 12 0) (answerStep d (slotsOf d values ss) choice) ≡ STEP file values ss choice
-      after-11 = sym (unless-yes (allRight (entriesRight d values ss)) _ _ (none-wrong d values ps ss a n k wrong (h d c) l)) ∙ answers
+      after-11 : stepped ends ≡ STEP file values ss choice
+      after-11 = sym (ap stepped (need-yes (allRight (entriesRight d values ss)) 11 (firstWrong (entriesRight d values ss)) ends (none-wrong d values ps ss a n k wrong (h d c) l))) ∙ answers
 
-      pub step-12 : w ≤ choice → refuseStep 12 0 ≡ STEP file values ss choice
-      step-12 o = unless-no (ltb choice (length (movers d))) _ _ (le-ltb choice (length (movers d)) (let z = m d c in omega arith)) ∙ after-11
+      pub step-12 : w ≤ choice → stepped (refused 12 0) ≡ STEP file values ss choice
+      step-12 o = sym (ap stepped (need-no (ltb choice (length (movers d))) 12 0 _ (le-ltb choice (length (movers d)) (let z = m d c in omega arith)))) ∙ after-11
 
-      pub step-done : choice < w → (nv nm : ℕ) → nv ≡ variableCount file → nm ≡ matrixCount file → (i : ℕ) → i ≡ choice → (r : Stepped) → ((d : Design) → check file ≡ accepted d → r ≡ answerStep d (take nv ps ++ take nm ss) i) → r ≡ STEP file values ss choice
+      pub step-done : choice < w → (nv nm : ℕ) → nv ≡ variableCount file → nm ≡ matrixCount file → (i : ℕ) → i ≡ choice → (r : Stepped) → ((d : Design) → check file ≡ accepted d → r ≡ stepped (answer (next d (take nv ps ++ take nm ss) i))) → r ≡ STEP file values ss choice
       step-done o nv nm e q i t r f =
-          f d c ∙ ap (answerStep d (take nv ps ++ take nm ss)) t ∙ ap (λ (y : State). answerStep d y choice) (slots-are file d c nv nm e q values ps ss _ a refl)
-          ∙ sym (unless-yes (ltb choice (length (movers d))) _ _ (lt-ltb choice (length (movers d)) (let z = m d c in omega arith))) ∙ after-11
+          f d c ∙ ap (λ (j : ℕ). stepped (answer (next d (take nv ps ++ take nm ss) j))) t
+          ∙ ap (λ (y : State). stepped (answer (next d y choice))) (slots-are file d c nv nm e q values ps ss _ a refl)
+          ∙ sym (ap stepped (need-yes (ltb choice (length (movers d))) 12 0 (answer (next d (slotsOf d values ss) choice)) (lt-ltb choice (length (movers d)) (let z = m d c in omega arith)))) ∙ after-11
 
 -- HOLDS
 module _ (file : List ℕ) (values : List ℤ) (ss : List ℕ) (p : ℕ) where
-  pub holds-refused : (r : Refusal) → r ≡ refusal (check file) → (r .number ≡ 0 → ⊥) → refuseHolds (r .number) (r .place) ≡ HOLDS file values ss p
+  pub holds-refused : (r : Refusal) → r ≡ refusal (check file) → (r .number ≡ 0 → ⊥) → held (refused (r .number) (r .place)) ≡ HOLDS file values ss p
   unfolding HOLDS
-  holds-refused r e z = sym (ap (λ (x : Checked). held x values ss p) (refused-is (check file) r e z))
+  holds-refused r e z = sym (ap held (on-refused file _ r e z))
 
   module _ (x : Accepted file) (ps : List ℕ) (a : ps ≡ map wrap values) (n : length values ≡ 32) (k : length ss ≡ 8) (wrong : ℕ) (h : (d : Design) → check file ≡ accepted d → wrong ≡ firstWrong (valuesRight (d .variables) ps ++ statusesRight (d .statuses) ss)) where
     d′ : Design
@@ -143,21 +157,27 @@ module _ (file : List ℕ) (values : List ℤ) (ss : List ℕ) (p : ℕ) where
     unfolding d′
     c′ = read file x .is
 
-    answers′ : held (accepted d′) values ss p ≡ HOLDS file values ss p
-    unfolding HOLDS
-    answers′ = sym (ap (λ (y : Checked). held y values ss p) c′)
+    abbrev ends′ : Answer Bool
+    ends′ = need (leb p lastProperty) 13 0 (answer (holds d′ (propertyOf d′ p) (slotsOf d′ values ss)))
 
-    pub holds-11 : wrong < 40 → refuseHolds 11 wrong ≡ HOLDS file values ss p
-    holds-11 l = ap (refuseHolds 11) (wrong-is d′ values ps ss a n k wrong (h d′ c′)) ∙ unless-no (allRight (entriesRight d′ values ss)) _ _ (wrong-found d′ values ps ss a n k wrong (h d′ c′) l) ∙ answers′
+    answers′ : held (need (allRight (entriesRight d′ values ss)) 11 (firstWrong (entriesRight d′ values ss)) ends′) ≡ HOLDS file values ss p
+    unfolding HOLDS d′
+    answers′ = sym (ap held (on-accepted file _ x))
+
+    pub holds-11 : wrong < 40 → held (refused 11 wrong) ≡ HOLDS file values ss p
+    holds-11 l =
+        ap (λ (j : ℕ). held (refused 11 j)) (wrong-is d′ values ps ss a n k wrong (h d′ c′))
+        ∙ sym (ap held (need-no (allRight (entriesRight d′ values ss)) 11 (firstWrong (entriesRight d′ values ss)) ends′ (wrong-found d′ values ps ss a n k wrong (h d′ c′) l))) ∙ answers′
 
     module _ (l : 40 ≤ wrong) where
-      then-11 : unless (leb p 1) (refuseHolds 13 0) (answerHolds d′ p (slotsOf d′ values ss)) ≡ HOLDS file values ss p
-      then-11 = sym (unless-yes (allRight (entriesRight d′ values ss)) _ _ (none-wrong d′ values ps ss a n k wrong (h d′ c′) l)) ∙ answers′
+      then-11 : held ends′ ≡ HOLDS file values ss p
+      then-11 = sym (ap held (need-yes (allRight (entriesRight d′ values ss)) 11 (firstWrong (entriesRight d′ values ss)) ends′ (none-wrong d′ values ps ss a n k wrong (h d′ c′) l))) ∙ answers′
 
-      pub holds-13 : 1 < p → refuseHolds 13 0 ≡ HOLDS file values ss p
-      holds-13 o = unless-no (leb p 1) _ _ (lt-leb p 1 o) ∙ then-11
+      pub holds-13 : lastProperty < p → held (refused 13 0) ≡ HOLDS file values ss p
+      holds-13 o = sym (ap held (need-no (leb p lastProperty) 13 0 _ (lt-leb p lastProperty o))) ∙ then-11
 
-      pub holds-done : p ≤ 1 → (nv nm : ℕ) → nv ≡ variableCount file → nm ≡ matrixCount file → (r : Bool) → ((d : Design) (w : Parts file d) → r ≡ property d p (take nv ps ++ take nm ss)) → _≡_ {A = Held} (record { refusal = refusedAt 0 0; holds = r }) (HOLDS file values ss p)
+      pub holds-done : p ≤ lastProperty → (nv nm : ℕ) → nv ≡ variableCount file → nm ≡ matrixCount file → (r : Bool) → ((d : Design) (w : Parts file d) → r ≡ holds d (propertyOf d p) (take nv ps ++ take nm ss)) → _≡_ {A = Held} (record { refusal = refusedAt 0 0; holds = r }) (HOLDS file values ss p)
       holds-done o nv nm e q r f =
-          ap (λ (y : Bool). record { refusal = refusedAt 0 0; holds = y }) (f d′ (whole file d′ c′ .parts)) ∙ ap (answerHolds d′ p) (slots-are file d′ c′ nv nm e q values ps ss _ a refl)
-          ∙ sym (unless-yes (leb p 1) _ _ (le-leb p 1 o)) ∙ then-11
+          ap (λ (y : Bool). held (answer y)) (f d′ (whole file d′ c′ .parts))
+          ∙ ap (λ (s : State). held (answer (holds d′ (propertyOf d′ p) s))) (slots-are file d′ c′ nv nm e q values ps ss _ a refl)
+          ∙ sym (ap held (need-yes (leb p lastProperty) 13 0 (answer (holds d′ (propertyOf d′ p) (slotsOf d′ values ss))) (le-leb p lastProperty o))) ∙ then-11

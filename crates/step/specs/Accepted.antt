@@ -3,6 +3,7 @@ use mathlib.Core.Bool.{Bool, true, false}
 use Prim.Native.Nat.{ℕ}
 use Rattle.design.specs.Tree.{IntExpr, BoolExpr, Stmt, Stmts}
 use Rattle.design.specs.State.{State, Layout}
+pub use Rattle.design.specs.State.{layoutOf}
 use Rattle.design.specs.Reading.{Read, got, bad}
 use Rattle.step.specs.Evaluation.{evalInt, evalBool}
 use Rattle.step.specs.OneStep.{execute, executeAll}
@@ -18,10 +19,6 @@ past bad = 0
 abbrev pub valueOf : {A B : Type 0} → (A → B) → B → Read A → B
 valueOf f z (got a n) = f a
 valueOf f z bad = z
-
--- the layout of a design with so many variables
-abbrev pub layoutOf : ℕ → Layout
-layoutOf n = record { statuses = n }
 
 abbrev pub intValue : Layout → State → Read IntExpr → ℕ
 intValue l s x = valueOf (evalInt l s) 0 x

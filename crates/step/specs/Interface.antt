@@ -4,10 +4,10 @@ use mathlib.Core.Bool.{Bool, true, false}
 use mathlib.Core.List.{List, [], _∷_, _++_, map}
 use Prim.Native.Nat.{ℕ, suc, _-_}
 use lib.IntN.{ℤ, pos}
-use lib.ListN.{length, take, drop, replicate}
+use lib.ListN.{length, take, replicate}
 use lib.Dec.{ltb, leb, eqb}
 use Rattle.design.specs.Tree.{Kind, boolean, integer, external, Variable, Design}
-use Rattle.design.specs.State.{State}
+use Rattle.design.specs.State.{State, layout, statusesIn}
 use Rattle.design.specs.Limits.{maxVariables, maxMatrices}
 use Rattle.step.specs.Pattern.{signed, wrap}
 
@@ -49,4 +49,12 @@ module _ (d : Design) where
   valuesOf s = take (length (d .variables)) (map signed s) ++ replicate (maxVariables - length (d .variables)) (pos 0)
 
   abbrev pub statusesOf : State → List ℕ
-  statusesOf s = drop (length (d .variables)) s ++ replicate (maxMatrices - length (d .statuses)) 0
+  statusesOf s = statusesIn (layout d) s ++ replicate (maxMatrices - length (d .statuses)) 0
+
+-- a state as the calls give it
+pub record Entries : Type 0 where
+  pub values : List ℤ
+  pub statuses : List ℕ
+
+abbrev pub entriesOf : Design → State → Entries
+entriesOf d s = record { values = valuesOf d s; statuses = statusesOf d s }

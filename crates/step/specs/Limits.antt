@@ -1,10 +1,10 @@
--- The limits of the step rule's calls. Those of the design file are in the file reader.
+-- The limits of the calls with a property and a bound. Those of the design file are in the file reader.
 use Prim.Native.Nat.{ℕ}
 
--- choices of a list
-abbrev pub maxChoices : ℕ
-maxChoices = 100
-
--- properties are 0 and 1
+-- "13 property over 1"
 abbrev pub lastProperty : ℕ
 lastProperty = 1
+
+-- "14 bound over 100", and of REPLAY "14 over 100 choices"
+abbrev pub maxBound : ℕ
+maxBound = 100

@@ -2,12 +2,13 @@
 use mathlib.Core.Bool.{Bool, true, not, _&&_, _||_, cond}
 use mathlib.Core.List.{List, [], _∷_}
 use mathlib.Core.Option.{Option, none, some}
-use Prim.Native.Nat.{ℕ, zero, suc}
+use Prim.Native.Nat.{ℕ}
 use lib.Dec.{leb, eqb}
 use lib.ListN.{length, getD, set, take, getElem?}
 use Rattle.design.specs.Tree.{BoolExpr, Stmt, Stmts, assign, assignB, ifElse, done, then, InvalidCell, Design, Mover, cell, raise, movers, truth, bit}
 use Rattle.design.specs.State.{State, Layout, layout, statusSlot, start}
 use Rattle.step.specs.Evaluation.{evalInt, evalBool}
+use Rattle.step.specs.Property.{Property, invariant, noInvalidCell, propertyOf}
 
 -- "its statements run in order, each reading what earlier ones left"
 unfoldable mutual
@@ -65,24 +66,24 @@ module _ (d : Design) where
   run s [] = s
   run s (c ∷ cs) = run (step s c) cs
 
-  -- Property 0 is the invariant, property 1 that at no invalid cell status and event hold together.
-  unfoldable pub property : ℕ → State → Bool
-  property zero s = evalBool (layout d) s (d .invariant)
-  property (suc p) s = noInvalid (layout d) s (d .invalid)
+  -- whether a property is true in a state
+  unfoldable pub holds : Property → State → Bool
+  holds (invariant e) s = evalBool (layout d) s e
+  holds noInvalidCell s = noInvalid (layout d) s (d .invalid)
 
   -- "It breaks the property at step i if the property is false after its first i choices; step 0 is the first state."
-  unfoldable pub breaksAt : ℕ → List ℕ → ℕ → Bool
-  breaksAt p cs i = leb i (length cs) && not (property p (run (start d) (take i cs)))
+  unfoldable pub breaksAt : Property → List ℕ → ℕ → Bool
+  breaksAt p cs i = leb i (length cs) && not (holds p (run (start d) (take i cs)))
 
   -- "A list of choices breaks a property if it is false in the first state or after any choice."
-  unfoldable pub breaksFrom : ℕ → State → List ℕ → Bool
-  breaksFrom p s [] = not (property p s)
-  breaksFrom p s (c ∷ cs) = not (property p s) || breaksFrom p (step s c) cs
+  unfoldable pub breaksFrom : Property → State → List ℕ → Bool
+  breaksFrom p s [] = not (holds p s)
+  breaksFrom p s (c ∷ cs) = not (holds p s) || breaksFrom p (step s c) cs
 
-  unfoldable pub breaks : ℕ → List ℕ → Bool
+  unfoldable pub breaks : Property → List ℕ → Bool
   breaks p cs = breaksFrom p (start d) cs
 
 -- Not part of the step rule: to unfold this is to unfold all of it, for facts about given designs.
 unfoldable pub stepping : ℕ
-unfolding evalInt evalBool execute executeAll enabled effect move step idle run property breaksAt breaksFrom breaks movers layout start
+unfolding evalInt evalBool execute executeAll enabled effect move step idle run propertyOf holds breaksAt breaksFrom breaks movers layout start
 stepping = 0

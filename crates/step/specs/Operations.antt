@@ -1,5 +1,5 @@
--- START, STEP, HOLDS and REPLAY: the whole answer of each call (document 01, "Turned-back calls").
--- "Every call on a design first gives CHECK's refusal"; "every other field of a refused answer is 0 or false".
+-- START, STEP, HOLDS and REPLAY: the whole answer of each call (document 01, "Turned-back calls"), and the struct that the code answers.
+-- "every other field of a refused answer is 0 or false".
 use mathlib.Core.Bool.{Bool, true, false, cond}
 use mathlib.Core.List.{List, [], _∷_, map}
 use mathlib.Core.Option.{Option, none, some}
@@ -10,11 +10,13 @@ use lib.Dec.{ltb, leb, eqb}
 use Rattle.design.specs.Tree.{Design, movers}
 use Rattle.design.specs.State.{State, start}
 use Rattle.design.specs.Limits.{maxVariables, maxMatrices}
-use Rattle.design.specs.Check.{Checked, refused, accepted, check}
+use Rattle.design.specs.Answer.{Answer, refused, answer, need, onDesign}
 use Rattle.design.specs.declared.Refusal.{Refusal}
-use Rattle.step.specs.Limits.{maxChoices, lastProperty}
-use Rattle.step.specs.OneStep.{step, idle, property}
-use Rattle.step.specs.Interface.{firstWrong, entriesRight, slotsOf, valuesOf, statusesOf}
+use Rattle.step.specs.Limits.{lastProperty}
+use Rattle.step.specs.Property.{Property, propertyOf}
+use Rattle.step.specs.OneStep.{step, idle, holds}
+use Rattle.step.specs.Gate.{gate}
+use Rattle.step.specs.Interface.{firstWrong, entriesRight, slotsOf, Entries, entriesOf}
 use Rattle.step.specs.declared.Started.{Started}
 use Rattle.step.specs.declared.Stepped.{Stepped}
 use Rattle.step.specs.declared.Held.{Held}
@@ -24,87 +26,75 @@ use Rattle.step.specs.declared.Replayed.{Replayed}
 abbrev pub refusedAt : ℕ → ℕ → Refusal
 refusedAt number place = record { number = number; place = place }
 
--- refused unless the test holds
-abbrev pub unless : {A : Type 0} → Bool → A → A → A
-unless true refusal answer = answer
-unless false refusal answer = refusal
-
 -- every test of a list holds
 abbrev pub allRight : List Bool → Bool
 allRight ts = eqb (firstWrong ts) (length ts)
 
 -- START "answers the first state".
-abbrev pub refuseStart : ℕ → ℕ → Started
-refuseStart number place = record { refusal = refusedAt number place; values = replicate maxVariables (pos 0); statuses = replicate maxMatrices 0 }
+abbrev pub startAnswer : List ℕ → Answer Entries
+startAnswer file = onDesign file λ d. answer (entriesOf d (start d))
 
-abbrev pub answerStart : Design → State → Started
-answerStart d s = record { refusal = refusedAt 0 0; values = valuesOf d s; statuses = statusesOf d s }
-
-abbrev pub started : Checked → Started
-started (refused number place) = refuseStart number place
-started (accepted d) = answerStart d (start d)
+abbrev pub started : Answer Entries → Started
+started (refused number place) = record { refusal = refusedAt number place; values = replicate maxVariables (pos 0); statuses = replicate maxMatrices 0 }
+started (answer e) = record { refusal = refusedAt 0 0; values = e .values; statuses = e .statuses }
 
 unfoldable pub START : List ℕ → Started
-START file = started (check file)
+START file = started (startAnswer file)
 
--- STEP: 11; "12 choice not below w (place 0)". "It answers the next state and whether the choice was idle."
-abbrev pub refuseStep : ℕ → ℕ → Stepped
-refuseStep number place = record { refusal = refusedAt number place; values = replicate maxVariables (pos 0); statuses = replicate maxMatrices 0; idle = false }
+-- STEP "answers the next state and whether the choice was idle".
+abbrev pub next : Design → State → ℕ → Entries × Bool
+next d s choice = (entriesOf d (step d s choice), idle d s choice)
 
-abbrev pub answerStep : Design → State → ℕ → Stepped
-answerStep d s choice = record { refusal = refusedAt 0 0; values = valuesOf d (step d s choice); statuses = statusesOf d (step d s choice); idle = idle d s choice }
+-- STEP: 11; "12 choice not below w (place 0)".
+abbrev pub stepAnswer : List ℕ → List ℤ → List ℕ → ℕ → Answer (Entries × Bool)
+stepAnswer file values statuses choice =
+    onDesign file λ d.
+    need (allRight (entriesRight d values statuses)) 11 (firstWrong (entriesRight d values statuses))
+    (need (ltb choice (length (movers d))) 12 0
+    (answer (next d (slotsOf d values statuses) choice)))
 
-abbrev pub stepped : Checked → List ℤ → List ℕ → ℕ → Stepped
-stepped (refused number place) values statuses choice = refuseStep number place
-stepped (accepted d) values statuses choice =
-    unless (allRight (entriesRight d values statuses)) (refuseStep 11 (firstWrong (entriesRight d values statuses)))
-    (unless (ltb choice (length (movers d))) (refuseStep 12 0)
-    (answerStep d (slotsOf d values statuses) choice))
+abbrev pub stepped : Answer (Entries × Bool) → Stepped
+stepped (refused number place) = record { refusal = refusedAt number place; values = replicate maxVariables (pos 0); statuses = replicate maxMatrices 0; idle = false }
+stepped (answer (e, i)) = record { refusal = refusedAt 0 0; values = e .values; statuses = e .statuses; idle = i }
 
 unfoldable pub STEP : List ℕ → List ℤ → List ℕ → ℕ → Stepped
-STEP file values statuses choice = stepped (check file) values statuses choice
+STEP file values statuses choice = stepped (stepAnswer file values statuses choice)
 
 -- HOLDS "(a state and a property: 11; 13) answers whether the property is true there".
-abbrev pub refuseHolds : ℕ → ℕ → Held
-refuseHolds number place = record { refusal = refusedAt number place; holds = false }
+abbrev pub holdsAnswer : List ℕ → List ℤ → List ℕ → ℕ → Answer Bool
+holdsAnswer file values statuses p =
+    onDesign file λ d.
+    need (allRight (entriesRight d values statuses)) 11 (firstWrong (entriesRight d values statuses))
+    (need (leb p lastProperty) 13 0
+    (answer (holds d (propertyOf d p) (slotsOf d values statuses))))
 
-abbrev pub answerHolds : Design → ℕ → State → Held
-answerHolds d p s = record { refusal = refusedAt 0 0; holds = property d p s }
-
-abbrev pub held : Checked → List ℤ → List ℕ → ℕ → Held
-held (refused number place) values statuses p = refuseHolds number place
-held (accepted d) values statuses p =
-    unless (allRight (entriesRight d values statuses)) (refuseHolds 11 (firstWrong (entriesRight d values statuses)))
-    (unless (leb p lastProperty) (refuseHolds 13 0)
-    (answerHolds d p (slotsOf d values statuses)))
+abbrev pub held : Answer Bool → Held
+held (refused number place) = record { refusal = refusedAt number place; holds = false }
+held (answer t) = record { refusal = refusedAt 0 0; holds = t }
 
 unfoldable pub HOLDS : List ℕ → List ℤ → List ℕ → ℕ → Held
-HOLDS file values statuses p = held (check file) values statuses p
+HOLDS file values statuses p = held (holdsAnswer file values statuses p)
 
 -- the first step, from step i on, at which the property is false
-module _ (d : Design) (p : ℕ) where
+module _ (d : Design) (p : Property) where
   unfoldable pub firstBreak : State → List ℕ → ℕ → Option ℕ
-  firstBreak s [] i = cond (property d p s) none (some i)
-  firstBreak s (c ∷ cs) i = cond (property d p s) (firstBreak (step d s c) cs (suc i)) (some i)
-
--- REPLAY: "13 property over 1; 14 over 100 choices; 12 (place: first such). It answers the first breaking step, or none."
-abbrev pub refuseReplay : ℕ → ℕ → Replayed
-refuseReplay number place = record { refusal = refusedAt number place; broken = false; step = 0 }
-
-abbrev pub breaksAnswer : Option ℕ → Replayed
-breaksAnswer none = record { refusal = refusedAt 0 0; broken = false; step = 0 }
-breaksAnswer (some i) = record { refusal = refusedAt 0 0; broken = true; step = i }
+  firstBreak s [] i = cond (holds d p s) none (some i)
+  firstBreak s (c ∷ cs) i = cond (holds d p s) (firstBreak (step d s c) cs (suc i)) (some i)
 
 abbrev pub choicesRight : Design → List ℕ → List Bool
 choicesRight d cs = map (λ (c : ℕ). ltb c (length (movers d))) cs
 
-abbrev pub replayed : Checked → ℕ → List ℕ → Replayed
-replayed (refused number place) p cs = refuseReplay number place
-replayed (accepted d) p cs =
-    unless (leb p lastProperty) (refuseReplay 13 0)
-    (unless (leb (length cs) maxChoices) (refuseReplay 14 0)
-    (unless (allRight (choicesRight d cs)) (refuseReplay 12 (firstWrong (choicesRight d cs)))
-    (breaksAnswer (firstBreak d p (start d) cs 0))))
+-- REPLAY: "13 property over 1; 14 over 100 choices; 12 (place: first such). It answers the first breaking step, or none."
+abbrev pub replayAnswer : List ℕ → ℕ → List ℕ → Answer (Option ℕ)
+replayAnswer file p cs =
+    gate file p (length cs) λ d q.
+    need (allRight (choicesRight d cs)) 12 (firstWrong (choicesRight d cs))
+    (answer (firstBreak d q (start d) cs 0))
+
+abbrev pub replayed : Answer (Option ℕ) → Replayed
+replayed (refused number place) = record { refusal = refusedAt number place; broken = false; step = 0 }
+replayed (answer none) = record { refusal = refusedAt 0 0; broken = false; step = 0 }
+replayed (answer (some i)) = record { refusal = refusedAt 0 0; broken = true; step = i }
 
 unfoldable pub REPLAY : List ℕ → ℕ → List ℕ → Replayed
-REPLAY file p cs = replayed (check file) p cs
+REPLAY file p cs = replayed (replayAnswer file p cs)

@@ -3,13 +3,17 @@ ghost use mathlib.Core.Path.{_≡_};
 ghost use mathlib.Core.List.{_++_};
 ghost use Prim.Native.Nat.{_+_, _≤_, _<_};
 ghost use lib.ListN.{length, take, replicate};
+ghost use Rattle.design.specs.Limits.{maxVariables, maxMatrices};
 ghost use Rattle.design.specs.Tree.{Design};
-ghost use Rattle.design.specs.Check.{check, accepted, variableCount, matrixCount};
-ghost use Rattle.design.specs.Places.{Accepted, CellsIndexed};
+ghost use Rattle.design.specs.State.{slotCount};
+ghost use Rattle.design.specs.Check.{check, accepted};
+ghost use Rattle.design.specs.Answer.{refused, answer};
+ghost use Rattle.design.specs.Places.{Accepted, Shaped, MoversIndexed};
 ghost use Rattle.design.specs.Sections.{Parts};
-ghost use Rattle.step.specs.OneStep.{property as propertyOf};
-ghost use Rattle.step.specs.Operations.{refuseStart, START, refuseStep, answerStep, STEP, refuseHolds, HOLDS};
-ghost use Rattle.step.specs.Ready.{Ready, externalsFrom};
+ghost use Rattle.step.specs.Property.{propertyOf};
+ghost use Rattle.step.specs.OneStep.{holds as holdsIn};
+ghost use Rattle.step.specs.Operations.{started, START, next, stepped, STEP, held, HOLDS};
+ghost use Rattle.step.specs.Ready.{Ready};
 use super::Held;
 use super::Started;
 use super::Stepped;
@@ -19,40 +23,44 @@ use super::interface::give_values;
 use super::interface::patterns;
 use super::interface::wrong_entry;
 use super::limits::LAST_PROPERTY;
-use super::mover::external_count;
 use super::mover::move_chosen;
 use super::property::property_true;
 use super::replaying::load_start;
 use design::Refusal;
-use design::index::MATRICES;
-use design::index::VARIABLES;
 use design::index::index_cells;
 use design::index::index_events;
-use design::index::trailer_word;
+use design::index::shape;
+use design::limits::EVENT_PLACES;
+use design::limits::MAX_MATRICES;
+use design::limits::MAX_MOVERS;
+use design::limits::MAX_SLOTS;
+use design::limits::MAX_VARIABLES;
+use design::shape::Shape;
+use design::shape::slot_count;
 
 pub fn refuse_start(number: u8, place: usize) -> Started
-    ensures { λ r. ⌜ r ≡ refuseStart number place ⌝ }
+    ensures { λ r. ⌜ r ≡ started (refused number place) ⌝ }
 {
     Started {
         refusal: Refusal { number, place },
-        values: [0i16; 32],
-        statuses: [0u16; 8],
+        values: [0i16; MAX_VARIABLES],
+        statuses: [0u16; MAX_MATRICES],
     }
 }
 
 pub fn refuse_step(number: u8, place: usize) -> Stepped
-    ensures { λ r. ⌜ r ≡ refuseStep number place ⌝ }
+    ensures { λ r. ⌜ r ≡ stepped (refused number place) ⌝ }
 {
     Stepped {
         refusal: Refusal { number, place },
-        values: [0i16; 32],
-        statuses: [0u16; 8],
+        values: [0i16; MAX_VARIABLES],
+        statuses: [0u16; MAX_MATRICES],
         idle: false,
     }
 }
 
 pub fn refuse_holds(number: u8, place: usize) -> Held
-    ensures { λ r. ⌜ r ≡ refuseHolds number place ⌝ }
+    ensures { λ r. ⌜ r ≡ held (refused number place) ⌝ }
 {
     Held {
         refusal: Refusal { number, place },
@@ -61,13 +69,13 @@ pub fn refuse_holds(number: u8, place: usize) -> Held
 }
 
 // The first state, by slots that are 0.
-pub fn start_slots(file: &[u8], nv: usize, nm: usize, slots: &mut [u16]) -> Started
-    requires { ⌜ Accepted (now file) × (nv ≡ variableCount (now file)) × (nm ≡ matrixCount (now file)) × (now slots ≡ replicate (nv + nm) 0) ⌝ }
+pub fn start_slots(file: &[u8], shape: Shape, slots: &mut [u16]) -> Started
+    requires { ⌜ Accepted (now file) × Shaped (now file) shape × (now slots ≡ replicate (slotCount shape) 0) ⌝ }
     ensures { λ r. ⌜ r ≡ START (now (file .entry)) ⌝ }
 {
-    load_start(file, nv, nm, slots);
-    let values = give_values(nv, slots);
-    let statuses = give_statuses(nv, slots);
+    load_start(file, shape, slots);
+    let values = give_values(shape.variables, slots);
+    let statuses = give_statuses(shape.variables, shape.matrices, slots);
     Started {
         refusal: Refusal {
             number: 0,
@@ -82,42 +90,44 @@ pub fn start_accepted(file: &[u8]) -> Started
     requires { ⌜ Accepted (now file) ⌝ }
     ensures { λ r. ⌜ r ≡ START (now (file .entry)) ⌝ }
 {
-    let nv = trailer_word(file, VARIABLES);
-    let nm = trailer_word(file, MATRICES);
-    let mut all = [0u16; 40];
-    let n = nv + nm;
-    start_slots(file, nv, nm, &mut all[..n])
+    let shape = shape(file, 0);
+    let mut all = [0u16; MAX_SLOTS];
+    let n = slot_count(shape);
+    start_slots(file, shape, &mut all[..n])
 }
 
 // The state that the entries give, into slots.
-pub fn load_entries(nv: usize, nm: usize, ps: [u16; 32], ss: [u16; 8], slots: &mut [u16])
-    requires { ⌜ (nv ≤ 32) × (nm ≤ 8) × (length (now slots) ≡ nv + nm) ⌝ }
-    ensures { λ r. ⌜ now (slots .exit) ≡ take nv ps ++ take nm ss ⌝ }
+pub fn load_entries(
+    shape: Shape,
+    ps: [u16; MAX_VARIABLES],
+    ss: [u16; MAX_MATRICES],
+    slots: &mut [u16],
+)
+    requires { ⌜ (shape .variables ≤ maxVariables) × (shape .matrices ≤ maxMatrices) × (length (now slots) ≡ slotCount shape) ⌝ }
+    ensures { λ r. ⌜ now (slots .exit) ≡ take (shape .variables) ps ++ take (shape .matrices) ss ⌝ }
 {
-    copy_slots(&ps, nv, 0, slots);
-    copy_slots(&ss, nm, nv, slots);
+    copy_slots(&ps, shape.variables, 0, slots);
+    copy_slots(&ss, shape.matrices, shape.variables, slots);
 }
 
 // The step out of the state that the entries give, in `slots`.
 pub fn step_slots(
     file: &[u8],
-    events: &[u16; 128],
-    cells: &[u16; 64],
-    normals: usize,
-    nv: usize,
-    nm: usize,
+    events: &[u16; EVENT_PLACES],
+    cells: &[u16; MAX_MOVERS],
+    shape: Shape,
     choice: usize,
-    ps: [u16; 32],
-    ss: [u16; 8],
+    ps: [u16; MAX_VARIABLES],
+    ss: [u16; MAX_MATRICES],
     slots: &mut [u16],
 ) -> Stepped
-    requires { ⌜ Ready (now file) (now events) nv nm (now slots) × CellsIndexed (now file) (now cells) normals × (choice < normals + length (externalsFrom (now file) 0 nv)) ⌝ }
-    ensures { λ r. ⌜ ((d : Design) → check (now (file .entry)) ≡ accepted d → r ≡ answerStep d (take nv ps ++ take nm ss) choice) ⌝ }
+    requires { ⌜ Ready (now file) (now events) shape (now slots) × MoversIndexed (now file) (now cells) shape × (choice < shape .normals + shape .externals) ⌝ }
+    ensures { λ r. ⌜ ((d : Design) → check (now (file .entry)) ≡ accepted d → r ≡ stepped (answer (next d (take (shape .variables) ps ++ take (shape .matrices) ss) choice))) ⌝ }
 {
-    load_entries(nv, nm, ps, ss, slots);
-    let idle = move_chosen(file, events, cells, normals, nv, nm, choice, slots);
-    let values = give_values(nv, slots);
-    let statuses = give_statuses(nv, slots);
+    load_entries(shape, ps, ss, slots);
+    let idle = move_chosen(file, events, cells, shape, choice, slots);
+    let values = give_values(shape.variables, slots);
+    let statuses = give_statuses(shape.variables, shape.matrices, slots);
     Stepped {
         refusal: Refusal {
             number: 0,
@@ -129,93 +139,88 @@ pub fn step_slots(
     }
 }
 
-pub fn step_accepted(file: &[u8], values: [i16; 32], statuses: [u16; 8], choice: u64) -> Stepped
+pub fn step_accepted(
+    file: &[u8],
+    values: [i16; MAX_VARIABLES],
+    statuses: [u16; MAX_MATRICES],
+    choice: u64,
+) -> Stepped
     requires { ⌜ Accepted (now file) ⌝ }
     ensures { λ r. ⌜ r ≡ STEP (now (file .entry)) values statuses choice ⌝ }
 {
-    let nv = trailer_word(file, VARIABLES);
-    let nm = trailer_word(file, MATRICES);
+    let mut cells = [0u16; MAX_MOVERS];
+    let normals = index_cells(file, &mut cells);
+    let shape = shape(file, normals);
     let ps = patterns(values);
-    let wrong = wrong_entry(file, nv, nm, ps, statuses);
-    if wrong < 40 {
+    let wrong = wrong_entry(file, shape, ps, statuses);
+    if wrong < MAX_SLOTS {
         return refuse_step(11, wrong);
     }
-    let mut cells = [0u16; 64];
-    let normals = index_cells(file, &mut cells);
     let c = choice as usize;
-    if normals + external_count(file, nv) <= c {
+    if shape.normals + shape.externals <= c {
         return refuse_step(12, 0);
     }
-    let mut events = [0u16; 128];
+    let mut events = [0u16; EVENT_PLACES];
     index_events(file, &mut events);
-    let mut all = [0u16; 40];
-    let n = nv + nm;
-    step_slots(
-        file,
-        &events,
-        &cells,
-        normals,
-        nv,
-        nm,
-        c,
-        ps,
-        statuses,
-        &mut all[..n],
-    )
+    let mut all = [0u16; MAX_SLOTS];
+    let n = slot_count(shape);
+    step_slots(file, &events, &cells, shape, c, ps, statuses, &mut all[..n])
 }
 
 // Whether the property is true in the state that the entries give, in `slots`.
 pub fn holds_slots(
     file: &[u8],
-    events: &[u16; 128],
-    nv: usize,
-    nm: usize,
-    property: u8,
-    ps: [u16; 32],
-    ss: [u16; 8],
+    events: &[u16; EVENT_PLACES],
+    shape: Shape,
+    property: u64,
+    ps: [u16; MAX_VARIABLES],
+    ss: [u16; MAX_MATRICES],
     slots: &mut [u16],
 ) -> bool
-    requires { ⌜ Ready (now file) (now events) nv nm (now slots) ⌝ }
-    ensures { λ r. ⌜ ((d : Design) (w : Parts (now (file .entry)) d) → r ≡ propertyOf d property (take nv ps ++ take nm ss)) ⌝ }
+    requires { ⌜ Ready (now file) (now events) shape (now slots) ⌝ }
+    ensures { λ r. ⌜ ((d : Design) (w : Parts (now (file .entry)) d) → r ≡ holdsIn d (propertyOf d property) (take (shape .variables) ps ++ take (shape .matrices) ss)) ⌝ }
 {
-    load_entries(nv, nm, ps, ss, slots);
-    property_true(file, events, nv, nm, property, slots)
+    load_entries(shape, ps, ss, slots);
+    property_true(file, events, shape, property, slots)
 }
 
 // Whether the property is true in the state that right entries give.
 pub fn holds_right(
     file: &[u8],
-    nv: usize,
-    nm: usize,
-    property: u8,
-    ps: [u16; 32],
-    ss: [u16; 8],
+    shape: Shape,
+    property: u64,
+    ps: [u16; MAX_VARIABLES],
+    ss: [u16; MAX_MATRICES],
 ) -> bool
-    requires { ⌜ Accepted (now file) × (nv ≡ variableCount (now file)) × (nm ≡ matrixCount (now file)) ⌝ }
-    ensures { λ r. ⌜ ((d : Design) (w : Parts (now (file .entry)) d) → r ≡ propertyOf d property (take nv ps ++ take nm ss)) ⌝ }
+    requires { ⌜ Accepted (now file) × Shaped (now file) shape ⌝ }
+    ensures { λ r. ⌜ ((d : Design) (w : Parts (now (file .entry)) d) → r ≡ holdsIn d (propertyOf d property) (take (shape .variables) ps ++ take (shape .matrices) ss)) ⌝ }
 {
-    let mut events = [0u16; 128];
+    let mut events = [0u16; EVENT_PLACES];
     index_events(file, &mut events);
-    let mut all = [0u16; 40];
-    let n = nv + nm;
-    holds_slots(file, &events, nv, nm, property, ps, ss, &mut all[..n])
+    let mut all = [0u16; MAX_SLOTS];
+    let n = slot_count(shape);
+    holds_slots(file, &events, shape, property, ps, ss, &mut all[..n])
 }
 
-pub fn holds_accepted(file: &[u8], values: [i16; 32], statuses: [u16; 8], property: u8) -> Held
+pub fn holds_accepted(
+    file: &[u8],
+    values: [i16; MAX_VARIABLES],
+    statuses: [u16; MAX_MATRICES],
+    property: u64,
+) -> Held
     requires { ⌜ Accepted (now file) ⌝ }
     ensures { λ r. ⌜ r ≡ HOLDS (now (file .entry)) values statuses property ⌝ }
 {
-    let nv = trailer_word(file, VARIABLES);
-    let nm = trailer_word(file, MATRICES);
+    let shape = shape(file, 0);
     let ps = patterns(values);
-    let wrong = wrong_entry(file, nv, nm, ps, statuses);
-    if wrong < 40 {
+    let wrong = wrong_entry(file, shape, ps, statuses);
+    if wrong < MAX_SLOTS {
         return refuse_holds(11, wrong);
     }
     if LAST_PROPERTY < property {
         return refuse_holds(13, 0);
     }
-    let holds = holds_right(file, nv, nm, property, ps, statuses);
+    let holds = holds_right(file, shape, property, ps, statuses);
     Held {
         refusal: Refusal {
             number: 0,

@@ -1,6 +1,6 @@
 // The values of expressions in a state, over the bytes: a decision over the operator byte, with ranges for operators of one shape.
 // In every function: `text` holds the expression, `file` the variables' kinds; what is read starts at `at` and does not pass `end`;
-// `nv` and `nm` are the numbers of variables and matrices; `slots` has the state.
+// `shape` has the numbers of variables and matrices; `slots` has the state.
 ghost use mathlib.Core.Path.{_≡_};
 ghost use mathlib.Core.Bool.{true, cond, _&&_, _||_};
 ghost use Prim.Native.Nat.{_+_, _≤_};
@@ -8,13 +8,15 @@ ghost use lib.ListN.{length};
 ghost use lib.Dec.{eqb};
 ghost use Rattle.design.specs.Expression.{intExpr, boolExpr};
 ghost use Rattle.design.specs.Check.{namesOf};
+ghost use Rattle.design.specs.State.{slotCount, layoutOf};
 ghost use Rattle.step.specs.Pattern.{plus, minus, below};
-ghost use Rattle.step.specs.Accepted.{isRead, past, layoutOf, intValue, boolValue};
+ghost use Rattle.step.specs.Accepted.{isRead, past, intValue, boolValue};
 use super::number::below16;
 use super::number::minus16;
 use super::number::plus16;
 use design::bytes::wide;
 use design::bytes::word;
+use design::shape::Shape;
 
 // A value, and the position past its expression.
 pub struct IntAt {
@@ -74,13 +76,12 @@ pub fn eval_int(
     file: &[u8],
     at: usize,
     end: usize,
-    nv: usize,
-    nm: usize,
+    shape: Shape,
     depth: usize,
     slots: &[u16],
 ) -> IntAt
-    requires { ⌜ (isRead (intExpr (now text) (namesOf (now file) nv nm) end depth at) ≡ true) × (end ≤ length (now text)) × (nv + nm ≤ length (now slots)) ⌝ }
-    ensures { λ r. ⌜ (r .value ≡ intValue (layoutOf nv) (now (slots .entry)) (intExpr (now (text .entry)) (namesOf (now (file .entry)) nv nm) end depth at)) × (r .next ≡ past (intExpr (now (text .entry)) (namesOf (now (file .entry)) nv nm) end depth at)) ⌝ }
+    requires { ⌜ (isRead (intExpr (now text) (namesOf (now file) shape) end depth at) ≡ true) × (end ≤ length (now text)) × (slotCount shape ≤ length (now slots)) ⌝ }
+    ensures { λ r. ⌜ (r .value ≡ intValue (layoutOf shape) (now (slots .entry)) (intExpr (now (text .entry)) (namesOf (now (file .entry)) shape) end depth at)) × (r .next ≡ past (intExpr (now (text .entry)) (namesOf (now (file .entry)) shape) end depth at)) ⌝ }
 {
     let op = text[at];
     let p = at + 1;
@@ -92,11 +93,11 @@ pub fn eval_int(
         }
         0x03 => {
             let m = wide(text[p]);
-            int_at(slots[nv + m], p + 1)
+            int_at(slots[shape.variables + m], p + 1)
         }
         0x04..=0x05 => {
-            let a = eval_int(text, file, p, end, nv, nm, depth - 1, slots);
-            let b = eval_int(text, file, a.next, end, nv, nm, depth - 1, slots);
+            let a = eval_int(text, file, p, end, shape, depth - 1, slots);
+            let b = eval_int(text, file, a.next, end, shape, depth - 1, slots);
             int_at(arithmetic(op, a.value, b.value), b.next)
         }
         _ => int_at(0, at),
@@ -109,13 +110,12 @@ pub fn eval_bool(
     file: &[u8],
     at: usize,
     end: usize,
-    nv: usize,
-    nm: usize,
+    shape: Shape,
     depth: usize,
     slots: &[u16],
 ) -> BoolAt
-    requires { ⌜ (isRead (boolExpr (now text) (namesOf (now file) nv nm) end depth at) ≡ true) × (end ≤ length (now text)) × (nv + nm ≤ length (now slots)) ⌝ }
-    ensures { λ r. ⌜ (r .value ≡ boolValue (layoutOf nv) (now (slots .entry)) (boolExpr (now (text .entry)) (namesOf (now (file .entry)) nv nm) end depth at)) × (r .next ≡ past (boolExpr (now (text .entry)) (namesOf (now (file .entry)) nv nm) end depth at)) ⌝ }
+    requires { ⌜ (isRead (boolExpr (now text) (namesOf (now file) shape) end depth at) ≡ true) × (end ≤ length (now text)) × (slotCount shape ≤ length (now slots)) ⌝ }
+    ensures { λ r. ⌜ (r .value ≡ boolValue (layoutOf shape) (now (slots .entry)) (boolExpr (now (text .entry)) (namesOf (now (file .entry)) shape) end depth at)) × (r .next ≡ past (boolExpr (now (text .entry)) (namesOf (now (file .entry)) shape) end depth at)) ⌝ }
 {
     let op = text[at];
     let p = at + 1;
@@ -126,17 +126,17 @@ pub fn eval_bool(
             bool_at(0 < slots[v], p + 1)
         }
         0x12 => {
-            let a = eval_bool(text, file, p, end, nv, nm, depth - 1, slots);
+            let a = eval_bool(text, file, p, end, shape, depth - 1, slots);
             bool_at(!a.value, a.next)
         }
         0x13..=0x14 => {
-            let a = eval_bool(text, file, p, end, nv, nm, depth - 1, slots);
-            let b = eval_bool(text, file, a.next, end, nv, nm, depth - 1, slots);
+            let a = eval_bool(text, file, p, end, shape, depth - 1, slots);
+            let b = eval_bool(text, file, a.next, end, shape, depth - 1, slots);
             bool_at(logic(op, a.value, b.value), b.next)
         }
         0x15..=0x16 => {
-            let a = eval_int(text, file, p, end, nv, nm, depth - 1, slots);
-            let b = eval_int(text, file, a.next, end, nv, nm, depth - 1, slots);
+            let a = eval_int(text, file, p, end, shape, depth - 1, slots);
+            let b = eval_int(text, file, a.next, end, shape, depth - 1, slots);
             bool_at(compare(op, a.value, b.value), b.next)
         }
         _ => bool_at(false, at),

@@ -6,14 +6,16 @@ ghost use Prim.Native.Nat.{_+_, _*_, _≤_};
 ghost use lib.ListN.{length};
 ghost use Rattle.design.specs.Action.{assignment, statement, list};
 ghost use Rattle.design.specs.Check.{namesOf};
+ghost use Rattle.design.specs.State.{slotCount, layoutOf};
 ghost use Rattle.design.specs.Tree.{bit};
-ghost use Rattle.step.specs.Accepted.{isRead, past, layoutOf, afterStmt, afterList};
+ghost use Rattle.step.specs.Accepted.{isRead, past, afterStmt, afterList};
 use super::evaluate::eval_bool;
 use super::evaluate::eval_int;
 use design::action::check_list;
 use design::bytes::wide;
 use design::expression::Found;
 use design::limits::MAX_DEPTH;
+use design::shape::Shape;
 
 pub fn bit_of(b: bool) -> u16
     ensures { λ r. ⌜ r ≡ bit b ⌝ }
@@ -27,14 +29,13 @@ pub fn skip_list(
     file: &[u8],
     at: usize,
     end: usize,
-    nv: usize,
-    nm: usize,
+    shape: Shape,
     nest: usize,
 ) -> usize
-    requires { ⌜ (end ≤ length (now text)) × (3 * nv ≤ length (now file)) ⌝ }
-    ensures { λ r. ⌜ r ≡ past (list (now (text .entry)) (namesOf (now (file .entry)) nv nm) end nest at) ⌝ }
+    requires { ⌜ (end ≤ length (now text)) × (3 * shape .variables ≤ length (now file)) ⌝ }
+    ensures { λ r. ⌜ r ≡ past (list (now (text .entry)) (namesOf (now (file .entry)) shape) end nest at) ⌝ }
 {
-    match check_list(text, file, at, end, nv, nm, nest) {
+    match check_list(text, file, at, end, shape, nest) {
         Found::At(n) => n,
         Found::Bad => 0,
     }
@@ -46,21 +47,20 @@ pub fn run_assign(
     file: &[u8],
     at: usize,
     end: usize,
-    nv: usize,
-    nm: usize,
+    shape: Shape,
     slots: &mut [u16],
 ) -> usize
-    requires { ⌜ (isRead (assignment (now text) (namesOf (now file) nv nm) end at) ≡ true) × (end ≤ length (now text)) × (3 * nv ≤ length (now file)) × (nv + nm ≤ length (now slots)) ⌝ }
-    ensures { λ r. ⌜ (now (slots .exit) ≡ afterStmt (layoutOf nv) (assignment (now (text .entry)) (namesOf (now (file .entry)) nv nm) end at) (now (slots .entry))) × (r ≡ past (assignment (now (text .entry)) (namesOf (now (file .entry)) nv nm) end at)) ⌝ }
+    requires { ⌜ (isRead (assignment (now text) (namesOf (now file) shape) end at) ≡ true) × (end ≤ length (now text)) × (3 * shape .variables ≤ length (now file)) × (slotCount shape ≤ length (now slots)) ⌝ }
+    ensures { λ r. ⌜ (now (slots .exit) ≡ afterStmt (layoutOf shape) (assignment (now (text .entry)) (namesOf (now (file .entry)) shape) end at) (now (slots .entry))) × (r ≡ past (assignment (now (text .entry)) (namesOf (now (file .entry)) shape) end at)) ⌝ }
 {
     let v = wide(text[at]);
     let k = file[3 * v];
     if k == 1 {
-        let x = eval_int(text, file, at + 1, end, nv, nm, MAX_DEPTH, slots);
+        let x = eval_int(text, file, at + 1, end, shape, MAX_DEPTH, slots);
         slots[v] = x.value;
         x.next
     } else {
-        let x = eval_bool(text, file, at + 1, end, nv, nm, MAX_DEPTH, slots);
+        let x = eval_bool(text, file, at + 1, end, shape, MAX_DEPTH, slots);
         slots[v] = bit_of(x.value);
         x.next
     }
@@ -72,27 +72,26 @@ pub fn run_stmt(
     file: &[u8],
     at: usize,
     end: usize,
-    nv: usize,
-    nm: usize,
+    shape: Shape,
     nest: usize,
     slots: &mut [u16],
 ) -> usize
-    requires { ⌜ (isRead (statement (now text) (namesOf (now file) nv nm) end nest at) ≡ true) × (end ≤ length (now text)) × (3 * nv ≤ length (now file)) × (nv + nm ≤ length (now slots)) ⌝ }
-    ensures { λ r. ⌜ (now (slots .exit) ≡ afterStmt (layoutOf nv) (statement (now (text .entry)) (namesOf (now (file .entry)) nv nm) end nest at) (now (slots .entry))) × (r ≡ past (statement (now (text .entry)) (namesOf (now (file .entry)) nv nm) end nest at)) ⌝ }
+    requires { ⌜ (isRead (statement (now text) (namesOf (now file) shape) end nest at) ≡ true) × (end ≤ length (now text)) × (3 * shape .variables ≤ length (now file)) × (slotCount shape ≤ length (now slots)) ⌝ }
+    ensures { λ r. ⌜ (now (slots .exit) ≡ afterStmt (layoutOf shape) (statement (now (text .entry)) (namesOf (now (file .entry)) shape) end nest at) (now (slots .entry))) × (r ≡ past (statement (now (text .entry)) (namesOf (now (file .entry)) shape) end nest at)) ⌝ }
 {
     let op = text[at];
     match op {
         0x20..=0x21 => {
             if op == 0x20 {
-                return run_assign(text, file, at + 1, end, nv, nm, slots);
+                return run_assign(text, file, at + 1, end, shape, slots);
             }
-            let c = eval_bool(text, file, at + 1, end, nv, nm, MAX_DEPTH, slots);
+            let c = eval_bool(text, file, at + 1, end, shape, MAX_DEPTH, slots);
             if c.value {
-                let m = run_list(text, file, c.next, end, nv, nm, nest - 1, slots);
-                skip_list(text, file, m, end, nv, nm, nest - 1)
+                let m = run_list(text, file, c.next, end, shape, nest - 1, slots);
+                skip_list(text, file, m, end, shape, nest - 1)
             } else {
-                let m = skip_list(text, file, c.next, end, nv, nm, nest - 1);
-                run_list(text, file, m, end, nv, nm, nest - 1, slots)
+                let m = skip_list(text, file, c.next, end, shape, nest - 1);
+                run_list(text, file, m, end, shape, nest - 1, slots)
             }
         }
         _ => at,
@@ -105,18 +104,17 @@ pub fn run_list(
     file: &[u8],
     at: usize,
     end: usize,
-    nv: usize,
-    nm: usize,
+    shape: Shape,
     nest: usize,
     slots: &mut [u16],
 ) -> usize
-    requires { ⌜ (isRead (list (now text) (namesOf (now file) nv nm) end nest at) ≡ true) × (end ≤ length (now text)) × (3 * nv ≤ length (now file)) × (nv + nm ≤ length (now slots)) ⌝ }
-    ensures { λ r. ⌜ (now (slots .exit) ≡ afterList (layoutOf nv) (list (now (text .entry)) (namesOf (now (file .entry)) nv nm) end nest at) (now (slots .entry))) × (r ≡ past (list (now (text .entry)) (namesOf (now (file .entry)) nv nm) end nest at)) ⌝ }
+    requires { ⌜ (isRead (list (now text) (namesOf (now file) shape) end nest at) ≡ true) × (end ≤ length (now text)) × (3 * shape .variables ≤ length (now file)) × (slotCount shape ≤ length (now slots)) ⌝ }
+    ensures { λ r. ⌜ (now (slots .exit) ≡ afterList (layoutOf shape) (list (now (text .entry)) (namesOf (now (file .entry)) shape) end nest at) (now (slots .entry))) × (r ≡ past (list (now (text .entry)) (namesOf (now (file .entry)) shape) end nest at)) ⌝ }
 {
     let mut left = wide(text[at]);
     let mut p = at + 1;
     while 0 < left {
-        p = run_stmt(text, file, p, end, nv, nm, nest, slots);
+        p = run_stmt(text, file, p, end, shape, nest, slots);
         left = left - 1;
     }
     p

@@ -7,7 +7,8 @@ ghost use lib.Seq.{paste};
 ghost use lib.IntN.{pos};
 ghost use Rattle.design.specs.Tree.{Design};
 ghost use Rattle.design.specs.Check.{check, accepted, variableCount, matrixCount};
-ghost use Rattle.design.specs.Places.{Accepted};
+ghost use Rattle.design.specs.Places.{Accepted, Shaped};
+ghost use Rattle.design.specs.Limits.{maxVariables, maxMatrices};
 ghost use Rattle.step.specs.Pattern.{signed, wrap};
 ghost use Rattle.step.specs.Interface.{firstWrong, valuesRight, statusesRight};
 ghost use Rattle.step.specs.Entries.{valueRight, statusRight};
@@ -15,25 +16,29 @@ use super::number::integer;
 use super::number::pattern;
 use design::index::MATRICES_AT;
 use design::index::trailer_word;
+use design::limits::MAX_MATRICES;
+use design::limits::MAX_SLOTS;
+use design::limits::MAX_VARIABLES;
+use design::shape::Shape;
 
 // The patterns of the values.
-pub fn patterns(values: [i16; 32]) -> [u16; 32]
+pub fn patterns(values: [i16; MAX_VARIABLES]) -> [u16; MAX_VARIABLES]
     ensures { λ r. ⌜ r ≡ map wrap values ⌝ }
 {
-    let mut out = [0u16; 32];
+    let mut out = [0u16; MAX_VARIABLES];
     let mut i = 0;
-    while i < 32 {
+    while i < MAX_VARIABLES {
         out[i] = pattern(values[i]);
         i = i + 1;
     }
     out
 }
 
-pub fn value_right(file: &[u8], nv: usize, i: usize, p: u16) -> bool
-    requires { ⌜ (3 * nv ≤ length (now file)) × (nv ≤ 32) ⌝ }
-    ensures { λ r. ⌜ r ≡ valueRight (now (file .entry)) nv i p ⌝ }
+pub fn value_right(file: &[u8], variables: usize, i: usize, p: u16) -> bool
+    requires { ⌜ (3 * variables ≤ length (now file)) × (variables ≤ maxVariables) ⌝ }
+    ensures { λ r. ⌜ r ≡ valueRight (now (file .entry)) variables i p ⌝ }
 {
-    if nv <= i {
+    if variables <= i {
         return p == 0;
     }
     if file[3 * i] == 1 {
@@ -43,13 +48,13 @@ pub fn value_right(file: &[u8], nv: usize, i: usize, p: u16) -> bool
 }
 
 // The index of the first wrong value; 32 where all are right.
-pub fn wrong_value(file: &[u8], nv: usize, ps: [u16; 32]) -> usize
-    requires { ⌜ Accepted (now file) × (nv ≡ variableCount (now file)) ⌝ }
+pub fn wrong_value(file: &[u8], variables: usize, ps: [u16; MAX_VARIABLES]) -> usize
+    requires { ⌜ Accepted (now file) × (variables ≡ variableCount (now file)) ⌝ }
     ensures { λ r. ⌜ ((d : Design) → check (now (file .entry)) ≡ accepted d → r ≡ firstWrong (valuesRight (d .variables) ps)) ⌝ }
 {
     let mut i = 0;
-    while i < 32 {
-        if !value_right(file, nv, i, ps[i]) {
+    while i < MAX_VARIABLES {
+        if !value_right(file, variables, i, ps[i]) {
             return i;
         }
         i = i + 1;
@@ -57,25 +62,25 @@ pub fn wrong_value(file: &[u8], nv: usize, ps: [u16; 32]) -> usize
     i
 }
 
-pub fn status_right(file: &[u8], mats: usize, nm: usize, m: usize, s: u16) -> bool
-    requires { ⌜ (mats + 2 * nm ≤ length (now file)) × (nm ≤ 8) ⌝ }
-    ensures { λ r. ⌜ r ≡ statusRight (now (file .entry)) mats nm m s ⌝ }
+pub fn status_right(file: &[u8], mats: usize, matrices: usize, m: usize, s: u16) -> bool
+    requires { ⌜ (mats + 2 * matrices ≤ length (now file)) × (matrices ≤ maxMatrices) ⌝ }
+    ensures { λ r. ⌜ r ≡ statusRight (now (file .entry)) mats matrices m s ⌝ }
 {
-    if nm <= m {
+    if matrices <= m {
         return s == 0;
     }
     s < (file[mats + 2 * m] as u16)
 }
 
 // The index of the first wrong status; 8 where all are right.
-pub fn wrong_status(file: &[u8], nm: usize, ss: [u16; 8]) -> usize
-    requires { ⌜ Accepted (now file) × (nm ≡ matrixCount (now file)) ⌝ }
+pub fn wrong_status(file: &[u8], matrices: usize, ss: [u16; MAX_MATRICES]) -> usize
+    requires { ⌜ Accepted (now file) × (matrices ≡ matrixCount (now file)) ⌝ }
     ensures { λ r. ⌜ ((d : Design) → check (now (file .entry)) ≡ accepted d → r ≡ firstWrong (statusesRight (d .statuses) ss)) ⌝ }
 {
     let mats = trailer_word(file, MATRICES_AT);
     let mut m = 0;
-    while m < 8 {
-        if !status_right(file, mats, nm, m, ss[m]) {
+    while m < MAX_MATRICES {
+        if !status_right(file, mats, matrices, m, ss[m]) {
             return m;
         }
         m = m + 1;
@@ -84,19 +89,24 @@ pub fn wrong_status(file: &[u8], nm: usize, ss: [u16; 8]) -> usize
 }
 
 // The index of the first wrong entry, statuses from 32; 40 where all are right.
-pub fn wrong_entry(file: &[u8], nv: usize, nm: usize, ps: [u16; 32], ss: [u16; 8]) -> usize
-    requires { ⌜ Accepted (now file) × (nv ≡ variableCount (now file)) × (nm ≡ matrixCount (now file)) ⌝ }
+pub fn wrong_entry(
+    file: &[u8],
+    shape: Shape,
+    ps: [u16; MAX_VARIABLES],
+    ss: [u16; MAX_MATRICES],
+) -> usize
+    requires { ⌜ Accepted (now file) × Shaped (now file) shape ⌝ }
     ensures { λ r. ⌜ ((d : Design) → check (now (file .entry)) ≡ accepted d → r ≡ firstWrong (valuesRight (d .variables) ps ++ statusesRight (d .statuses) ss)) ⌝ }
 {
-    let i = wrong_value(file, nv, ps);
-    if i < 32 {
+    let i = wrong_value(file, shape.variables, ps);
+    if i < MAX_VARIABLES {
         return i;
     }
-    let m = wrong_status(file, nm, ss);
-    if m < 8 {
-        return 32 + m;
+    let m = wrong_status(file, shape.matrices, ss);
+    if m < MAX_MATRICES {
+        return MAX_VARIABLES + m;
     }
-    40
+    MAX_SLOTS
 }
 
 // The first n of `from` into the slots at `at`.
@@ -112,11 +122,11 @@ pub fn copy_slots(from: &[u16], n: usize, at: usize, slots: &mut [u16])
 }
 
 // The values of the first n slots, and 0 after them.
-pub fn give_values(n: usize, slots: &[u16]) -> [i16; 32]
-    requires { ⌜ (n ≤ 32) × (n ≤ length (now slots)) ⌝ }
-    ensures { λ r. ⌜ r ≡ take n (map signed (now (slots .entry))) ++ replicate (32 - n) (pos 0) ⌝ }
+pub fn give_values(n: usize, slots: &[u16]) -> [i16; MAX_VARIABLES]
+    requires { ⌜ (n ≤ maxVariables) × (n ≤ length (now slots)) ⌝ }
+    ensures { λ r. ⌜ r ≡ take n (map signed (now (slots .entry))) ++ replicate (maxVariables - n) (pos 0) ⌝ }
 {
-    let mut out = [0i16; 32];
+    let mut out = [0i16; MAX_VARIABLES];
     let mut i = 0;
     while i < n {
         out[i] = integer(slots[i]);
@@ -125,14 +135,14 @@ pub fn give_values(n: usize, slots: &[u16]) -> [i16; 32]
     out
 }
 
-// The slots from n on as statuses, and 0 after them.
-pub fn give_statuses(n: usize, slots: &[u16]) -> [u16; 8]
-    requires { ⌜ (n ≤ length (now slots)) × (length (now slots) ≤ n + 8) ⌝ }
-    ensures { λ r. ⌜ r ≡ drop n (now (slots .entry)) ++ replicate (8 - (length (now (slots .entry)) - n)) 0 ⌝ }
+// The k slots from n on as statuses, and 0 after them.
+pub fn give_statuses(n: usize, k: usize, slots: &[u16]) -> [u16; MAX_MATRICES]
+    requires { ⌜ (k ≤ maxMatrices) × (n + k ≤ length (now slots)) ⌝ }
+    ensures { λ r. ⌜ r ≡ take k (drop n (now (slots .entry))) ++ replicate (maxMatrices - k) 0 ⌝ }
 {
-    let mut out = [0u16; 8];
+    let mut out = [0u16; MAX_MATRICES];
     let mut i = 0;
-    while i < slots.len() - n {
+    while i < k {
         out[i] = slots[n + i];
         i = i + 1;
     }

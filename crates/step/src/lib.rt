@@ -2,6 +2,7 @@
 pub mod calls;
 pub mod evaluate;
 pub mod execute;
+pub mod gate;
 pub mod interface;
 pub mod limits;
 pub mod mover;
@@ -18,22 +19,23 @@ use calls::refuse_step;
 use calls::start_accepted;
 use calls::step_accepted;
 use design::Refusal;
-use limits::LAST_PROPERTY;
-use limits::MAX_CHOICES;
+use design::limits::MAX_MATRICES;
+use design::limits::MAX_VARIABLES;
+use gate::gate;
 use replaying::refuse_replay;
 use replaying::replay_accepted;
 
 // A refusal of number 0 is none.
 pub struct Started {
     pub refusal: Refusal,
-    pub values: [i16; 32],
-    pub statuses: [u16; 8],
+    pub values: [i16; MAX_VARIABLES],
+    pub statuses: [u16; MAX_MATRICES],
 }
 
 pub struct Stepped {
     pub refusal: Refusal,
-    pub values: [i16; 32],
-    pub statuses: [u16; 8],
+    pub values: [i16; MAX_VARIABLES],
+    pub statuses: [u16; MAX_MATRICES],
     pub idle: bool,
 }
 
@@ -61,7 +63,12 @@ pub fn start(file: &[u8]) -> Started
 }
 
 // STEP
-pub fn step(file: &[u8], values: [i16; 32], statuses: [u16; 8], choice: u64) -> Stepped
+pub fn step(
+    file: &[u8],
+    values: [i16; MAX_VARIABLES],
+    statuses: [u16; MAX_MATRICES],
+    choice: u64,
+) -> Stepped
     ensures { λ r. ⌜ r ≡ STEP (now (file .entry)) values statuses choice ⌝ }
 {
     let checked = design::check(file);
@@ -72,7 +79,12 @@ pub fn step(file: &[u8], values: [i16; 32], statuses: [u16; 8], choice: u64) -> 
 }
 
 // HOLDS
-pub fn holds(file: &[u8], values: [i16; 32], statuses: [u16; 8], property: u8) -> Held
+pub fn holds(
+    file: &[u8],
+    values: [i16; MAX_VARIABLES],
+    statuses: [u16; MAX_MATRICES],
+    property: u64,
+) -> Held
     ensures { λ r. ⌜ r ≡ HOLDS (now (file .entry)) values statuses property ⌝ }
 {
     let checked = design::check(file);
@@ -83,18 +95,12 @@ pub fn holds(file: &[u8], values: [i16; 32], statuses: [u16; 8], property: u8) -
 }
 
 // REPLAY
-pub fn replay(file: &[u8], property: u8, choices: &[u8]) -> Replayed
+pub fn replay(file: &[u8], property: u64, choices: &[u8]) -> Replayed
     ensures { λ r. ⌜ r ≡ REPLAY (now (file .entry)) property (now (choices .entry)) ⌝ }
 {
-    let checked = design::check(file);
-    if checked.number != 0 {
-        return refuse_replay(checked.number, checked.place);
-    }
-    if LAST_PROPERTY < property {
-        return refuse_replay(13, 0);
-    }
-    if MAX_CHOICES < choices.len() {
-        return refuse_replay(14, 0);
+    let refusal = gate(file, property, choices.len() as u64);
+    if refusal.number != 0 {
+        return refuse_replay(refusal.number, refusal.place);
     }
     replay_accepted(file, property, choices)
 }

@@ -1,4 +1,4 @@
-// The limits of the step rule's calls, as specs/Limits.antt has them.
-pub const MAX_CHOICES: usize = 100;
+// The limits of the calls with a property and a bound, as specs/Limits.antt has them.
+pub const LAST_PROPERTY: u64 = 1;
 
-pub const LAST_PROPERTY: u8 = 1;
+pub const MAX_BOUND: u64 = 100;

@@ -1,5 +1,4 @@
-// Movers: a normal cell or an external, enabled or idle. `events` is the table of events; `nv` and `nm` are the numbers of variables and
-// matrices; `p` is where a cell stands.
+// Movers: a normal cell or an external, enabled or idle. `events` is the table of events; `p` is where a cell stands.
 ghost use mathlib.Core.Path.{_≡_};
 ghost use mathlib.Core.Bool.{not};
 ghost use Prim.Native.Nat.{_+_, _*_, _≤_, _<_};
@@ -7,110 +6,110 @@ ghost use lib.ListN.{length, getD};
 ghost use Rattle.design.specs.Tree.{Design, cell, raise};
 ghost use Rattle.design.specs.DesignFile.{c-matrix, c-status, c-event, events as eventCount};
 ghost use Rattle.design.specs.Check.{matricesOffset, check, accepted, eventIn};
-ghost use Rattle.design.specs.Places.{CellsIndexed};
-ghost use Rattle.design.specs.Sections.{Parts, CellFields};
+ghost use Rattle.design.specs.Places.{MoversIndexed};
+ghost use Rattle.design.specs.State.{Layout, layoutOf};
+ghost use Rattle.design.specs.Sections.{Parts, CellFields, NormalCell};
 ghost use Rattle.step.specs.Evaluation.{evalBool};
 ghost use Rattle.step.specs.OneStep.{statusAndEvent, enabled, move as moves, step, idle};
-ghost use Rattle.step.specs.Accepted.{layoutOf};
-ghost use Rattle.step.specs.Ready.{Ready, NormalCell, externalsFrom};
+ghost use Rattle.step.specs.Ready.{Ready};
 use super::evaluate::eval_bool;
 use super::execute::run_list;
 use design::bytes::wide;
 use design::bytes::word;
+use design::index::external;
+use design::limits::EVENT_PLACES;
 use design::limits::MAX_DEPTH;
+use design::limits::MAX_MOVERS;
 use design::limits::MAX_NEST;
+use design::shape::Shape;
 
 // Whether event e of matrix m is true.
 pub fn event_true(
     file: &[u8],
-    events: &[u16; 128],
-    nv: usize,
-    nm: usize,
+    events: &[u16; EVENT_PLACES],
+    shape: Shape,
     m: usize,
     e: usize,
     slots: &[u16],
 ) -> bool
-    requires { ⌜ Ready (now file) (now events) nv nm (now slots) × (m < nm) × (e < eventCount (now file) (matricesOffset (now file)) m) ⌝ }
-    ensures { λ r. ⌜ ((d : Design) (w : Parts (now (file .entry)) d) → r ≡ evalBool (layoutOf nv) (now (slots .entry)) (eventIn (w .rows) m e)) ⌝ }
+    requires { ⌜ Ready (now file) (now events) shape (now slots) × (m < shape .matrices) × (e < eventCount (now file) (matricesOffset (now file)) m) ⌝ }
+    ensures { λ r. ⌜ ((d : Design) (w : Parts (now (file .entry)) d) → r ≡ evalBool (layoutOf shape) (now (slots .entry)) (eventIn (w .rows) m e)) ⌝ }
 {
     let at = events[16 * m + e] as usize;
     let past = at + 1 + wide(file[at]);
-    let x = eval_bool(file, file, at + 1, past, nv, nm, MAX_DEPTH, slots);
+    let x = eval_bool(file, file, at + 1, past, shape, MAX_DEPTH, slots);
     x.value
 }
 
 // Whether the cell's matrix has its status and its event is true.
 pub fn status_and_event(
     file: &[u8],
-    events: &[u16; 128],
-    nv: usize,
-    nm: usize,
+    events: &[u16; EVENT_PLACES],
+    shape: Shape,
     p: usize,
     slots: &[u16],
 ) -> bool
-    requires { ⌜ Ready (now file) (now events) nv nm (now slots) × CellFields (now file) p ⌝ }
-    ensures { λ r. ⌜ ((d : Design) (w : Parts (now (file .entry)) d) → r ≡ statusAndEvent (layoutOf nv) (now (slots .entry)) (c-matrix (now (file .entry)) p) (c-status (now (file .entry)) p) (eventIn (w .rows) (c-matrix (now (file .entry)) p) (c-event (now (file .entry)) p))) ⌝ }
+    requires { ⌜ Ready (now file) (now events) shape (now slots) × CellFields (now file) p ⌝ }
+    ensures { λ r. ⌜ ((d : Design) (w : Parts (now (file .entry)) d) → r ≡ statusAndEvent (layoutOf shape) (now (slots .entry)) (c-matrix (now (file .entry)) p) (c-status (now (file .entry)) p) (eventIn (w .rows) (c-matrix (now (file .entry)) p) (c-event (now (file .entry)) p))) ⌝ }
 {
     let m = wide(file[p]);
     let status = wide(file[p + 1]);
-    let current = slots[nv + m] as usize;
+    let current = slots[shape.variables + m] as usize;
     if current != status {
         return false;
     }
     let e = wide(file[p + 2]);
-    event_true(file, events, nv, nm, m, e, slots)
+    event_true(file, events, shape, m, e, slots)
 }
 
 // Whether the guard of a normal cell is true.
 pub fn guard_true(
     file: &[u8],
-    events: &[u16; 128],
-    nv: usize,
-    nm: usize,
+    events: &[u16; EVENT_PLACES],
+    shape: Shape,
     p: usize,
     slots: &[u16],
 ) -> bool
-    requires { ⌜ Ready (now file) (now events) nv nm (now slots) × NormalCell (now file) p ⌝ }
-    ensures { λ r. ⌜ ((x : NormalCell (now (file .entry)) p) → r ≡ evalBool (layoutOf nv) (now (slots .entry)) (x .cell .guard)) ⌝ }
+    requires { ⌜ Ready (now file) (now events) shape (now slots) × NormalCell (now file) p ⌝ }
+    ensures { λ r. ⌜ ((x : NormalCell (now (file .entry)) p) → r ≡ evalBool (layoutOf shape) (now (slots .entry)) (x .cell .guard)) ⌝ }
 {
     let n = wide(file[p + 5]);
     if n == 0 {
         return true;
     }
-    let x = eval_bool(file, file, p + 8, p + 8 + n, nv, nm, MAX_DEPTH, slots);
+    let x = eval_bool(file, file, p + 8, p + 8 + n, shape, MAX_DEPTH, slots);
     x.value
 }
 
 // A normal cell moves, if it is enabled; answers whether it was idle.
 pub fn move_cell(
     file: &[u8],
-    events: &[u16; 128],
-    nv: usize,
-    nm: usize,
+    events: &[u16; EVENT_PLACES],
+    shape: Shape,
     p: usize,
     slots: &mut [u16],
 ) -> bool
-    requires { ⌜ Ready (now file) (now events) nv nm (now slots) × NormalCell (now file) p ⌝ }
-    ensures { λ r. ⌜ ((x : NormalCell (now (file .entry)) p) → (now (slots .exit) ≡ moves (layoutOf nv) (now (slots .entry)) (cell (x .cell))) × (r ≡ not (enabled (layoutOf nv) (now (slots .entry)) (cell (x .cell))))) ⌝ }
+    requires { ⌜ Ready (now file) (now events) shape (now slots) × NormalCell (now file) p ⌝ }
+    ensures { λ r. ⌜ ((x : NormalCell (now (file .entry)) p) → (now (slots .exit) ≡ moves (layoutOf shape) (now (slots .entry)) (cell (x .cell))) × (r ≡ not (enabled (layoutOf shape) (now (slots .entry)) (cell (x .cell))))) ⌝ }
 {
-    if !status_and_event(file, events, nv, nm, p, slots) {
+    if !status_and_event(file, events, shape, p, slots) {
         return true;
     }
-    if !guard_true(file, events, nv, nm, p, slots) {
+    if !guard_true(file, events, shape, p, slots) {
         return true;
     }
     let middle = p + 8 + wide(file[p + 5]);
     let past = middle + word(file, p + 6);
-    run_list(file, file, middle, past, nv, nm, MAX_NEST, slots);
+    run_list(file, file, middle, past, shape, MAX_NEST, slots);
     let m = wide(file[p]);
-    slots[nv + m] = file[p + 4] as u16;
+    slots[shape.variables + m] = file[p + 4] as u16;
     false
 }
 
 // An external moves: it is enabled when false and becomes true.
-pub fn move_external(nv: usize, v: usize, slots: &mut [u16]) -> bool
+pub fn move_external(v: usize, slots: &mut [u16]) -> bool
     requires { ⌜ v < length (now slots) ⌝ }
-    ensures { λ r. ⌜ (now (slots .exit) ≡ moves (layoutOf nv) (now (slots .entry)) (raise v)) × (r ≡ not (enabled (layoutOf nv) (now (slots .entry)) (raise v))) ⌝ }
+    ensures { λ r. ⌜ ((l : Layout) → (now (slots .exit) ≡ moves l (now (slots .entry)) (raise v)) × (r ≡ not (enabled l (now (slots .entry)) (raise v)))) ⌝ }
 {
     if 0 < slots[v] {
         return true;
@@ -119,59 +118,22 @@ pub fn move_external(nv: usize, v: usize, slots: &mut [u16]) -> bool
     false
 }
 
-// The number of externals.
-pub fn external_count(file: &[u8], nv: usize) -> usize
-    requires { ⌜ 3 * nv ≤ length (now file) ⌝ }
-    ensures { λ r. ⌜ (r ≡ length (externalsFrom (now (file .entry)) 0 nv)) × (r ≤ nv) ⌝ }
-{
-    let mut v = 0;
-    let mut count = 0;
-    while v < nv {
-        if file[3 * v] == 2 {
-            count = count + 1;
-        }
-        v = v + 1;
-    }
-    count
-}
-
-// External number k.
-pub fn external(file: &[u8], nv: usize, k: usize) -> usize
-    requires { ⌜ (3 * nv ≤ length (now file)) × (k < length (externalsFrom (now file) 0 nv)) ⌝ }
-    ensures { λ r. ⌜ (r ≡ getD (externalsFrom (now (file .entry)) 0 nv) k 0) × (r < nv) ⌝ }
-{
-    let mut v = 0;
-    let mut left = k;
-    while v < nv {
-        if file[3 * v] == 2 {
-            if left == 0 {
-                return v;
-            }
-            left = left - 1;
-        }
-        v = v + 1;
-    }
-    v
-}
-
-// The mover that the choice names moves; answers whether it was idle. `cells` is the table of the `normals` normal cells.
+// The mover that the choice names moves; answers whether it was idle. `cells` is the table of the normal cells.
 pub fn move_chosen(
     file: &[u8],
-    events: &[u16; 128],
-    cells: &[u16; 64],
-    normals: usize,
-    nv: usize,
-    nm: usize,
+    events: &[u16; EVENT_PLACES],
+    cells: &[u16; MAX_MOVERS],
+    shape: Shape,
     choice: usize,
     slots: &mut [u16],
 ) -> bool
-    requires { ⌜ Ready (now file) (now events) nv nm (now slots) × CellsIndexed (now file) (now cells) normals × (choice < normals + length (externalsFrom (now file) 0 nv)) ⌝ }
+    requires { ⌜ Ready (now file) (now events) shape (now slots) × MoversIndexed (now file) (now cells) shape × (choice < shape .normals + shape .externals) ⌝ }
     ensures { λ r. ⌜ ((d : Design) → check (now (file .entry)) ≡ accepted d → (now (slots .exit) ≡ step d (now (slots .entry)) choice) × (r ≡ idle d (now (slots .entry)) choice)) ⌝ }
 {
-    if choice < normals {
+    if choice < shape.normals {
         let p = cells[choice] as usize;
-        return move_cell(file, events, nv, nm, p, slots);
+        return move_cell(file, events, shape, p, slots);
     }
-    let v = external(file, nv, choice - normals);
-    move_external(nv, v, slots)
+    let v = external(file, shape.variables, choice - shape.normals);
+    move_external(v, slots)
 }

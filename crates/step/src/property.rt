@@ -1,10 +1,11 @@
 // The properties. Parameters are those of movers.
 ghost use mathlib.Core.Path.{_≡_};
 ghost use Rattle.design.specs.Tree.{Design};
+ghost use Rattle.design.specs.State.{layoutOf};
 ghost use Rattle.design.specs.Sections.{Parts};
 ghost use Rattle.step.specs.Evaluation.{evalBool};
-ghost use Rattle.step.specs.OneStep.{noInvalid, property as propertyOf};
-ghost use Rattle.step.specs.Accepted.{layoutOf};
+ghost use Rattle.step.specs.Property.{propertyOf};
+ghost use Rattle.step.specs.OneStep.{noInvalid, holds};
 ghost use Rattle.step.specs.Ready.{Ready};
 use super::evaluate::eval_bool;
 use super::mover::status_and_event;
@@ -12,33 +13,38 @@ use design::bytes::wide;
 use design::bytes::word;
 use design::index::CELLS;
 use design::index::CELLS_AT;
-use design::index::INVARIANT_AT;
+use design::index::invariant;
 use design::index::trailer_word;
+use design::limits::EVENT_PLACES;
 use design::limits::MAX_DEPTH;
-use design::limits::TRAILER;
+use design::shape::Shape;
 
 // Whether the invariant is true.
-pub fn invariant_true(file: &[u8], events: &[u16; 128], nv: usize, nm: usize, slots: &[u16]) -> bool
-    requires { ⌜ Ready (now file) (now events) nv nm (now slots) ⌝ }
-    ensures { λ r. ⌜ ((d : Design) (w : Parts (now (file .entry)) d) → r ≡ evalBool (layoutOf nv) (now (slots .entry)) (d .invariant)) ⌝ }
+pub fn invariant_true(
+    file: &[u8],
+    events: &[u16; EVENT_PLACES],
+    shape: Shape,
+    slots: &[u16],
+) -> bool
+    requires { ⌜ Ready (now file) (now events) shape (now slots) ⌝ }
+    ensures { λ r. ⌜ ((d : Design) (w : Parts (now (file .entry)) d) → r ≡ evalBool (layoutOf shape) (now (slots .entry)) (d .invariant)) ⌝ }
 {
-    let end = file.len() - TRAILER;
-    let at = trailer_word(file, INVARIANT_AT);
-    let x = eval_bool(file, file, at, end, nv, nm, MAX_DEPTH, slots);
+    let stands = invariant(file);
+    let x = eval_bool(file, file, stands.at, stands.end, shape, MAX_DEPTH, slots);
     x.value
 }
 
 // Whether status and event hold together at no invalid cell.
-pub fn no_invalid(file: &[u8], events: &[u16; 128], nv: usize, nm: usize, slots: &[u16]) -> bool
-    requires { ⌜ Ready (now file) (now events) nv nm (now slots) ⌝ }
-    ensures { λ r. ⌜ ((d : Design) (w : Parts (now (file .entry)) d) → r ≡ noInvalid (layoutOf nv) (now (slots .entry)) (d .invalid)) ⌝ }
+pub fn no_invalid(file: &[u8], events: &[u16; EVENT_PLACES], shape: Shape, slots: &[u16]) -> bool
+    requires { ⌜ Ready (now file) (now events) shape (now slots) ⌝ }
+    ensures { λ r. ⌜ ((d : Design) (w : Parts (now (file .entry)) d) → r ≡ noInvalid (layoutOf shape) (now (slots .entry)) (d .invalid)) ⌝ }
 {
     let count = trailer_word(file, CELLS);
     let mut p = trailer_word(file, CELLS_AT);
     let mut i = 0;
     while i < count {
         if file[p + 3] != 0 {
-            if status_and_event(file, events, nv, nm, p, slots) {
+            if status_and_event(file, events, shape, p, slots) {
                 return false;
             }
         }
@@ -51,18 +57,17 @@ pub fn no_invalid(file: &[u8], events: &[u16; 128], nv: usize, nm: usize, slots:
 // Property 0 is the invariant, property 1 is about invalid cells.
 pub fn property_true(
     file: &[u8],
-    events: &[u16; 128],
-    nv: usize,
-    nm: usize,
-    property: u8,
+    events: &[u16; EVENT_PLACES],
+    shape: Shape,
+    property: u64,
     slots: &[u16],
 ) -> bool
-    requires { ⌜ Ready (now file) (now events) nv nm (now slots) ⌝ }
-    ensures { λ r. ⌜ ((d : Design) (w : Parts (now (file .entry)) d) → r ≡ propertyOf d property (now (slots .entry))) ⌝ }
+    requires { ⌜ Ready (now file) (now events) shape (now slots) ⌝ }
+    ensures { λ r. ⌜ ((d : Design) (w : Parts (now (file .entry)) d) → r ≡ holds d (propertyOf d property) (now (slots .entry))) ⌝ }
 {
     if property == 0 {
-        invariant_true(file, events, nv, nm, slots)
+        invariant_true(file, events, shape, slots)
     } else {
-        no_invalid(file, events, nv, nm, slots)
+        no_invalid(file, events, shape, slots)
     }
 }

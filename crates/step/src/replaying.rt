@@ -6,24 +6,29 @@ ghost use Prim.Native.Nat.{ℕ, _+_, _≤_, _<_};
 ghost use lib.ListN.{length, getD, replicate};
 ghost use lib.Dec.{ltb};
 ghost use Rattle.design.specs.Tree.{Design};
-ghost use Rattle.design.specs.State.{start};
-ghost use Rattle.design.specs.Check.{check, accepted, variableCount, matrixCount};
-ghost use Rattle.design.specs.Places.{Accepted, CellsIndexed};
+ghost use Rattle.design.specs.State.{start, slotCount};
+ghost use Rattle.design.specs.Check.{check, accepted};
+ghost use Rattle.design.specs.Answer.{refused, answer};
+ghost use Rattle.design.specs.Places.{Accepted, Shaped};
+ghost use Rattle.step.specs.Limits.{lastProperty, maxBound};
 ghost use Rattle.step.specs.Interface.{firstWrong};
-ghost use Rattle.step.specs.Operations.{firstBreak, breaksAnswer, refuseReplay, REPLAY};
-ghost use Rattle.step.specs.Ready.{Ready, externalsFrom};
+ghost use Rattle.step.specs.Property.{propertyOf};
+ghost use Rattle.step.specs.Operations.{firstBreak, replayed, REPLAY};
+ghost use Rattle.step.specs.Ready.{Replayable};
 use super::Replayed;
-use super::mover::external_count;
 use super::mover::move_chosen;
 use super::property::property_true;
 use design::Refusal;
 use design::bytes::wide;
 use design::bytes::word;
-use design::index::MATRICES;
-use design::index::VARIABLES;
 use design::index::index_cells;
 use design::index::index_events;
-use design::index::trailer_word;
+use design::index::shape;
+use design::limits::EVENT_PLACES;
+use design::limits::MAX_MOVERS;
+use design::limits::MAX_SLOTS;
+use design::shape::Shape;
+use design::shape::slot_count;
 
 // The place of the first choice that is not below w; the length where all are.
 pub fn first_over(choices: &[u8], w: usize) -> usize
@@ -41,19 +46,19 @@ pub fn first_over(choices: &[u8], w: usize) -> usize
 }
 
 // The first state, in slots that are 0.
-pub fn load_start(file: &[u8], nv: usize, nm: usize, slots: &mut [u16])
-    requires { ⌜ Accepted (now file) × (nv ≡ variableCount (now file)) × (nm ≡ matrixCount (now file)) × (now slots ≡ replicate (nv + nm) 0) ⌝ }
+pub fn load_start(file: &[u8], shape: Shape, slots: &mut [u16])
+    requires { ⌜ Accepted (now file) × Shaped (now file) shape × (now slots ≡ replicate (slotCount shape) 0) ⌝ }
     ensures { λ r. ⌜ ((d : Design) → check (now (file .entry)) ≡ accepted d → now (slots .exit) ≡ start d) ⌝ }
 {
     let mut v = 0;
-    while v < nv {
+    while v < shape.variables {
         slots[v] = word(file, 3 * v + 1) as u16;
         v = v + 1;
     }
 }
 
 pub fn broken_at(i: usize) -> Replayed
-    ensures { λ r. ⌜ r ≡ breaksAnswer (some i) ⌝ }
+    ensures { λ r. ⌜ r ≡ replayed (answer (some i)) ⌝ }
 {
     Replayed {
         refusal: Refusal {
@@ -66,7 +71,7 @@ pub fn broken_at(i: usize) -> Replayed
 }
 
 pub fn never() -> Replayed
-    ensures { λ r. ⌜ r ≡ breaksAnswer none ⌝ }
+    ensures { λ r. ⌜ r ≡ replayed (answer none) ⌝ }
 {
     Replayed {
         refusal: Refusal {
@@ -81,36 +86,25 @@ pub fn never() -> Replayed
 // From the state in `slots`: the first step at which the property is false. Each choice acts on the slots in place.
 pub fn first_break(
     file: &[u8],
-    events: &[u16; 128],
-    cells: &[u16; 64],
-    normals: usize,
-    nv: usize,
-    nm: usize,
-    property: u8,
+    events: &[u16; EVENT_PLACES],
+    cells: &[u16; MAX_MOVERS],
+    shape: Shape,
+    property: u64,
     choices: &[u8],
     slots: &mut [u16],
 ) -> Replayed
-    requires { ⌜ Ready (now file) (now events) nv nm (now slots) × CellsIndexed (now file) (now cells) normals × (length (now choices) ≤ 100) × ((i : ℕ) → i < length (now choices) → getD (now choices) i 0 < normals + length (externalsFrom (now file) 0 nv)) ⌝ }
-    ensures { λ r. ⌜ ((d : Design) → check (now (file .entry)) ≡ accepted d → r ≡ breaksAnswer (firstBreak d property (now (slots .entry)) (now (choices .entry)) 0)) ⌝ }
+    requires { ⌜ Replayable (now file) (now events) (now cells) shape (now slots) (now choices) ⌝ }
+    ensures { λ r. ⌜ ((d : Design) → check (now (file .entry)) ≡ accepted d → r ≡ replayed (answer (firstBreak d (propertyOf d property) (now (slots .entry)) (now (choices .entry)) 0))) ⌝ }
 {
     let mut i = 0;
     while i < choices.len() {
-        if !property_true(file, events, nv, nm, property, slots) {
+        if !property_true(file, events, shape, property, slots) {
             return broken_at(i);
         }
-        move_chosen(
-            file,
-            events,
-            cells,
-            normals,
-            nv,
-            nm,
-            wide(choices[i]),
-            slots,
-        );
+        move_chosen(file, events, cells, shape, wide(choices[i]), slots);
         i = i + 1;
     }
-    if property_true(file, events, nv, nm, property, slots) {
+    if property_true(file, events, shape, property, slots) {
         return never();
     }
     broken_at(i)
@@ -119,34 +113,22 @@ pub fn first_break(
 // The same from the first state, in slots that are 0.
 pub fn replay_slots(
     file: &[u8],
-    events: &[u16; 128],
-    cells: &[u16; 64],
-    normals: usize,
-    nv: usize,
-    nm: usize,
-    property: u8,
+    events: &[u16; EVENT_PLACES],
+    cells: &[u16; MAX_MOVERS],
+    shape: Shape,
+    property: u64,
     choices: &[u8],
     slots: &mut [u16],
 ) -> Replayed
-    requires { ⌜ Ready (now file) (now events) nv nm (now slots) × CellsIndexed (now file) (now cells) normals × (length (now choices) ≤ 100) × ((i : ℕ) → i < length (now choices) → getD (now choices) i 0 < normals + length (externalsFrom (now file) 0 nv)) × (now slots ≡ replicate (nv + nm) 0) ⌝ }
-    ensures { λ r. ⌜ ((d : Design) → check (now (file .entry)) ≡ accepted d → r ≡ breaksAnswer (firstBreak d property (start d) (now (choices .entry)) 0)) ⌝ }
+    requires { ⌜ Replayable (now file) (now events) (now cells) shape (now slots) (now choices) × (now slots ≡ replicate (slotCount shape) 0) ⌝ }
+    ensures { λ r. ⌜ ((d : Design) → check (now (file .entry)) ≡ accepted d → r ≡ replayed (answer (firstBreak d (propertyOf d property) (start d) (now (choices .entry)) 0))) ⌝ }
 {
-    load_start(file, nv, nm, slots);
-    first_break(
-        file,
-        events,
-        cells,
-        normals,
-        nv,
-        nm,
-        property,
-        choices,
-        slots,
-    )
+    load_start(file, shape, slots);
+    first_break(file, events, cells, shape, property, choices, slots)
 }
 
 pub fn refuse_replay(number: u8, place: usize) -> Replayed
-    ensures { λ r. ⌜ r ≡ refuseReplay number place ⌝ }
+    ensures { λ r. ⌜ r ≡ replayed (refused number place) ⌝ }
 {
     Replayed {
         refusal: Refusal { number, place },
@@ -156,29 +138,26 @@ pub fn refuse_replay(number: u8, place: usize) -> Replayed
 }
 
 // On an accepted file, with a right property and few choices: the tables are filled once, and no state is copied.
-pub fn replay_accepted(file: &[u8], property: u8, choices: &[u8]) -> Replayed
-    requires { ⌜ Accepted (now file) × (property ≤ 1) × (length (now choices) ≤ 100) ⌝ }
+pub fn replay_accepted(file: &[u8], property: u64, choices: &[u8]) -> Replayed
+    requires { ⌜ Accepted (now file) × (property ≤ lastProperty) × (length (now choices) ≤ maxBound) ⌝ }
     ensures { λ r. ⌜ r ≡ REPLAY (now (file .entry)) property (now (choices .entry)) ⌝ }
 {
-    let nv = trailer_word(file, VARIABLES);
-    let nm = trailer_word(file, MATRICES);
-    let mut cells = [0u16; 64];
+    let mut cells = [0u16; MAX_MOVERS];
     let normals = index_cells(file, &mut cells);
-    let over = first_over(choices, normals + external_count(file, nv));
+    let shape = shape(file, normals);
+    let over = first_over(choices, shape.normals + shape.externals);
     if over < choices.len() {
         return refuse_replay(12, over);
     }
-    let mut events = [0u16; 128];
+    let mut events = [0u16; EVENT_PLACES];
     index_events(file, &mut events);
-    let mut all = [0u16; 40];
-    let n = nv + nm;
+    let mut all = [0u16; MAX_SLOTS];
+    let n = slot_count(shape);
     replay_slots(
         file,
         &events,
         &cells,
-        normals,
-        nv,
-        nm,
+        shape,
         property,
         choices,
         &mut all[..n],

@@ -12,10 +12,13 @@ use lib.Seq.{drop-cons, take-at, length-take-le}
 use borrow.Author.Tests.{le-leb, lt-leb, leb-true, leb-false}
 use Rattle.design.specs.Tree.{Design}
 use Rattle.design.specs.Check.{Checked, check}
+use Rattle.step.specs.Property.{propertyOf}
+use Rattle.step.specs.Gate.{gate}
 use Rattle.step.specs.Operations.{refusedAt}
 use Rattle.clauses.specs.Words.{words, isEnd}
 use Rattle.clauses.specs.Formula.{part, partsFrom, formula}
-use Rattle.clauses.specs.Answer.{Answer, refused, answer, need, ofChecked, onDesign, maxProperty, maxBound}
+use Rattle.design.specs.Answer.{Answer, refused, answer, need, ofChecked, onDesign}
+use Rattle.step.specs.Limits.{lastProperty, maxBound}
 use Rattle.clauses.specs.Encode.{wordsToWrite, filled, encode}
 use Rattle.clauses.specs.Replies.{EncodeExit, encodeExit, ENCODE}
 use Rattle.clauses.specs.declared.encode.EncodeReply.{EncodeReply}
@@ -138,22 +141,22 @@ joined-same f g h (suc m) i = ap₂ (λ (a b : List ℕ). a ++ b) (h i) (joined-
 module _ (p k : ℕ) where
   -- by CHECK's answer
   abbrev partOf : Checked → ℕ → Answer (List ℤ)
-  partOf x i = ofChecked x λ d. need (leb p maxProperty) 13 0 (need (leb k maxBound) 14 0 (need (leb i (k + 2)) 15 0 (need (leb (length (words (part d p k i))) maxWords) 16 0 (answer (words (part d p k i))))))
+  partOf x i = ofChecked x λ d. need (leb p lastProperty) 13 0 (need (leb k maxBound) 14 0 (need (leb i (k + 2)) 15 0 (need (leb (length (words (part d (propertyOf d p) k i))) maxWords) 16 0 (answer (words (part d (propertyOf d p) k i))))))
 
   abbrev allOf : Checked → Answer (List ℤ)
-  allOf x = ofChecked x λ d. need (leb p maxProperty) 13 0 (need (leb k maxBound) 14 0 (need (noneOver d p k (k + 3) 0) 16 0 (answer (words (formula d p k)))))
+  allOf x = ofChecked x λ d. need (leb p lastProperty) 13 0 (need (leb k maxBound) 14 0 (need (noneOver d (propertyOf d p) k (k + 3) 0) 16 0 (answer (words (formula d (propertyOf d p) k)))))
 
   -- one part over is enough
-  one-over : (d : Design) (i m j : ℕ) → j ≤ i → i < j + m → leb (length (words (part d p k i))) maxWords ≡ false → noneOver d p k m j ≡ false
+  one-over : (d : Design) (i m j : ℕ) → j ≤ i → i < j + m → leb (length (words (part d (propertyOf d p) k i))) maxWords ≡ false → noneOver d (propertyOf d p) k m j ≡ false
   unfolding noneOver
   one-over d i zero j a b e = absurd (omega arith)
-  one-over d i (suc m) j a b e = go (leb (length (words (part d p k j))) maxWords) refl (λ l. one-over d i m (suc j) l (omega arith) e)
+  one-over d i (suc m) j a b e = go (leb (length (words (part d (propertyOf d p) k j))) maxWords) refl (λ l. one-over d i m (suc j) l (omega arith) e)
     where
-      go : (t : Bool) → leb (length (words (part d p k j))) maxWords ≡ t → (j < i → noneOver d p k m (suc j) ≡ false) → t && noneOver d p k m (suc j) ≡ false
+      go : (t : Bool) → leb (length (words (part d (propertyOf d p) k j))) maxWords ≡ t → (j < i → noneOver d (propertyOf d p) k m (suc j) ≡ false) → t && noneOver d (propertyOf d p) k m (suc j) ≡ false
       go false q f = refl
       go true q f =
           let other : i ≡ j → ⊥ = λ y.
-          (let u : leb (length (words (part d p k i))) maxWords ≡ true = subst (λ (n : ℕ). leb (length (words (part d p k n))) maxWords ≡ true) (sym y) q in
+          (let u : leb (length (words (part d (propertyOf d p) k i))) maxWords ≡ true = subst (λ (n : ℕ). leb (length (words (part d (propertyOf d p) k n))) maxWords ≡ true) (sym y) q in
           let o : _≡_ {A = ℕ} 0 1 = cc in
           omega arith) in
           f (omega arith)
@@ -168,7 +171,7 @@ module _ (p k : ℕ) where
   all-refused : (x : Checked) (i n q : ℕ) → i < k + 3 → partOf x i ≡ refused n q → allOf x ≡ refused n q
   all-refused (Checked.refused a b) i n q l e = e
   all-refused (Checked.accepted d) i n q l e =
-      refused-so n q (words (part d p k i)) (words (formula d p k)) (leb p maxProperty) (leb k maxBound) (leb i (k + 2)) (leb (length (words (part d p k i))) maxWords) (noneOver d p k (k + 3) 0)
+      refused-so n q (words (part d (propertyOf d p) k i)) (words (formula d (propertyOf d p) k)) (leb p lastProperty) (leb k maxBound) (leb i (k + 2)) (leb (length (words (part d (propertyOf d p) k i))) maxWords) (noneOver d (propertyOf d p) k (k + 3) 0)
       (le-leb i (k + 2) (omega arith)) (one-over d i (k + 3) 0 (omega arith) (omega arith)) e
 
   record Tests (a b t : Bool) : Type 0 where
@@ -184,29 +187,29 @@ module _ (p k : ℕ) where
   none-refused ws true true true false e = let o : _≡_ {A = ℕ} 0 1 = cc in absurd (omega arith)
 
   module _ (d : Design) (h : (i : ℕ) → i < k + 3 → isRefused (partOf (Checked.accepted d) i) ≡ false) where
-    tests : (i : ℕ) → i < k + 3 → Tests (leb p maxProperty) (leb k maxBound) (leb (length (words (part d p k i))) maxWords)
-    tests i l = none-refused (words (part d p k i)) (leb p maxProperty) (leb k maxBound) (leb i (k + 2)) (leb (length (words (part d p k i))) maxWords) (h i l)
+    tests : (i : ℕ) → i < k + 3 → Tests (leb p lastProperty) (leb k maxBound) (leb (length (words (part d (propertyOf d p) k i))) maxWords)
+    tests i l = none-refused (words (part d (propertyOf d p) k i)) (leb p lastProperty) (leb k maxBound) (leb i (k + 2)) (leb (length (words (part d (propertyOf d p) k i))) maxWords) (h i l)
 
-    none-over : (m j : ℕ) → j + m ≤ k + 3 → noneOver d p k m j ≡ true
+    none-over : (m j : ℕ) → j + m ≤ k + 3 → noneOver d (propertyOf d p) k m j ≡ true
     unfolding noneOver
     none-over zero j l = refl
     none-over (suc m) j l = ap₂ (λ (a b : Bool). a && b) (tests j (omega arith) .short) (none-over m (suc j) (omega arith))
 
-    part-is : (i : ℕ) → i < k + 3 → partOf (Checked.accepted d) i ≡ answer (words (part d p k i))
+    part-is : (i : ℕ) → i < k + 3 → partOf (Checked.accepted d) i ≡ answer (words (part d (propertyOf d p) k i))
     part-is i l = rw (tests i l .property, tests i l .bound, le-leb i (k + 2) (omega arith), tests i l .short)
 
-    all-is : allOf (Checked.accepted d) ≡ answer (words (formula d p k))
+    all-is : allOf (Checked.accepted d) ≡ answer (words (formula d (propertyOf d p) k))
     all-is = rw (tests 0 (omega arith) .property, tests 0 (omega arith) .bound, none-over (k + 3) 0 (omega arith))
 
-    parts-joined : (m i : ℕ) → i + m ≤ k + 3 → wordsText (words (partsFrom d p k m i)) ≡ joined (λ (j : ℕ). printed (partOf (Checked.accepted d) j)) m i
+    parts-joined : (m i : ℕ) → i + m ≤ k + 3 → wordsText (words (partsFrom d (propertyOf d p) k m i)) ≡ joined (λ (j : ℕ). printed (partOf (Checked.accepted d) j)) m i
     unfolding wordsText partsFrom joined
     parts-joined zero i l = refl
     parts-joined (suc m) i l =
-        ap wordsText (words-join (part d p k i) (partsFrom d p k m (suc i)))
-        ∙ words-append (words (part d p k i)) (words (partsFrom d p k m (suc i)))
+        ap wordsText (words-join (part d (propertyOf d p) k i) (partsFrom d (propertyOf d p) k m (suc i)))
+        ∙ words-append (words (part d (propertyOf d p) k i)) (words (partsFrom d (propertyOf d p) k m (suc i)))
         ∙ ap₂ (λ (a b : List ℕ). a ++ b) (sym (ap printed (part-is i (omega arith)))) (parts-joined m (suc i) (omega arith))
 
-    formula-joined : wordsText (words (formula d p k)) ≡ joined (λ (j : ℕ). printed (partOf (Checked.accepted d) j)) (k + 3) 0
+    formula-joined : wordsText (words (formula d (propertyOf d p) k)) ≡ joined (λ (j : ℕ). printed (partOf (Checked.accepted d) j)) (k + 3) 0
     unfolding formula
     formula-joined = parts-joined (k + 3) 0 (omega arith)
 
@@ -234,7 +237,7 @@ module _ (file : List ℕ) (p k : ℕ) where
       go j false z m = f .fine j (omega (arith, leb-false i j z))
 
   pub parts-refused : (i room : ℕ) → i < k + 3 → room ≡ maxWords → true ≡ isRefused (wordsToWrite file p k i room) → printed (wordsToPrint file p k) ≡ joined (partText file p k) (i + 1 - i) i
-  unfolding wordsToPrint wordsToWrite partText onDesign
+  unfolding wordsToPrint wordsToWrite partText gate onDesign
   parts-refused i room l q e =
       go (wordsToWrite file p k i maxWords) refl (subst (λ (n : ℕ). true ≡ isRefused (wordsToWrite file p k i n)) q e)
       ∙ sym (ap (λ (m : ℕ). joined (partText file p k) m i) (let z : i + 1 - i ≡ 1 = omega arith in z) ∙ joined-one (partText file p k) i)
@@ -244,7 +247,7 @@ module _ (file : List ℕ) (p k : ℕ) where
       go (answer ws) s t = let o : _≡_ {A = ℕ} 0 1 = cc in absurd (omega arith)
 
   pub parts-printed : (i : ℕ) → Fine file p k i → k + 3 ≤ i → printed (wordsToPrint file p k) ≡ joined (partText file p k) (k + 3 - 0) 0
-  unfolding wordsToPrint wordsToWrite partText onDesign
+  unfolding wordsToPrint wordsToWrite partText gate onDesign
   parts-printed i f l =
       all-printed p k (check file) (λ j m. f .fine j (omega arith))
       ∙ ap (λ (m : ℕ). joined (partText file p k) m 0) (let z : k + 3 ≡ k + 3 - 0 = omega arith in z)

@@ -142,7 +142,7 @@ left-end : (zs : List ℤ) (i : ℕ) {xs ys : List ℕ} {at p : ℕ} → length 
 unfolding spaced
 left-end zs i h l = rest-end (ap spaced (drop-of-length-le zs h)) (l .rest)
 
--- the values of the first n slots, and the statuses after them
+-- the values of the first n slots
 module _ (n : ℕ) (slots : List ℕ) (h : n ≤ length slots) where
   values-length : length (take n (map signed slots)) ≡ n
   values-length = length-take-le n (map signed slots) (let e = length-map slots signed in omega arith)
@@ -158,18 +158,24 @@ module _ (n : ℕ) (slots : List ℕ) (h : n ≤ length slots) where
   pub values-end : (i : ℕ) {xs ys : List ℕ} {at p : ℕ} → n ≤ i → Left (take n (map signed slots)) i xs ys at p → Written (spaced (take n (map signed slots))) xs ys at p
   values-end i l g = left-end (take n (map signed slots)) i (omega (arith, values-length)) g
 
-  statuses-length : length (map pos (drop n slots)) ≡ length slots - n
-  statuses-length = length-map (drop n slots) pos ∙ length-drop n slots
+-- the k statuses after them
+module _ (n k : ℕ) (slots : List ℕ) (h : n + k ≤ length slots) where
+  abbrev statuses : List ℤ
+  statuses = map pos (take k (drop n slots))
 
-  status-at : (i : ℕ) → getD (map pos (drop n slots)) i (pos 0) ≡ pos (getD slots (n + i) 0)
-  status-at i = List·getD-map pos (drop n slots) i 0 ∙ ap pos (getD-drop n slots i 0)
+  statuses-length : length statuses ≡ k
+  statuses-length = length-map (take k (drop n slots)) pos ∙ length-take-le k (drop n slots) (omega (arith, length-drop n slots))
 
-  pub statuses-next : (i : ℕ) {xs ys us vs : List ℕ} {at p m r : ℕ} → i < length slots - n → Left (map pos (drop n slots)) i xs ys at p → Written (32 ∷ []) ys us p m → Written (decimal (getD slots (n + i) 0)) us vs m r → Left (map pos (drop n slots)) (i + 1) xs vs at r
+  status-at : (i : ℕ) → i < k → getD statuses i (pos 0) ≡ pos (getD slots (n + i) 0)
+  status-at i l = List·getD-map pos (take k (drop n slots)) i 0 ∙ ap pos (getD-take k (drop n slots) i 0 l ∙ getD-drop n slots i 0)
+
+  pub statuses-next : (i : ℕ) {xs ys us vs : List ℕ} {at p m r : ℕ} → i < k → Left statuses i xs ys at p → Written (32 ∷ []) ys us p m → Written (decimal (getD slots (n + i) 0)) us vs m r
+      → Left statuses (i + 1) xs vs at r
   statuses-next i {xs} {ys} {us} {vs} {at} {p} {m} {r} l g a b =
-      left-next (map pos (drop n slots)) i (omega (arith, statuses-length)) g a (subst (λ (z : ℤ). Written (signedText z) us vs m r) (sym (status-at i)) b)
+      left-next statuses i (omega (arith, statuses-length)) g a (subst (λ (z : ℤ). Written (signedText z) us vs m r) (sym (status-at i l)) b)
 
-  pub statuses-end : (i : ℕ) {xs ys : List ℕ} {at p : ℕ} → length slots - n ≤ i → Left (map pos (drop n slots)) i xs ys at p → Written (spaced (map pos (drop n slots))) xs ys at p
-  statuses-end i l g = left-end (map pos (drop n slots)) i (omega (arith, statuses-length)) g
+  pub statuses-end : (i : ℕ) {xs ys : List ℕ} {at p : ℕ} → k ≤ i → Left statuses i xs ys at p → Written (spaced statuses) xs ys at p
+  statuses-end i l g = left-end statuses i (omega (arith, statuses-length)) g
 
 -- the two cases of a pattern
 pub pattern-plain : (p : ℕ) {xs ys : List ℕ} {at r : ℕ} → p < 32768 → Written (decimal p) xs ys at r → Written (signedText (signed p)) xs ys at r

@@ -2,6 +2,7 @@
 use mathlib.Core.Path.{_≡_, refl, sym, ap, ap₂, subst, _∙_}
 use mathlib.Core.Bool.{Bool, true, false, cond}
 use mathlib.Core.List.{List, _∷_, _++_, map}
+use mathlib.Core.Option.{Option, none, some}
 use Prim.Native.Nat.{ℕ, suc, _+_, _*_, _-_, _<_, _≤_}
 use native.Mathlib.Omega.{arith}
 use native.Mathlib.Numerals.{add-one}
@@ -11,41 +12,51 @@ use lib.ListN.{length, getD, take, drop, drop-of-length-le, length-drop, length-
 use lib.Seq.{drop-cons, take-all}
 use borrow.Author.Tests.{eq-eqb, ne-eqb, le-leb, lt-leb, leb-true, leb-false, eqb-true}
 use Rattle.design.specs.Tree.{Design, movers}
-use Rattle.design.specs.State.{State, start}
-use Rattle.design.specs.Check.{Checked, refused, accepted, check, variableCount}
-use Rattle.design.specs.Answers.{refusal}
-use Rattle.design.specs.Places.{Accepted, CellsIndexed}
+use Rattle.design.specs.State.{State, Layout, layout, statusesIn, start}
+use Rattle.design.specs.Check.{Checked, refused, accepted, check, variableCount, matrixCount}
+use Rattle.design.specs.Answer.{Answer, answer, need}
+use Rattle.design.specs.declared.Refusal.{Refusal}
+use Rattle.design.specs.Places.{Accepted, Shaped, MoversIndexed}
 use Rattle.design.specs.Sections.{Parts}
 use Rattle.design.proofs.Sections.{whole}
 use Rattle.design.proofs.Places.{read}
-use Rattle.step.specs.Limits.{maxChoices}
+use Rattle.step.specs.Property.{Property, propertyOf}
+use Rattle.design.proofs.Widths.{layout-is}
+use Rattle.step.specs.Gate.{gate, refusalOf}
 use Rattle.step.specs.Pattern.{signed}
 use Rattle.step.specs.Interface.{firstWrong}
-use Rattle.step.specs.OneStep.{step, idle, property}
-use Rattle.step.specs.Operations.{refusedAt, unless, allRight, choicesRight, refuseReplay, replayed, REPLAY}
+use Rattle.step.specs.OneStep.{step, idle, holds}
+use Rattle.step.specs.Operations.{refusedAt, allRight, firstBreak, choicesRight, replayed, REPLAY}
 use Rattle.step.specs.declared.Replayed.{Replayed}
-use Rattle.step.specs.Ready.{externalsFrom}
-use Rattle.step.proofs.Answering.{all-below, count-movers}
+use Rattle.step.proofs.Answering.{all-below}
+use Rattle.design.specs.declared.shape.Shape.{Shape}
+use Rattle.design.proofs.Indexed.{count-movers}
+use Rattle.step.proofs.Gates.{in-range, zero-passed}
 use Rattle.text.specs.Text.{Written, maxLine}
-use Rattle.text.specs.Line.{line}
+use Rattle.text.specs.Line.{head, slotsText, line}
 use Rattle.text.specs.Trace.{stateLine, nextLines, stateLines, resultText, refusalText, traced, trace, maxRead, replayText}
 use Rattle.text.specs.Ready.{Replayable}
 use Rattle.text.proofs.Putting.{written-then, Rest, rest-start, rest-next, rest-end}
 
 -- the choices are below the number of movers, by the tables of the file
-pub choices-below : (file cs : List ℕ) → Replayable file cs → (cells : List ℕ) (normals nv : ℕ) → nv ≡ variableCount file → CellsIndexed file cells normals → (i : ℕ) → i < length cs → getD cs i 0 < normals + length (externalsFrom file 0 nv)
-choices-below file cs h cells normals nv q k i l =
-    let t = read file (h .design) in
-    let m = count-movers file cells normals nv (length (externalsFrom file 0 nv)) (h .design) q k refl (t .tree) (t .is) in
-    omega (arith, h .below (t .tree) (t .is) i l)
+pub choices-below : (file cs : List ℕ) → Replayable file cs → (cells : List ℕ) (h : Shape) → Shaped file h → MoversIndexed file cells h → (i : ℕ) → i < length cs → getD cs i 0 < h .normals + h .externals
+choices-below file cs r cells h s m i l =
+    let t = read file (r .design) in
+    omega (arith, r .below (t .tree) (t .is) i l, count-movers file cells h s m (t .tree) (t .is))
 
--- the line of a state, by the number of variables in the file
-pub state-written : (file : List ℕ) (d : Design) → Parts file d → (nv p i mover : ℕ) (idled holds : Bool) (s : State) {xs ys : List ℕ} {at r : ℕ} → nv ≡ variableCount file → holds ≡ property d p s
-    → Written (line i mover idled holds (take nv (map signed s)) (map pos (drop nv s))) xs ys at r → Written (stateLine d p i mover idled s) xs ys at r
-unfolding stateLine
-state-written file d w nv p i mover idled holds s {xs} {ys} {at} {r} e h g =
-    subst (λ (b : Bool). Written (line i mover idled b (take (length (d .variables)) (map signed s)) (map pos (drop (length (d .variables)) s))) xs ys at r) h
-    (subst (λ (k : ℕ). Written (line i mover idled holds (take k (map signed s)) (map pos (drop k s))) xs ys at r) (e ∙ sym (w .variable-count)) g)
+-- the line of a state, by the numbers of variables and matrices in the file
+pub state-written : (file : List ℕ) (d : Design) → Parts file d → (nv nm : ℕ) (p : Property) (i mover : ℕ) (idled held : Bool) (s : State) {xs ys zs : List ℕ} {at m r : ℕ}
+    → nv ≡ variableCount file → nm ≡ matrixCount file → held ≡ holds d p s
+    → Written (head i mover idled held) xs ys at m → Written (slotsText nv nm s) ys zs m r
+    → Written (stateLine d p i mover idled s) xs zs at r
+unfolding stateLine line
+state-written file d w nv nm p i mover idled held s {xs} {ys} {zs} {at} {m} {r} e q h g k =
+    let L = layout-is file d w nv nm e q in
+    let n : nm ≡ nv + nm - nv = omega arith in
+    subst (λ (b : Bool). Written (line i mover idled b (take (length (d .variables)) (map signed s)) (map pos (statusesIn (layout d) s))) xs zs at r) h
+    (subst (λ (l : Layout). Written (line i mover idled held (take (length (d .variables)) (map signed s)) (map pos (statusesIn l s))) xs zs at r) L
+    (subst (λ (v : ℕ). Written (line i mover idled held (take v (map signed s)) (map pos (take (nv + nm - nv) (drop nv s)))) xs zs at r) (e ∙ sym (w .variable-count))
+    (subst (λ (j : ℕ). Written (line i mover idled held (take nv (map signed s)) (map pos (take j (drop nv s)))) xs zs at r) n (written-then g k))))
 
 -- what is left of the choices, printed now, is the whole printed at the start
 pub record Printing (file : List ℕ) (p : ℕ) (cs : List ℕ) (s₀ : State) (xs : List ℕ) (at i : ℕ) (s : State) (ys : List ℕ) (q : ℕ) : Type 0 where
@@ -53,37 +64,37 @@ pub record Printing (file : List ℕ) (p : ℕ) (cs : List ℕ) (s₀ : State) (
   pub state : length s ≡ length s₀
   pub near : q ≤ at + maxLine * i
   pub size : length ys ≡ length xs
-  pub rest : (d : Design) → check file ≡ accepted d → Rest (nextLines d p i s (drop i cs)) (nextLines d p 0 s₀ cs) xs ys at q
+  pub rest : (d : Design) → check file ≡ accepted d → Rest (nextLines d (propertyOf d p) i s (drop i cs)) (nextLines d (propertyOf d p) 0 s₀ cs) xs ys at q
 
 pub printing-start : (file : List ℕ) (p : ℕ) (cs : List ℕ) (s : State) (xs : List ℕ) (at : ℕ) → Printing file p cs s xs at 0 s xs at
-printing-start file p cs s xs at = record { inside = omega arith; state = refl; near = omega arith; size = refl; rest = λ d e. rest-start (nextLines d p 0 s cs) xs at }
+printing-start file p cs s xs at = record { inside = omega arith; state = refl; near = omega arith; size = refl; rest = λ d e. rest-start (nextLines d (propertyOf d p) 0 s cs) xs at }
 
 module _ (file : List ℕ) (p : ℕ) (cs : List ℕ) (s₀ : State) (xs : List ℕ) (at i : ℕ) (s : State) (ys : List ℕ) (q : ℕ) (g : Printing file p cs s₀ xs at i s ys q) where
   next-lines : (d : Design) (c : ℕ) (s′ : State) (u : Bool) → i < length cs → c ≡ getD cs i 0 → (s′ ≡ step d s c) × (u ≡ idle d s c)
-      → nextLines d p i s (drop i cs) ≡ stateLine d p (suc i) c u s′ ++ nextLines d p (suc i) s′ (drop (suc i) cs)
+      → nextLines d (propertyOf d p) i s (drop i cs) ≡ stateLine d (propertyOf d p) (suc i) c u s′ ++ nextLines d (propertyOf d p) (suc i) s′ (drop (suc i) cs)
   unfolding nextLines
   next-lines d c s′ u l e k =
-      ap (nextLines d p i s) (drop-cons cs i 0 l ∙ ap (λ (x : ℕ). x ∷ drop (suc i) cs) (sym e))
-      ∙ ap₂ (λ (b : Bool) (t : State). stateLine d p (suc i) c b t ++ nextLines d p (suc i) t (drop (suc i) cs)) (sym (k .1)) (sym (k .0))
+      ap (nextLines d (propertyOf d p) i s) (drop-cons cs i 0 l ∙ ap (λ (x : ℕ). x ∷ drop (suc i) cs) (sym e))
+      ∙ ap₂ (λ (b : Bool) (t : State). stateLine d (propertyOf d p) (suc i) c b t ++ nextLines d (propertyOf d p) (suc i) t (drop (suc i) cs)) (sym (k .1)) (sym (k .0))
 
   pub printing-on : i < length cs → (c : ℕ) → c ≡ getD cs i 0 → (s′ : State) (u : Bool) → length s′ ≡ length s → ((d : Design) → check file ≡ accepted d → (s′ ≡ step d s c) × (u ≡ idle d s c)) → (zs : List ℕ) (r : ℕ)
-      → ((d : Design) (w : Parts file d) → Written (stateLine d p (i + 1) c u s′) ys zs q r) → r ≤ q + maxLine → length zs ≡ length ys → Printing file p cs s₀ xs at (i + 1) s′ zs r
+      → ((d : Design) (w : Parts file d) → Written (stateLine d (propertyOf d p) (i + 1) c u s′) ys zs q r) → r ≤ q + maxLine → length zs ≡ length ys → Printing file p cs s₀ xs at (i + 1) s′ zs r
   printing-on l c e s′ u n k zs r h m z = rw (add-one i) (record {
     inside = omega arith;
     state = n ∙ g .state;
     near = omega (arith, g .near);
     size = z ∙ g .size;
     rest = λ d t.
-        rest-next (stateLine d p (suc i) c u s′) (nextLines d p (suc i) s′ (drop (suc i) cs)) (next-lines d c s′ u l e (k d t)) (g .rest d t)
-        (subst (λ (j : ℕ). Written (stateLine d p j c u s′) ys zs q r) (add-one i) (h d (whole file d t .parts)));
+        rest-next (stateLine d (propertyOf d p) (suc i) c u s′) (nextLines d (propertyOf d p) (suc i) s′ (drop (suc i) cs)) (next-lines d c s′ u l e (k d t)) (g .rest d t)
+        (subst (λ (j : ℕ). Written (stateLine d (propertyOf d p) j c u s′) ys zs q r) (add-one i) (h d (whole file d t .parts)));
   })
 
-  pub printing-end : length cs ≤ i → (d : Design) → check file ≡ accepted d → Written (nextLines d p 0 s₀ cs) xs ys at q
+  pub printing-end : length cs ≤ i → (d : Design) → check file ≡ accepted d → Written (nextLines d (propertyOf d p) 0 s₀ cs) xs ys at q
   unfolding nextLines
-  printing-end l d e = rest-end (ap (nextLines d p i s) (drop-of-length-le cs l)) (g .rest d e)
+  printing-end l d e = rest-end (ap (nextLines d (propertyOf d p) i s) (drop-of-length-le cs l)) (g .rest d e)
 
 -- the first state's line and the others
-pub states-written : (d : Design) (p : ℕ) (cs : List ℕ) (s : State) {xs ys zs : List ℕ} {m r : ℕ} → s ≡ start d → Written (stateLine d p 0 0 false s) xs ys 0 m → Written (nextLines d p 0 s cs) ys zs m r → Written (stateLines d p cs) xs zs 0 r
+pub states-written : (d : Design) (p : Property) (cs : List ℕ) (s : State) {xs ys zs : List ℕ} {m r : ℕ} → s ≡ start d → Written (stateLine d p 0 0 false s) xs ys 0 m → Written (nextLines d p 0 s cs) ys zs m r → Written (stateLines d p cs) xs zs 0 r
 unfolding stateLines
 states-written d p cs s {xs} {ys} {zs} {m} {r} e g h = subst (λ (t : State). Written (stateLine d p 0 0 false t ++ nextLines d p 0 t cs) xs zs 0 r) e (written-then g h)
 
@@ -97,60 +108,58 @@ result-as b t i {xs} {ys} {at} {r} e w = subst (λ (u : Bool). Written (resultTe
 
 -- a call of REPLAY that is not refused
 module _ (file : List ℕ) (p : ℕ) (cs : List ℕ) where
-  unless-zero : (t : Bool) (n k : ℕ) (x : Replayed) → (n ≡ 0 → ⊥) → unless t (refuseReplay n k) x .refusal .number ≡ 0 → (t ≡ true) × (x .refusal .number ≡ 0)
-  unless-zero true n k x z e = (refl, e)
-  unless-zero false n k x z e = absurd (z e)
+  -- what REPLAY asks of a design, past the gate
+  abbrev asked : Design → Property → Answer (Option ℕ)
+  asked d q = need (allRight (choicesRight d cs)) 12 (firstWrong (choicesRight d cs)) (answer (firstBreak d q (start d) cs 0))
 
-  checked : (x : Checked) → replayed x p cs .refusal .number ≡ 0 → refusal x .number ≡ 0
-  checked (refused n k) e = e
-  checked (accepted d) e = refl
+  same-refusal : (a : Answer (Option ℕ)) → replayed a .refusal ≡ refusalOf a
+  same-refusal (Answer.refused n k) = refl
+  same-refusal (answer none) = refl
+  same-refusal (answer (some i)) = refl
 
-  record Right (d : Design) : Type 0 where
-    few : length cs ≤ maxChoices
-    below : (i : ℕ) → i < length cs → getD cs i 0 < length (movers d)
+  need-zero : (t : Bool) (n k : ℕ) (x : Answer (Option ℕ)) → (n ≡ 0 → ⊥) → refusalOf (need t n k x) .number ≡ 0 → t ≡ true
+  need-zero true n k x z e = refl
+  need-zero false n k x z e = absurd (z e)
 
-  right : (d : Design) → replayed (accepted d) p cs .refusal .number ≡ 0 → Right d
-  right d e =
-      let a = unless-zero (leb p 1) 13 0 _ (λ z. omega arith) e in
-      let b = unless-zero (leb (length cs) 100) 14 0 _ (λ z. omega arith) (a .1) in
-      let c = unless-zero (allRight (choicesRight d cs)) 12 (firstWrong (choicesRight d cs)) _ (λ z. omega arith) (b .1) in
-      record {
-        few = leb-true (length cs) 100 (b .0);
-        below = all-below cs (length (movers d)) (firstWrong (choicesRight d cs)) refl (let q = eqb-true (firstWrong (choicesRight d cs)) (length (choicesRight d cs)) (c .0) in let n : length (choicesRight d cs) ≡ length cs = length-map cs (λ (x : ℕ). ltb x (length (movers d))) in omega arith);
-      }
+  below-all : (d : Design) → allRight (choicesRight d cs) ≡ true → (i : ℕ) → i < length cs → getD cs i 0 < length (movers d)
+  below-all d e =
+      all-below cs (length (movers d)) (firstWrong (choicesRight d cs)) refl
+      (let q = eqb-true (firstWrong (choicesRight d cs)) (length (choicesRight d cs)) e in
+      let n : length (choicesRight d cs) ≡ length cs = length-map cs (λ (x : ℕ). ltb x (length (movers d))) in
+      omega arith)
 
   module _ (told : Replayed) (says : told ≡ REPLAY file p cs) where
-    answers : told ≡ replayed (check file) p cs
+    gated : told .refusal .number ≡ 0 → refusalOf (gate file p (length cs) asked) .number ≡ 0
     unfolding REPLAY
-    answers = says
-
-    zero-checked : told .refusal .number ≡ 0 → replayed (check file) p cs .refusal .number ≡ 0
-    zero-checked z = sym (ap (λ (x : Replayed). x .refusal .number) answers) ∙ z
-
-    zero-at : told .refusal .number ≡ 0 → (d : Design) → check file ≡ accepted d → replayed (accepted d) p cs .refusal .number ≡ 0
-    zero-at z d e = sym (ap (λ (x : Checked). replayed x p cs .refusal .number) e) ∙ zero-checked z
+    gated z = sym (ap (λ (r : Refusal). r .number) (ap (λ (x : Replayed). x .refusal) says ∙ same-refusal (gate file p (length cs) asked))) ∙ z
 
     pub replayable : told .refusal .number ≡ 0 → Replayable file cs
     replayable z =
-        let a : Accepted file = checked (check file) (zero-checked z) in
-        let t = read file a in
-        record { design = a; few = right (t .tree) (zero-at z (t .tree) (t .is)) .few; below = λ d e. right d (zero-at z d e) .below }
+        let g = zero-passed file p (length cs) asked (gated z) in
+        let t = read file (g .accepted) in
+        let q = sym (ap (λ (a : Answer (Option ℕ)). refusalOf a .number) (in-range file p (length cs) asked (g .accepted) (g .property) (g .bound))) ∙ gated z in
+        let r = need-zero (allRight (choicesRight (t .tree) cs)) 12 (firstWrong (choicesRight (t .tree) cs)) _ (λ y. omega arith) q in
+        record {
+          design = g .accepted;
+          few = g .bound;
+          below = λ d e. let same : t .tree ≡ d = cc (t .is, e) in below-all d (subst (λ (x : Design). allRight (choicesRight x cs) ≡ true) same r);
+        }
 
     refusal-traced : (x : Checked) → (told .refusal .number ≡ 0 → ⊥) → refusalText (told .refusal) ≡ traced x told p cs
     refusal-traced (refused n k) z = refl
-    refusal-traced (accepted d) z = sym (ap (λ (t : Bool). cond t (stateLines d p cs ++ resultText (told .broken) (told .step)) (refusalText (told .refusal))) (ne-eqb (told .refusal .number) 0 z))
+    refusal-traced (accepted d) z = sym (ap (λ (t : Bool). cond t (stateLines d (propertyOf d p) cs ++ resultText (told .broken) (told .step)) (refusalText (told .refusal))) (ne-eqb (told .refusal .number) 0 z))
 
     pub trace-refused : {xs ys : List ℕ} {at r : ℕ} → (told .refusal .number ≡ 0 → ⊥) → Written (refusalText (told .refusal)) xs ys at r → Written (trace file p cs) xs ys at r
     unfolding trace
     trace-refused {xs} {ys} {at} {r} z w = subst (λ (us : List ℕ). Written us xs ys at r) (refusal-traced (check file) z ∙ ap (λ (x : Replayed). traced (check file) x p cs) says) w
 
-    done-traced : (d : Design) → check file ≡ accepted d → told .refusal .number ≡ 0 → stateLines d p cs ++ resultText (told .broken) (told .step) ≡ trace file p cs
+    done-traced : (d : Design) → check file ≡ accepted d → told .refusal .number ≡ 0 → stateLines d (propertyOf d p) cs ++ resultText (told .broken) (told .step) ≡ trace file p cs
     unfolding trace
     done-traced d e z =
-        sym (ap (λ (t : Bool). cond t (stateLines d p cs ++ resultText (told .broken) (told .step)) (refusalText (told .refusal))) (eq-eqb (told .refusal .number) 0 z))
+        sym (ap (λ (t : Bool). cond t (stateLines d (propertyOf d p) cs ++ resultText (told .broken) (told .step)) (refusalText (told .refusal))) (eq-eqb (told .refusal .number) 0 z))
         ∙ ap₂ (λ (c : Checked) (x : Replayed). traced c x p cs) (sym e) says
 
-    pub trace-done : {xs ys zs : List ℕ} {at m r : ℕ} → told .refusal .number ≡ 0 → ((d : Design) → check file ≡ accepted d → Written (stateLines d p cs) xs ys at m) → Written (resultText (told .broken) (told .step)) ys zs m r → Written (trace file p cs) xs zs at r
+    pub trace-done : {xs ys zs : List ℕ} {at m r : ℕ} → told .refusal .number ≡ 0 → ((d : Design) → check file ≡ accepted d → Written (stateLines d (propertyOf d p) cs) xs ys at m) → Written (resultText (told .broken) (told .step)) ys zs m r → Written (trace file p cs) xs zs at r
     trace-done {xs} {ys} {zs} {at} {m} {r} z g h =
         let t = read file (replayable z .design) in
         subst (λ (us : List ℕ). Written us xs zs at r) (done-traced (t .tree) (t .is) z) (written-then (g (t .tree) (t .is)) h)

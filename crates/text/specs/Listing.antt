@@ -7,10 +7,12 @@ use lib.Dec.{leb}
 use lib.IntN.{ℤ, pos, negsuc}
 use lib.ListN.{length, getD, take, drop}
 use Rattle.design.specs.Tree.{Design}
+use Rattle.step.specs.Property.{Property}
+use Rattle.step.specs.Gate.{gate}
 use Rattle.step.specs.Operations.{refusedAt}
 use Rattle.clauses.specs.Words.{words, isEnd}
 use Rattle.clauses.specs.Formula.{part, formula}
-use Rattle.clauses.specs.Answer.{Answer, refused, answer, need, onDesign, maxProperty, maxBound}
+use Rattle.design.specs.Answer.{Answer, refused, answer, need}
 use Rattle.clauses.specs.Encode.{wordsToWrite}
 use Rattle.text.specs.Text.{digits, signedText}
 use Rattle.text.specs.Trace.{refusalText, maxRead}
@@ -33,7 +35,7 @@ abbrev pub maxWords : ℕ
 maxWords = 16384
 
 -- no part is, of so many from part i on
-unfoldable pub noneOver : Design → ℕ → ℕ → ℕ → ℕ → Bool
+unfoldable pub noneOver : Design → Property → ℕ → ℕ → ℕ → Bool
 noneOver d p k zero i = true
 noneOver d p k (suc m) i = leb (length (words (part d p k i))) maxWords && noneOver d p k m (suc i)
 
@@ -41,11 +43,9 @@ noneOver d p k (suc m) i = leb (length (words (part d p k i))) maxWords && noneO
 -- "It refuses likewise; a part over 16,384 words gives `refused 16 at 0` and nothing else."
 unfoldable pub wordsToPrint : List ℕ → ℕ → ℕ → Answer (List ℤ)
 wordsToPrint file p k =
-    onDesign file λ d.
-    need (leb p maxProperty) 13 0
-    (need (leb k maxBound) 14 0
-    (need (noneOver d p k (k + 3) 0) 16 0
-    (answer (words (formula d p k)))))
+    gate file p k λ d q.
+    need (noneOver d q k (k + 3) 0) 16 0
+    (answer (words (formula d q k)))
 
 -- a refusal is printed alone
 abbrev pub printed : Answer (List ℤ) → List ℕ

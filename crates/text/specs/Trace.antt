@@ -7,21 +7,24 @@ use lib.Dec.{eqb, leb}
 use lib.IntN.{pos}
 use lib.ListN.{length, getD, take, drop}
 use Rattle.design.specs.Tree.{Design}
-use Rattle.design.specs.State.{State, start}
+use Rattle.design.specs.State.{State, layout, statusesIn, start}
 use Rattle.design.specs.Check.{Checked, refused, accepted, check, checking}
+use Rattle.design.specs.Answer.{onDesign}
 use Rattle.design.specs.DesignA.{bytesA}
 use Rattle.design.specs.declared.Refusal.{Refusal}
+use Rattle.step.specs.Property.{Property, propertyOf}
+use Rattle.step.specs.Gate.{gate}
 use Rattle.step.specs.Pattern.{signed}
-use Rattle.step.specs.OneStep.{step, idle, property, stepping}
+use Rattle.step.specs.OneStep.{step, idle, holds, stepping}
 use Rattle.step.specs.Operations.{refusedAt, firstBreak, REPLAY}
 use Rattle.step.specs.declared.Replayed.{Replayed}
 use Rattle.text.specs.Text.{digits, decimal}
-use Rattle.text.specs.Line.{spaced, head, line}
+use Rattle.text.specs.Line.{spaced, head, tail, line}
 
-module _ (d : Design) (p : ℕ) where
+module _ (d : Design) (p : Property) where
   -- the line of a state, with the step and the mover that led to it: variables as signed numbers, then statuses
   unfoldable pub stateLine : ℕ → ℕ → Bool → State → List ℕ
-  stateLine i mover idled s = line i mover idled (property d p s) (take (length (d .variables)) (map signed s)) (map pos (drop (length (d .variables)) s))
+  stateLine i mover idled s = line i mover idled (holds d p s) (take (length (d .variables)) (map signed s)) (map pos (statusesIn (layout d) s))
 
   -- the lines after step i: "Every choice is printed, past a break too."
   unfoldable pub nextLines : ℕ → State → List ℕ → List ℕ
@@ -43,7 +46,7 @@ refusalText r = (114 ∷ 101 ∷ 102 ∷ 117 ∷ 115 ∷ 101 ∷ 100 ∷ 32 ∷ 
 -- by CHECK's answer and REPLAY's: a refusal is printed alone
 abbrev pub traced : Checked → Replayed → ℕ → List ℕ → List ℕ
 traced (refused number place) r p cs = refusalText (r .refusal)
-traced (accepted d) r p cs = cond (eqb (r .refusal .number) 0) (stateLines d p cs ++ resultText (r .broken) (r .step)) (refusalText (r .refusal))
+traced (accepted d) r p cs = cond (eqb (r .refusal .number) 0) (stateLines d (propertyOf d p) cs ++ resultText (r .broken) (r .step)) (refusalText (r .refusal))
 
 unfoldable pub trace : List ℕ → ℕ → List ℕ → List ℕ
 trace file p cs = traced (check file) (REPLAY file p cs) p cs
@@ -68,5 +71,5 @@ replay-A : replayText (0 ∷ 3 ∷ 2 ∷ 0 ∷ 1 ∷ bytesA) ≡
     50 ∷ 32 ∷ 48 ∷ 32 ∷ 48 ∷ 32 ∷ 49 ∷ 32 ∷ 49 ∷ 32 ∷ 49 ∷ 32 ∷ 124 ∷ 32 ∷ 49 ∷ 10 ∷
     51 ∷ 32 ∷ 49 ∷ 32 ∷ 48 ∷ 32 ∷ 48 ∷ 32 ∷ 49 ∷ 32 ∷ 50 ∷ 32 ∷ 124 ∷ 32 ∷ 48 ∷ 10 ∷
     98 ∷ 114 ∷ 111 ∷ 107 ∷ 101 ∷ 110 ∷ 32 ∷ 97 ∷ 116 ∷ 32 ∷ 51 ∷ 10 ∷ []
-unfolding replayText trace stateLine nextLines stateLines resultText line head spaced digits signed REPLAY firstBreak stepping checking bytesA
+unfolding replayText trace stateLine nextLines stateLines resultText line head tail spaced digits signed REPLAY gate onDesign firstBreak stepping checking bytesA
 replay-A = refl

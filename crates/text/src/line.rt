@@ -1,11 +1,11 @@
 // Lines of the Replay program.
 ghost use mathlib.Core.List.{map};
-ghost use Prim.Native.Nat.{_+_, _-_, _*_, _≤_};
+ghost use Prim.Native.Nat.{_+_, _*_, _≤_};
 ghost use lib.IntN.{pos};
 ghost use lib.ListN.{length, take, drop};
 ghost use Rattle.step.specs.Pattern.{signed};
-ghost use Rattle.text.specs.Text.{Written, maxLine};
-ghost use Rattle.text.specs.Line.{spaced, moverText, flagText, head, line};
+ghost use Rattle.text.specs.Text.{Written};
+ghost use Rattle.text.specs.Line.{spaced, moverText, flagText, head, slotsText};
 use super::number::put_byte;
 use super::number::put_decimal;
 use super::number::put_pattern;
@@ -25,14 +25,14 @@ pub fn put_values(out: &mut [u8], at: usize, n: usize, slots: &[u16]) -> usize
     p
 }
 
-// The statuses, which are the slots from n on, likewise.
-pub fn put_statuses(out: &mut [u8], at: usize, n: usize, slots: &[u16]) -> usize
-    requires { ⌜ (n ≤ length (now slots)) × (at + 22 * (length (now slots) - n) ≤ length (now out)) ⌝ }
-    ensures { λ r. ⌜ Written (spaced (map pos (drop n (now (slots .entry))))) (now (out .entry)) (now (out .exit)) at r × (r ≤ at + 22 * (length (now (slots .entry)) - n)) ⌝ }
+// The statuses, which are the k slots from n on, likewise.
+pub fn put_statuses(out: &mut [u8], at: usize, n: usize, k: usize, slots: &[u16]) -> usize
+    requires { ⌜ (n + k ≤ length (now slots)) × (at + 22 * k ≤ length (now out)) ⌝ }
+    ensures { λ r. ⌜ Written (spaced (map pos (take k (drop n (now (slots .entry)))))) (now (out .entry)) (now (out .exit)) at r × (r ≤ at + 22 * k) ⌝ }
 {
     let mut p = at;
     let mut i = 0;
-    while i < slots.len() - n {
+    while i < k {
         let m = put_byte(out, p, 32);
         p = put_decimal(out, m, slots[n + i] as usize);
         i = i + 1;
@@ -65,8 +65,15 @@ fn put_flag(out: &mut [u8], at: usize, flag: bool) -> usize
     }
 }
 
-// Step, mover, idle, property holds.
-fn put_head(out: &mut [u8], at: usize, step: usize, mover: usize, idle: bool, holds: bool) -> usize
+// Step, mover, idle, property holds: the first fields of a line.
+pub fn put_head(
+    out: &mut [u8],
+    at: usize,
+    step: usize,
+    mover: usize,
+    idle: bool,
+    holds: bool,
+) -> usize
     requires { ⌜ at + 45 ≤ length (now out) ⌝ }
     ensures { λ r. ⌜ Written (head step mover idle holds) (now (out .entry)) (now (out .exit)) at r × (r ≤ at + 45) ⌝ }
 {
@@ -77,24 +84,14 @@ fn put_head(out: &mut [u8], at: usize, step: usize, mover: usize, idle: bool, ho
     put_flag(out, d, holds)
 }
 
-// The line of a state, whose first n slots are variables.
-pub fn put_line(
-    out: &mut [u8],
-    at: usize,
-    step: usize,
-    mover: usize,
-    idle: bool,
-    holds: bool,
-    n: usize,
-    slots: &[u16],
-) -> usize
-    requires { ⌜ (at + maxLine ≤ length (now out)) × (n ≤ 32) × (n ≤ length (now slots)) × (length (now slots) ≤ n + 8) ⌝ }
-    ensures { λ r. ⌜ Written (line step mover idle holds (take n (map signed (now (slots .entry)))) (map pos (drop n (now (slots .entry))))) (now (out .entry)) (now (out .exit)) at r × (r ≤ at + maxLine) ⌝ }
+// The other fields: the first n slots are variables, the k slots after them statuses.
+pub fn put_tail(out: &mut [u8], at: usize, n: usize, k: usize, slots: &[u16]) -> usize
+    requires { ⌜ (at + 22 * n + 22 * k + 3 ≤ length (now out)) × (n + k ≤ length (now slots)) ⌝ }
+    ensures { λ r. ⌜ Written (slotsText n k (now (slots .entry))) (now (out .entry)) (now (out .exit)) at r × (r ≤ at + 22 * n + 22 * k + 3) ⌝ }
 {
-    let a = put_head(out, at, step, mover, idle, holds);
-    let b = put_values(out, a, n, slots);
+    let b = put_values(out, at, n, slots);
     let c = put_byte(out, b, 32);
     let d = put_byte(out, c, 124);
-    let e = put_statuses(out, d, n, slots);
+    let e = put_statuses(out, d, n, k, slots);
     put_byte(out, e, 10)
 }

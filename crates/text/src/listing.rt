@@ -64,7 +64,7 @@ fn put_part(
     requires { ⌜ (length (now words) ≡ 16384) × (360448 ≤ length (now out)) ⌝ }
     ensures { λ r. ⌜ Written (partText (now (file .entry)) property bound part) (now (out .entry)) (now (out .exit)) 0 r × (r ≤ 360448) ⌝ }
 {
-    match encode(file, property, bound, part, words) {
+    match encode(file, property as u64, bound as u64, part, words) {
         EncodeReply::Refused { number, place } => put_refusal(out, number, place),
         EncodeReply::Encoded(count) => {
             let n = count as usize;
@@ -77,7 +77,7 @@ fn put_part(
 fn refuses(file: &[u8], property: u8, bound: u8, part: u64, words: &mut [i32]) -> bool
     ensures { λ r. ⌜ r ≡ isRefused (wordsToWrite (now (file .entry)) property bound part (length (now (words .entry)))) ⌝ }
 {
-    match encode(file, property, bound, part, words) {
+    match encode(file, property as u64, bound as u64, part, words) {
         EncodeReply::Refused {
             number: _,
             place: _,

@@ -4,24 +4,30 @@ ghost use Prim.Native.Nat.{ℕ, _+_, _*_, _≤_, _<_};
 ghost use lib.ListN.{length, getD, replicate};
 ghost use Rattle.design.specs.Tree.{Design};
 ghost use Rattle.design.specs.Check.{check, accepted};
-ghost use Rattle.design.specs.Places.{CellsIndexed};
+ghost use Rattle.design.specs.Places.{MoversIndexed};
+ghost use Rattle.design.specs.State.{slotCount};
 ghost use Rattle.design.specs.Sections.{Parts};
+ghost use Rattle.step.specs.Property.{propertyOf};
 ghost use Rattle.step.specs.Operations.{refusedAt};
-ghost use Rattle.step.specs.Ready.{Ready, externalsFrom};
+ghost use Rattle.step.specs.Ready.{Ready};
 ghost use Rattle.text.specs.Text.{Written, maxLine, maxText};
 ghost use Rattle.text.specs.Trace.{stateLine, nextLines, stateLines, resultText, refusalText, trace, replayText};
 ghost use Rattle.text.specs.Ready.{Replayable};
 use super::input::design_end;
-use super::line::put_line;
+use super::line::put_head;
+use super::line::put_tail;
 use super::number::put_byte;
 use super::number::put_bytes;
 use super::number::put_decimal;
 use design::bytes::wide;
-use design::index::MATRICES;
-use design::index::VARIABLES;
 use design::index::index_cells;
 use design::index::index_events;
-use design::index::trailer_word;
+use design::index::shape;
+use design::limits::EVENT_PLACES;
+use design::limits::MAX_MOVERS;
+use design::limits::MAX_SLOTS;
+use design::shape::Shape;
+use design::shape::slot_count;
 use step::mover::move_chosen;
 use step::property::property_true;
 use step::replaying::load_start;
@@ -54,10 +60,9 @@ pub fn put_result(out: &mut [u8], at: usize, broken: bool, step: usize) -> usize
 // The line of the state in `slots`.
 pub fn put_state(
     file: &[u8],
-    events: &[u16; 128],
-    nv: usize,
-    nm: usize,
-    property: u8,
+    events: &[u16; EVENT_PLACES],
+    shape: Shape,
+    property: u64,
     step: usize,
     mover: usize,
     idle: bool,
@@ -65,37 +70,36 @@ pub fn put_state(
     out: &mut [u8],
     at: usize,
 ) -> usize
-    requires { ⌜ Ready (now file) (now events) nv nm (now slots) × (at + maxLine ≤ length (now out)) ⌝ }
-    ensures { λ r. ⌜ ((d : Design) (w : Parts (now (file .entry)) d) → Written (stateLine d property step mover idle (now (slots .entry))) (now (out .entry)) (now (out .exit)) at r) × (r ≤ at + maxLine) × (length (now (out .exit)) ≡ length (now (out .entry))) ⌝ }
+    requires { ⌜ Ready (now file) (now events) shape (now slots) × (at + maxLine ≤ length (now out)) ⌝ }
+    ensures { λ r. ⌜ ((d : Design) (w : Parts (now (file .entry)) d) → Written (stateLine d (propertyOf d property) step mover idle (now (slots .entry))) (now (out .entry)) (now (out .exit)) at r) × (r ≤ at + maxLine) × (length (now (out .exit)) ≡ length (now (out .entry))) ⌝ }
 {
-    let holds = property_true(file, events, nv, nm, property, slots);
-    put_line(out, at, step, mover, idle, holds, nv, slots)
+    let holds = property_true(file, events, shape, property, slots);
+    let a = put_head(out, at, step, mover, idle, holds);
+    put_tail(out, a, shape.variables, shape.matrices, slots)
 }
 
 // The lines after the state in `slots`: each choice acts on the slots in place.
 pub fn put_next(
     file: &[u8],
-    events: &[u16; 128],
-    cells: &[u16; 64],
-    normals: usize,
-    nv: usize,
-    nm: usize,
-    property: u8,
+    events: &[u16; EVENT_PLACES],
+    cells: &[u16; MAX_MOVERS],
+    shape: Shape,
+    property: u64,
     choices: &[u8],
     slots: &mut [u16],
     out: &mut [u8],
     at: usize,
 ) -> usize
-    requires { ⌜ Ready (now file) (now events) nv nm (now slots) × CellsIndexed (now file) (now cells) normals × (at + maxLine * length (now choices) ≤ length (now out)) × ((i : ℕ) → i < length (now choices) → getD (now choices) i 0 < normals + length (externalsFrom (now file) 0 nv)) ⌝ }
-    ensures { λ r. ⌜ ((d : Design) → check (now (file .entry)) ≡ accepted d → Written (nextLines d property 0 (now (slots .entry)) (now (choices .entry))) (now (out .entry)) (now (out .exit)) at r) × (r ≤ at + maxLine * length (now (choices .entry))) × (length (now (out .exit)) ≡ length (now (out .entry))) ⌝ }
+    requires { ⌜ Ready (now file) (now events) shape (now slots) × MoversIndexed (now file) (now cells) shape × (at + maxLine * length (now choices) ≤ length (now out)) × ((i : ℕ) → i < length (now choices) → getD (now choices) i 0 < shape .normals + shape .externals) ⌝ }
+    ensures { λ r. ⌜ ((d : Design) → check (now (file .entry)) ≡ accepted d → Written (nextLines d (propertyOf d property) 0 (now (slots .entry)) (now (choices .entry))) (now (out .entry)) (now (out .exit)) at r) × (r ≤ at + maxLine * length (now (choices .entry))) × (length (now (out .exit)) ≡ length (now (out .entry))) ⌝ }
 {
     let mut p = at;
     let mut i = 0;
     while i < choices.len() {
         let c = wide(choices[i]);
-        let idle = move_chosen(file, events, cells, normals, nv, nm, c, slots);
+        let idle = move_chosen(file, events, cells, shape, c, slots);
         i = i + 1;
-        p = put_state(file, events, nv, nm, property, i, c, idle, slots, out, p);
+        p = put_state(file, events, shape, property, i, c, idle, slots, out, p);
     }
     p
 }
@@ -103,56 +107,39 @@ pub fn put_next(
 // The lines of all states, at the front; by slots that are 0.
 pub fn put_states(
     file: &[u8],
-    events: &[u16; 128],
-    cells: &[u16; 64],
-    normals: usize,
-    nv: usize,
-    nm: usize,
-    property: u8,
+    events: &[u16; EVENT_PLACES],
+    cells: &[u16; MAX_MOVERS],
+    shape: Shape,
+    property: u64,
     choices: &[u8],
     slots: &mut [u16],
     out: &mut [u8],
 ) -> usize
-    requires { ⌜ Ready (now file) (now events) nv nm (now slots) × CellsIndexed (now file) (now cells) normals × (maxLine + maxLine * length (now choices) ≤ length (now out)) × ((i : ℕ) → i < length (now choices) → getD (now choices) i 0 < normals + length (externalsFrom (now file) 0 nv)) × (now slots ≡ replicate (nv + nm) 0) ⌝ }
-    ensures { λ r. ⌜ ((d : Design) → check (now (file .entry)) ≡ accepted d → Written (stateLines d property (now (choices .entry))) (now (out .entry)) (now (out .exit)) 0 r) × (r ≤ maxLine + maxLine * length (now (choices .entry))) × (length (now (out .exit)) ≡ length (now (out .entry))) ⌝ }
+    requires { ⌜ Ready (now file) (now events) shape (now slots) × MoversIndexed (now file) (now cells) shape × (maxLine + maxLine * length (now choices) ≤ length (now out)) × ((i : ℕ) → i < length (now choices) → getD (now choices) i 0 < shape .normals + shape .externals) × (now slots ≡ replicate (slotCount shape) 0) ⌝ }
+    ensures { λ r. ⌜ ((d : Design) → check (now (file .entry)) ≡ accepted d → Written (stateLines d (propertyOf d property) (now (choices .entry))) (now (out .entry)) (now (out .exit)) 0 r) × (r ≤ maxLine + maxLine * length (now (choices .entry))) × (length (now (out .exit)) ≡ length (now (out .entry))) ⌝ }
 {
-    load_start(file, nv, nm, slots);
-    let a = put_state(file, events, nv, nm, property, 0, 0, false, slots, out, 0);
-    put_next(
-        file,
-        events,
-        cells,
-        normals,
-        nv,
-        nm,
-        property,
-        choices,
-        slots,
-        out,
-        a,
-    )
+    load_start(file, shape, slots);
+    let a = put_state(file, events, shape, property, 0, 0, false, slots, out, 0);
+    put_next(file, events, cells, shape, property, choices, slots, out, a)
 }
 
 // The lines of all states, for a call of REPLAY that is not refused.
-pub fn put_run(file: &[u8], property: u8, choices: &[u8], out: &mut [u8]) -> usize
+pub fn put_run(file: &[u8], property: u64, choices: &[u8], out: &mut [u8]) -> usize
     requires { ⌜ Replayable (now file) (now choices) × (maxLine + maxLine * length (now choices) ≤ length (now out)) ⌝ }
-    ensures { λ r. ⌜ ((d : Design) → check (now (file .entry)) ≡ accepted d → Written (stateLines d property (now (choices .entry))) (now (out .entry)) (now (out .exit)) 0 r) × (r ≤ maxLine + maxLine * length (now (choices .entry))) × (length (now (out .exit)) ≡ length (now (out .entry))) ⌝ }
+    ensures { λ r. ⌜ ((d : Design) → check (now (file .entry)) ≡ accepted d → Written (stateLines d (propertyOf d property) (now (choices .entry))) (now (out .entry)) (now (out .exit)) 0 r) × (r ≤ maxLine + maxLine * length (now (choices .entry))) × (length (now (out .exit)) ≡ length (now (out .entry))) ⌝ }
 {
-    let nv = trailer_word(file, VARIABLES);
-    let nm = trailer_word(file, MATRICES);
-    let mut cells = [0u16; 64];
+    let mut cells = [0u16; MAX_MOVERS];
     let normals = index_cells(file, &mut cells);
-    let mut events = [0u16; 128];
+    let shape = shape(file, normals);
+    let mut events = [0u16; EVENT_PLACES];
     index_events(file, &mut events);
-    let mut all = [0u16; 40];
-    let n = nv + nm;
+    let mut all = [0u16; MAX_SLOTS];
+    let n = slot_count(shape);
     put_states(
         file,
         &events,
         &cells,
-        normals,
-        nv,
-        nm,
+        shape,
         property,
         choices,
         &mut all[..n],
@@ -165,12 +152,12 @@ pub fn put_trace(file: &[u8], property: u8, choices: &[u8], out: &mut [u8]) -> u
     requires { ⌜ maxText ≤ length (now out) ⌝ }
     ensures { λ r. ⌜ Written (trace (now (file .entry)) property (now (choices .entry))) (now (out .entry)) (now (out .exit)) 0 r × (r ≤ maxText) ⌝ }
 {
-    let told = step::replay(file, property, choices);
+    let told = step::replay(file, property as u64, choices);
     let refusal = told.refusal;
     if refusal.number != 0 {
         return put_refusal(out, refusal.number, refusal.place);
     }
-    let a = put_run(file, property, choices, out);
+    let a = put_run(file, property as u64, choices, out);
     put_result(out, a, told.broken, told.step)
 }
 

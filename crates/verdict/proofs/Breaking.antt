@@ -9,11 +9,11 @@ use lib.Dec.{leb}
 use lib.ListN.{length, take}
 use lib.Seq.{length-take-le}
 use borrow.Author.Tests.{le-leb}
-use Rattle.design.specs.Tree.{Design}
+use Rattle.design.specs.Tree.{Design, movers}
 use Rattle.design.specs.State.{State, start}
-use Rattle.step.specs.OneStep.{step, run, property, breaksAt, breaksFrom, breaks}
-use Rattle.clauses.specs.Formula.{w}
-use Rattle.clauses.specs.Theorem.{AllBelow, Breaking}
+use Rattle.step.specs.Property.{Property}
+use Rattle.step.specs.OneStep.{step, run, holds, breaksAt, breaksFrom, breaks}
+use Rattle.step.specs.Breaking.{AllBelow, Breaking}
 use Rattle.verdict.specs.Claim.{NoneShorter}
 
 below-take : (m i : ℕ) (cs : List ℕ) → AllBelow m cs → AllBelow m (take i cs)
@@ -28,16 +28,16 @@ take-whole (suc i) [] e = absurd (omega arith)
 take-whole (suc i) (c ∷ cs) e = ap (λ (l : List ℕ). c ∷ l) (take-whole i cs (omega arith))
 
 -- the property is false at a list's end, or a shorter beginning of the list breaks it
-abbrev Broken : (d : Design) (p : ℕ) (s : State) (cs : List ℕ) → Type 0
-Broken d p s cs = (not (property d p (run d s cs)) ≡ true) ⊎ ((i : ℕ) × (i < length cs) × (breaksFrom d p s (take i cs) ≡ true))
+abbrev Broken : (d : Design) (p : Property) (s : State) (cs : List ℕ) → Type 0
+Broken d p s cs = (not (holds d p (run d s cs)) ≡ true) ⊎ ((i : ℕ) × (i < length cs) × (breaksFrom d p s (take i cs) ≡ true))
 
-module _ (d : Design) (p : ℕ) where
+module _ (d : Design) (p : Property) where
   broken : (s : State) (cs : List ℕ) → breaksFrom d p s cs ≡ true → Broken d p s cs
   unfolding breaksFrom run
   broken s [] e = inl e
-  broken s (c ∷ cs) e = go (not (property d p s)) refl e (broken (step d s c) cs)
+  broken s (c ∷ cs) e = go (not (holds d p s)) refl e (broken (step d s c) cs)
     where
-      go : (b : Bool) → not (property d p s) ≡ b → b || breaksFrom d p (step d s c) cs ≡ true → (breaksFrom d p (step d s c) cs ≡ true → Broken d p (step d s c) cs)
+      go : (b : Bool) → not (holds d p s) ≡ b → b || breaksFrom d p (step d s c) cs ≡ true → (breaksFrom d p (step d s c) cs ≡ true → Broken d p (step d s c) cs)
           → Broken d p s (c ∷ cs)
       go true q h f = inr (0, omega arith, q)
       go false q h f = on (f h)
@@ -54,12 +54,12 @@ module _ (d : Design) (p : ℕ) where
       long : length cs ≡ i
       long = b .long
 
-      go : Broken d p (start d) cs → leb i (length cs) && not (property d p (run d (start d) (take i cs))) ≡ true
+      go : Broken d p (start d) cs → leb i (length cs) && not (holds d p (run d (start d) (take i cs))) ≡ true
       go (inl e) = rw (le-leb i (length cs) (omega arith), take-whole i cs long, e)
       go (inr (j, l, e)) =
           absurd (none j (omega arith) (record {
             list = take j cs;
             short = omega (arith, length-take-le j cs (omega arith));
-            movers = below-take (w d) j cs (b .movers);
+            movers = below-take (length (movers d)) j cs (b .movers);
             breaks = e;
           }))

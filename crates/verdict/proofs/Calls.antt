@@ -9,9 +9,12 @@ use lib.ListN.{length, getD}
 use borrow.Author.Tests.{leb-true, le-leb}
 use Rattle.design.specs.Tree.{Design}
 use Rattle.design.specs.Check.{Checked, check}
+use Rattle.step.specs.Property.{Property, propertyOf}
+use Rattle.step.specs.Gate.{gate}
 use Rattle.clauses.specs.Words.{words}
 use Rattle.clauses.specs.Formula.{n, formula}
-use Rattle.clauses.specs.Answer.{Answer, refused, answer, need, ofChecked, onDesign, maxProperty, maxBound}
+use Rattle.design.specs.Answer.{Answer, refused, answer, need, ofChecked, onDesign}
+use Rattle.step.specs.Limits.{lastProperty, maxBound}
 use Rattle.clauses.specs.Size.{Sizes, sizesOf, size}
 use Rattle.verdict.specs.Verdict.{Told, judge, Memory, After, memoryLeft, roomFor, afterCall, verdict}
 use Rattle.verdict.specs.Answers.{exit}
@@ -36,13 +39,13 @@ after-answer lent (refused number place) told e = absurd (let z : _≡_ {A = ℕ
 after-answer lent (answer (t, m)) told e = let q : t ≡ told = cc in (m, ap (λ (x : Told). answer (x, m)) q, refl)
 
 -- there is room for the full bound
-pub record Room (d : Design) (p k : ℕ) (lent : Memory) : Type 0 where
+pub record Room (d : Design) (p : Property) (k : ℕ) (lent : Memory) : Type 0 where
   pub clauses : length (words (formula d p k)) ≤ length (lent .clauses)
   pub values : n d p k ≤ length (lent .values)
   pub trail : n d p k ≤ length (lent .trail)
   pub choices : k ≤ length (lent .choices)
 
-module _ (d : Design) (p k : ℕ) (lent : Memory) where
+module _ (d : Design) (p : Property) (k : ℕ) (lent : Memory) where
   pub room-for : roomFor d p k lent ≡ true → Room d p k lent
   unfolding roomFor
   room-for e =
@@ -80,46 +83,46 @@ module _ (d : Design) (p k : ℕ) (lent : Memory) where
 
 -- what a call that answers was given, and what it left
 pub record Answered (file : List ℕ) (d : Design) (p k budget : ℕ) (lent : Memory) (told : Told) : Type 0 where
-  pub property : p ≤ maxProperty
+  pub property : p ≤ lastProperty
   pub bound : k ≤ maxBound
-  pub room : Room d p k lent
-  pub same : (judge d p k budget) .told ≡ told
-  pub memory : (verdict file p k budget lent) .memory ≡ memoryLeft file d p (judge d p k budget) lent
+  pub room : Room d (propertyOf d p) k lent
+  pub same : (judge d (propertyOf d p) k budget) .told ≡ told
+  pub memory : (verdict file p k budget lent) .memory ≡ memoryLeft file d p (judge d (propertyOf d p) k budget) lent
 
 module _ (file : List ℕ) (d : Design) (e : check file ≡ Checked.accepted d) (p k budget : ℕ) (lent : Memory) where
   abbrev last : Answer (Told × Memory)
-  last = answer ((judge d p k budget) .told, memoryLeft file d p (judge d p k budget) lent)
+  last = answer ((judge d (propertyOf d p) k budget) .told, memoryLeft file d p (judge d (propertyOf d p) k budget) lent)
 
   abbrev called : Answer (Told × Memory)
-  called = need (leb p maxProperty) 13 0 (need (leb k maxBound) 14 0 (need (roomFor d p k lent) 16 0 last))
+  called = need (leb p lastProperty) 13 0 (need (leb k maxBound) 14 0 (need (roomFor d (propertyOf d p) k lent) 16 0 last))
 
   verdict-is : verdict file p k budget lent ≡ afterCall lent called
-  unfolding verdict onDesign
+  unfolding verdict gate onDesign
   verdict-is = rw e
 
   pub answered : (told : Told) → (verdict file p k budget lent) .answer ≡ answer told → Answered file d p k budget lent told
   answered told h =
       let a = after-answer lent called told (ap (λ (x : After). x .answer) (sym verdict-is) ∙ h) in
-      let t₁ = need-true (leb p maxProperty) 13 0 (need (leb k maxBound) 14 0 (need (roomFor d p k lent) 16 0 last)) (told, a .0) (a .1) in
-      let t₂ = need-true (leb k maxBound) 14 0 (need (roomFor d p k lent) 16 0 last) (told, a .0) (t₁ .1) in
-      let t₃ = need-true (roomFor d p k lent) 16 0 last (told, a .0) (t₂ .1) in
+      let t₁ = need-true (leb p lastProperty) 13 0 (need (leb k maxBound) 14 0 (need (roomFor d (propertyOf d p) k lent) 16 0 last)) (told, a .0) (a .1) in
+      let t₂ = need-true (leb k maxBound) 14 0 (need (roomFor d (propertyOf d p) k lent) 16 0 last) (told, a .0) (t₁ .1) in
+      let t₃ = need-true (roomFor d (propertyOf d p) k lent) 16 0 last (told, a .0) (t₂ .1) in
       let q = same-answer _ (told, a .0) (t₃ .1) in
       record {
-        property = leb-true p maxProperty (t₁ .0);
+        property = leb-true p lastProperty (t₁ .0);
         bound = leb-true k maxBound (t₂ .0);
-        room = room-for d p k lent (t₃ .0);
+        room = room-for d (propertyOf d p) k lent (t₃ .0);
         same = ap (λ (x : Told × Memory). x .0) q;
         memory = ap (λ (x : After). x .memory) verdict-is ∙ a .2 ∙ ap (λ (x : Told × Memory). x .1) (sym q);
       }
 
-  module _ (low : p ≤ maxProperty) (few : k ≤ maxBound) where
+  module _ (low : p ≤ lastProperty) (few : k ≤ maxBound) where
     -- "16 clauses, values, trail or choices short for the full bound"
-    pub short : (Room d p k lent → ⊥) → verdict file p k budget lent ≡ record { answer = refused 16 0; memory = lent }
-    short h = verdict-is ∙ rw (le-leb p maxProperty low, le-leb k maxBound few, no-room d p k lent h)
+    pub short : (Room d (propertyOf d p) k lent → ⊥) → verdict file p k budget lent ≡ record { answer = refused 16 0; memory = lent }
+    short h = verdict-is ∙ rw (le-leb p lastProperty low, le-leb k maxBound few, no-room d (propertyOf d p) k lent h)
 
     -- else it answers
-    pub answers : Room d p k lent → verdict file p k budget lent ≡ record { answer = answer ((judge d p k budget) .told); memory = memoryLeft file d p (judge d p k budget) lent }
-    answers r = verdict-is ∙ rw (le-leb p maxProperty low, le-leb k maxBound few, for-room d p k lent r)
+    pub answers : Room d (propertyOf d p) k lent → verdict file p k budget lent ≡ record { answer = answer ((judge d (propertyOf d p) k budget) .told); memory = memoryLeft file d p (judge d (propertyOf d p) k budget) lent }
+    answers r = verdict-is ∙ rw (le-leb p lastProperty low, le-leb k maxBound few, for-room d (propertyOf d p) k lent r)
 
 -- What SIZE refuses, VERDICT refuses, by the same number and place.
 refused-all : (t u v : Bool) (s : Sizes) (r : Told × Memory) (number place : ℕ) → need t 13 0 (need u 14 0 (answer s)) ≡ refused number place
@@ -130,49 +133,49 @@ refused-all false u v s r number place e = let a : 13 ≡ number = cc in let b :
 
 pub size-refused : (file : List ℕ) (p k budget : ℕ) (lent : Memory) (number place : ℕ) → size file p k ≡ refused number place
     → verdict file p k budget lent ≡ record { answer = refused number place; memory = lent }
-unfolding size verdict onDesign
+unfolding size verdict gate onDesign
 size-refused file p k budget lent number place h = ap (afterCall lent) (go (check file) h)
   where
-    go : (c : Checked) → ofChecked c (λ d. need (leb p maxProperty) 13 0 (need (leb k maxBound) 14 0 (answer (sizesOf d p k)))) ≡ refused number place
+    go : (c : Checked) → ofChecked c (λ d. need (leb p lastProperty) 13 0 (need (leb k maxBound) 14 0 (answer (sizesOf d (propertyOf d p) k)))) ≡ refused number place
         → _≡_ {A = Answer (Told × Memory)} (ofChecked c (λ d.
-        need (leb p maxProperty) 13 0
+        need (leb p lastProperty) 13 0
         (need (leb k maxBound) 14 0
-        (need (roomFor d p k lent) 16 0
-        (answer ((judge d p k budget) .told, memoryLeft file d p (judge d p k budget) lent)))))) (refused number place)
+        (need (roomFor d (propertyOf d p) k lent) 16 0
+        (answer ((judge d (propertyOf d p) k budget) .told, memoryLeft file d p (judge d (propertyOf d p) k budget) lent)))))) (refused number place)
     go (Checked.refused m q) e = let a : m ≡ number = cc in let b : q ≡ place = cc in cc
     go (Checked.accepted d) e =
-        refused-all (leb p maxProperty) (leb k maxBound) (roomFor d p k lent) (sizesOf d p k) ((judge d p k budget) .told, memoryLeft file d p (judge d p k budget) lent) number place e
+        refused-all (leb p lastProperty) (leb k maxBound) (roomFor d (propertyOf d p) k lent) (sizesOf d (propertyOf d p) k) ((judge d (propertyOf d p) k budget) .told, memoryLeft file d p (judge d (propertyOf d p) k budget) lent) number place e
 
 -- where SIZE answers
 pub record Sized (file : List ℕ) (p k : ℕ) (s : Sizes) : Type 0 where
   pub design : Design
   pub accepted : check file ≡ Checked.accepted design
-  pub property : p ≤ maxProperty
+  pub property : p ≤ lastProperty
   pub bound : k ≤ maxBound
-  pub sizes : sizesOf design p k ≡ s
+  pub sizes : sizesOf design (propertyOf design p) k ≡ s
 
 pub size-answers : (file : List ℕ) (p k : ℕ) (s : Sizes) → size file p k ≡ answer s → Sized file p k s
-unfolding size onDesign
+unfolding size gate onDesign
 size-answers file p k s h = go (check file) refl h
   where
-    go : (c : Checked) → check file ≡ c → ofChecked c (λ d. need (leb p maxProperty) 13 0 (need (leb k maxBound) 14 0 (answer (sizesOf d p k)))) ≡ answer s → Sized file p k s
+    go : (c : Checked) → check file ≡ c → ofChecked c (λ d. need (leb p lastProperty) 13 0 (need (leb k maxBound) 14 0 (answer (sizesOf d (propertyOf d p) k)))) ≡ answer s → Sized file p k s
     go (Checked.refused m q) x e = absurd (let z : _≡_ {A = ℕ} 0 1 = cc in omega arith)
     go (Checked.accepted d) x e =
-        let t₁ = need-true (leb p maxProperty) 13 0 (need (leb k maxBound) 14 0 (answer (sizesOf d p k))) s e in
-        let t₂ = need-true (leb k maxBound) 14 0 (answer (sizesOf d p k)) s (t₁ .1) in
-        record { design = d; accepted = x; property = leb-true p maxProperty (t₁ .0); bound = leb-true k maxBound (t₂ .0); sizes = same-answer _ _ (t₂ .1) }
+        let t₁ = need-true (leb p lastProperty) 13 0 (need (leb k maxBound) 14 0 (answer (sizesOf d (propertyOf d p) k))) s e in
+        let t₂ = need-true (leb k maxBound) 14 0 (answer (sizesOf d (propertyOf d p) k)) s (t₁ .1) in
+        record { design = d; accepted = x; property = leb-true p lastProperty (t₁ .0); bound = leb-true k maxBound (t₂ .0); sizes = same-answer _ _ (t₂ .1) }
 
 -- What SIZE answers, held against the lengths lent.
 module _ {file : List ℕ} {p k : ℕ} {s : Sizes} (z : Sized file p k s) (budget : ℕ) (lent : Memory) where
-  words-are : length (words (formula (z .design) p k)) ≡ s .words
+  words-are : length (words (formula (z .design) (propertyOf (z .design) p) k)) ≡ s .words
   unfolding sizesOf
   words-are = ap (λ (x : Sizes). x .words) (z .sizes)
 
-  variables-are : n (z .design) p k ≡ s .variables
+  variables-are : n (z .design) (propertyOf (z .design) p) k ≡ s .variables
   unfolding sizesOf
   variables-are = ap (λ (x : Sizes). x .variables) (z .sizes)
 
-  refuses : (Room (z .design) p k lent → ⊥) → record { reply = Refused 16 0; memory = lent } ≡ exit (verdict file p k budget lent)
+  refuses : (Room (z .design) (propertyOf (z .design) p) k lent → ⊥) → record { reply = Refused 16 0; memory = lent } ≡ exit (verdict file p k budget lent)
   refuses h = ap exit (sym (short file (z .design) (z .accepted) p k budget lent (z .property) (z .bound) h))
 
   pub short-clauses : length (lent .clauses) < s .words → record { reply = Refused 16 0; memory = lent } ≡ exit (verdict file p k budget lent)
@@ -195,5 +198,5 @@ module _ {file : List ℕ} {p k : ℕ} {s : Sizes} (z : Sized file p k s) (budge
     bytes = bytes;
     property = z .property;
     bound = z .bound;
-    room = for-room (z .design) p k lent (record { clauses = omega (arith, words-are); values = omega (arith, variables-are); trail = omega (arith, variables-are); choices = e });
+    room = for-room (z .design) (propertyOf (z .design) p) k lent (record { clauses = omega (arith, words-are); values = omega (arith, variables-are); trail = omega (arith, variables-are); choices = e });
   }

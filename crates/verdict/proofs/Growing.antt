@@ -5,12 +5,13 @@ use native.Mathlib.Nat.{le-refl, mul-le-mul}
 use lib.ListN.{length}
 use Rattle.design.specs.Tree.{Design}
 use Rattle.design.specs.WellFormed.{WellFormed}
+use Rattle.step.specs.Property.{Property}
 use Rattle.clauses.specs.Words.{words}
 use Rattle.clauses.specs.Formula.{F, n, formula}
 use Rattle.clauses.specs.Cost.{wordsIn, propertyCost, stepWordCount, wordCount}
 use Rattle.clauses.proofs.Sizes.{formula-counts}
 
-module _ (d : Design) (p : ℕ) {i k : ℕ} (h : i ≤ k) where
+module _ (d : Design) (p : Property) {i k : ℕ} (h : i ≤ k) where
   pub variables-grow : n d p i ≤ n d p k
   unfolding n
   variables-grow = let f : i * F d p ≤ k * F d p = mul-le-mul h (le-refl (F d p)) in omega arith

@@ -9,16 +9,18 @@ use native.Mathlib.Nat.{le-refl}
 use lib.Dec.{eqb}
 use borrow.Author.Tests.{eqb-true, eqb-false}
 use Rattle.design.specs.Tree.{Design}
+use Rattle.step.specs.Property.{Property}
+use Rattle.step.specs.Breaking.{Breakable}
 use Rattle.clauses.specs.Meaning.{satisfies}
 use Rattle.clauses.specs.Formula.{n, formula}
-use Rattle.clauses.specs.Theorem.{Breakable, Theorem}
+use Rattle.clauses.specs.Theorem.{Theorem}
 use Rattle.search.specs.Search.{Settings, noBudget, upTo, Answer, SAT, UNSAT, SPENT, Outcome}
 use Rattle.search.proofs.Scans.{made}
 use Rattle.search.proofs.Ending.{Says as AnswerSays, search-right, Budgeted, search-budget}
 use Rattle.verdict.specs.Verdict.{Verdict, VIOLATED, CLEAN, SPENT-AT, Judged, judged, decided, searched, judgedFrom, judge}
 use Rattle.verdict.specs.Claim.{triesOf, triesBelow, NoneShorter, FirstBreak, FirstExceeds, Enough, Says, triesTold}
 
-module _ (d : Design) (p : ℕ) where
+module _ (d : Design) (p : Property) where
   tries-grow : (i j : ℕ) → i ≤ j → triesBelow d p i ≤ triesBelow d p j
   tries-grow i zero h = let e : i ≡ 0 = omega arith in rw e (le-refl 0)
   tries-grow i (suc j) h = go (decLe i j) (tries-grow i j)

@@ -10,9 +10,10 @@ use lib.Seq.{drop-append-add, drop-drop}
 use Rattle.design.specs.Tree.{Design}
 use Rattle.design.specs.Check.{Checked, check}
 use Rattle.design.specs.WellFormed.{WellFormed}
+use Rattle.step.specs.Property.{Property, propertyOf}
 use Rattle.clauses.specs.Words.{words}
 use Rattle.clauses.specs.Formula.{n, formula}
-use Rattle.clauses.specs.Answer.{maxProperty, maxBound}
+use Rattle.step.specs.Limits.{lastProperty, maxBound}
 use Rattle.clauses.specs.Decode.{decode}
 use Rattle.search.specs.Search.{upTo, Answer, SAT, UNSAT, SPENT, Outcome}
 use Rattle.search.specs.Solve.{valuesLeft}
@@ -45,7 +46,10 @@ left-long m (SAT ss) = length-from ss 1 m
 left-long m UNSAT = length-replicate m 0
 left-long m SPENT = length-replicate m 0
 
-module _ (d : Design) (wf : WellFormed d) (p k budget : ℕ) (lent : Memory) (room : Room d p k lent) where
+module _ (d : Design) (wf : WellFormed d) (number k budget : ℕ) (lent : Memory) (room : Room d (propertyOf d number) k lent) where
+  abbrev p : Property
+  p = propertyOf d number
+
   pub judging-start : Judging d p k budget lent 0 0 (lent .clauses) (lent .values) (lent .trail)
   unfolding judge
   judging-start = record {
@@ -172,37 +176,37 @@ module _ (d : Design) (wf : WellFormed d) (p k budget : ℕ) (lent : Memory) (ro
           })
 
       -- lent memory, where this bound is the last
-      memory-is : (file : List ℕ) (v : Verdict) (choices′ : List ℕ) → choices′ ≡ choicesLeft file d p v values′ (lent .choices)
-          → record { clauses = clauses′; values = values′; trail = trail′; choices = choices′ } ≡ memoryLeft file d p (judged v (t + r .tries) i o) lent
+      memory-is : (file : List ℕ) (v : Verdict) (choices′ : List ℕ) → choices′ ≡ choicesLeft file d number v values′ (lent .choices)
+          → record { clauses = clauses′; values = values′; trail = trail′; choices = choices′ } ≡ memoryLeft file d number (judged v (t + r .tries) i o) lent
       unfolding o memoryLeft
       memory-is file v choices′ q =
           let vs : values′ ≡ valuesLeft (n d p i) (o .answer) ++ drop (n d p i) (lent .values) = x .values-left ∙ ap (λ (y : List ℕ). valuesLeft (n d p i) (o .answer) ++ y) (j .values-kept) in
           let ws : clauses′ ≡ words (formula d p i) ++ drop (length (words (formula d p i))) (lent .clauses) = x .written ∙ ap (λ (y : List ℤ). words (formula d p i) ++ y) (j .clauses-kept) in
           let ts : trail′ ≡ replicate (n d p i) 0 ++ drop (n d p i) (lent .trail) = x .trail-left ∙ ap (λ (y : List ℕ). replicate (n d p i) 0 ++ y) (j .trail-kept) in
-          let cs : choices′ ≡ choicesLeft file d p v (valuesLeft (n d p i) (o .answer) ++ drop (n d p i) (lent .values)) (lent .choices) = q ∙ ap (λ (y : List ℕ). choicesLeft file d p v y (lent .choices)) vs in
+          let cs : choices′ ≡ choicesLeft file d number v (valuesLeft (n d p i) (o .answer) ++ drop (n d p i) (lent .values)) (lent .choices) = q ∙ ap (λ (y : List ℕ). choicesLeft file d number v y (lent .choices)) vs in
           λ h. record { clauses = ws h; values = vs h; trail = ts h; choices = cs h }
 
       -- what the call comes to, where the verdict is v
-      module _ (file : List ℕ) (e : check file ≡ Checked.accepted d) (low : p ≤ maxProperty) (few : k ≤ maxBound) where
-        ends : (v : Verdict) (choices′ : List ℕ) → judge d p k budget ≡ judged v (t + r .tries) i o → choices′ ≡ choicesLeft file d p v values′ (lent .choices)
+      module _ (file : List ℕ) (e : check file ≡ Checked.accepted d) (low : number ≤ lastProperty) (few : k ≤ maxBound) where
+        ends : (v : Verdict) (choices′ : List ℕ) → judge d p k budget ≡ judged v (t + r .tries) i o → choices′ ≡ choicesLeft file d number v values′ (lent .choices)
             → record { reply = Done (record { verdict = verdictCode v; tries = t + r .tries }); memory = record { clauses = clauses′; values = values′; trail = trail′; choices = choices′ } }
-            ≡ exit (verdict file p k budget lent)
+            ≡ exit (verdict file number k budget lent)
         ends v choices′ q cs =
             ap {B = Exit} (λ (m : Memory). record { reply = Done (record { verdict = verdictCode v; tries = t + r .tries }); memory = m }) (memory-is file v choices′ cs)
-            ∙ ap {B = Exit} (λ (y : Judged). record { reply = Done (judgedCode (y .told)); memory = memoryLeft file d p y lent }) (sym q)
-            ∙ ap exit (sym (answers file d e p k budget lent low few room))
+            ∙ ap {B = Exit} (λ (y : Judged). record { reply = Done (judgedCode (y .told)); memory = memoryLeft file d number y lent }) (sym q)
+            ∙ ap exit (sym (answers file d e number k budget lent low few room))
 
-        pub ends-sat : {choices′ : List ℕ} → r .answer ≡ Sat → choices′ ≡ (decode file p i values′ (lent .choices)) .choices
+        pub ends-sat : {choices′ : List ℕ} → r .answer ≡ Sat → choices′ ≡ (decode file number i values′ (lent .choices)) .choices
             → record { reply = Done (record { verdict = Violated i; tries = t + r .tries }); memory = record { clauses = clauses′; values = values′; trail = trail′; choices = choices′ } }
-            ≡ exit (verdict file p k budget lent)
+            ≡ exit (verdict file number k budget lent)
         ends-sat {choices′} q cs = ends (VIOLATED i) choices′ (on-sat q) cs
 
         pub ends-spent : r .answer ≡ Spent
             → record { reply = Done (record { verdict = SpentAt i; tries = t + r .tries }); memory = record { clauses = clauses′; values = values′; trail = trail′; choices = lent .choices } }
-            ≡ exit (verdict file p k budget lent)
+            ≡ exit (verdict file number k budget lent)
         ends-spent q = ends (SPENT-AT i) (lent .choices) (on-spent q) refl
 
         pub ends-clean : r .answer ≡ Unsat → i ≡ k
             → record { reply = Done (record { verdict = Clean; tries = t + r .tries }); memory = record { clauses = clauses′; values = values′; trail = trail′; choices = lent .choices } }
-            ≡ exit (verdict file p k budget lent)
+            ≡ exit (verdict file number k budget lent)
         ends-clean q x = ends CLEAN (lent .choices) (on-last q x) refl

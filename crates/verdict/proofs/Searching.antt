@@ -9,6 +9,7 @@ use lib.ListN.{length, drop, take}
 use lib.Seq.{length-take-le, take-at}
 use borrow.Author.Tests.{le-ltb}
 use Rattle.design.specs.Tree.{Design}
+use Rattle.step.specs.Property.{Property}
 use Rattle.clauses.specs.Literal.{Literal, positive, negative, variableOf, Clause}
 use Rattle.clauses.specs.Meaning.{ClauseWithin, Within}
 use Rattle.clauses.specs.Words.{wordOf, clauseWords, words, isEnd, clausesOf}
@@ -38,7 +39,7 @@ words-good : (m : ℕ) (cs : List Clause) → Within m cs → (i : ℕ) → badW
 words-good m [] w i = refl
 words-good m (c ∷ cs) w i = clause-good m c (words cs) (w .0) (words-good m cs (w .1)) i false
 
-module _ (d : Design) (p k budget : ℕ) (lent : Memory) (i t : ℕ) (th : Theorem d p i) (clauses clauses′ : List ℤ) (values trail : List ℕ) (m v : ℕ)
+module _ (d : Design) (p : Property) (k budget : ℕ) (lent : Memory) (i t : ℕ) (th : Theorem d p i) (clauses clauses′ : List ℤ) (values trail : List ℕ) (m v : ℕ)
     (long : m ≡ length (words (formula d p i))) (many : v ≡ n d p i) (written : clauses′ ≡ words (formula d p i) ++ drop (length (words (formula d p i))) clauses)
     (fits : n d p i ≤ length values)
   where

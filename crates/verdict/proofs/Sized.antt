@@ -3,7 +3,7 @@ use mathlib.Core.Path.{_≡_, refl, sym, ap}
 use mathlib.Core.List.{List}
 use Prim.Native.Nat.{ℕ}
 use native.Mathlib.Omega.{arith}
-use Rattle.clauses.specs.Answer.{Answer, refused, answer}
+use Rattle.design.specs.Answer.{Answer, refused, answer}
 use Rattle.clauses.specs.Size.{Sizes, size}
 use Rattle.verdict.specs.Verdict.{Memory, verdict}
 use Rattle.verdict.specs.Answers.{exit}

@@ -8,6 +8,7 @@ use lib.ListN.{length, take, drop}
 use Rattle.design.specs.Tree.{Design}
 use Rattle.design.specs.WellFormed.{WellFormed}
 use Rattle.design.proofs.WellFormed.{well-formed}
+use Rattle.step.specs.Property.{propertyOf}
 use Rattle.clauses.specs.Words.{words}
 use Rattle.clauses.specs.Formula.{formula}
 use Rattle.clauses.specs.Decode.{decode}
@@ -34,11 +35,11 @@ module _ {file : List ℕ} {p k : ℕ} {lent : Memory} (r : Ready file p k lent)
   wf : WellFormed d
   wf = well-formed file (r .bytes) d (r .accepted)
 
-  theorem : (i : ℕ) → Theorem d p i
+  theorem : (i : ℕ) → Theorem d (propertyOf d p) i
   theorem = theorem-of-file file (r .bytes) d (r .accepted) p
 
-  room : Room d p k lent
-  room = room-for d p k lent (r .room)
+  room : Room d (propertyOf d p) k lent
+  room = room-for d (propertyOf d p) k lent (r .room)
 
 pub standing-start : {file : List ℕ} {p k : ℕ} {lent : Memory} (budget : ℕ) → Ready file p k lent → Standing file p k budget lent 0 0 (lent .clauses) (lent .values) (lent .trail) (lent .choices)
 standing-start {p = p} {k = k} {lent = lent} budget r = record { ready = r; judging = judging-start (r .design) (wf r) p k budget lent (room r); choices-kept = refl }
@@ -51,10 +52,10 @@ module _
     pub bound-low : i ≤ k
     bound-low = s .judging .low
 
-    pub bound-room : length (words (formula (s .ready .design) p i)) ≤ length clauses
+    pub bound-room : length (words (formula (s .ready .design) (propertyOf (s .ready .design) p) i)) ≤ length clauses
     bound-room = words-fit (s .ready .design) (wf (s .ready)) p k budget lent (room (s .ready)) (s .judging)
 
-    module _ {clauses′ : List ℤ} {m v : ℕ} (w : Written (s .ready .design) p i clauses clauses′ m v) where
+    module _ {clauses′ : List ℤ} {m v : ℕ} (w : Written (s .ready .design) (propertyOf (s .ready .design) p) i clauses clauses′ m v) where
       pub words-in : length clauses′ ≡ length clauses → m ≤ length clauses′
       words-in e = omega (arith, bound-room, w .counted)
 
@@ -68,14 +69,14 @@ module _
       search-may =
           let few = s .ready .bound in
           let small = small-of-file file (s .ready .bytes) (s .ready .design) (s .ready .accepted) p i (omega (arith, bound-low)) .variables in
-          fresh-bound (s .ready .design) p k budget lent i t (theorem (s .ready) i) clauses clauses′ values trail m v (w .counted) (w .numbered) (w .written)
+          fresh-bound (s .ready .design) (propertyOf (s .ready .design) p) k budget lent i t (theorem (s .ready) i) clauses clauses′ values trail m v (w .counted) (w .numbered) (w .written)
           (values-fit (s .ready .design) (wf (s .ready)) p k budget lent (room (s .ready)) (s .judging)) small
           (trail-fit (s .ready .design) (wf (s .ready)) p k budget lent (room (s .ready)) (s .judging))
 
       module _ {r : Solved} {vs₂ tr₂ : List ℕ} (h : Leaves (outcome (take v values) (take m clauses′) (budget - t)) (length (take v values)) r vs₂ tr₂) where
-        x : Tried (s .ready .design) p k budget lent i t clauses values trail r clauses′ (vs₂ ++ drop v values) (tr₂ ++ drop v trail)
+        x : Tried (s .ready .design) (propertyOf (s .ready .design) p) k budget lent i t clauses values trail r clauses′ (vs₂ ++ drop v values) (tr₂ ++ drop v trail)
         x =
-            tried (s .ready .design) p k budget lent i t (theorem (s .ready) i) clauses clauses′ values trail m v (w .counted) (w .numbered) (w .written)
+            tried (s .ready .design) (propertyOf (s .ready .design) p) k budget lent i t (theorem (s .ready) i) clauses clauses′ values trail m v (w .counted) (w .numbered) (w .written)
             (values-fit (s .ready .design) (wf (s .ready)) p k budget lent (room (s .ready)) (s .judging)) h
 
         pub tries-in : t + r .tries ≤ budget

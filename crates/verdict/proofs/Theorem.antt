@@ -6,6 +6,7 @@ use native.Mathlib.Omega.{arith}
 use lib.ListN.{drop, getD}
 use Rattle.design.specs.Tree.{Design}
 use Rattle.design.specs.Check.{Checked, check}
+use Rattle.step.specs.Property.{Property, propertyOf}
 use Rattle.clauses.specs.Formula.{n, formula}
 use Rattle.clauses.specs.Theorem.{Theorem}
 use Rattle.clauses.proofs.Theorem.{theorem-of-file}
@@ -19,7 +20,7 @@ use Rattle.verdict.proofs.Calls.{Answered, answered}
 use Rattle.verdict.proofs.Judging.{Known, Violated, judge-right, known-says, known-tries, same-verdict}
 use Rattle.verdict.proofs.Witness.{decodes, witness}
 
-of-formula : (d : Design) (p k : ℕ) → Theorem d p k → OfFormula d p k
+of-formula : (d : Design) (p : Property) (k : ℕ) → Theorem d p k → OfFormula d p k
 unfolding searched
 of-formula d p k th = record {
   satisfiable = th .satisfiable;
@@ -33,42 +34,42 @@ of-formula d p k th = record {
 }
 
 module _ (file : List ℕ) (d : Design) (e : check file ≡ Checked.accepted d) (p k budget : ℕ) (lent : Memory) where
-  module _ (th : (i : ℕ) → Theorem d p i) (told : Told) (a : Answered file d p k budget lent told) where
+  module _ (th : (i : ℕ) → Theorem d (propertyOf d p) i) (told : Told) (a : Answered file d p k budget lent told) where
     abbrev j : Judged
-    j = judge d p k budget
+    j = judge d (propertyOf d p) k budget
 
-    known : Known d p k budget (told .tries) (j .bound) (j .outcome) (told .verdict)
-    known = subst (λ (t : Told). Known d p k budget (t .tries) (j .bound) (j .outcome) (t .verdict)) (a .same) (judge-right d p th k budget)
+    known : Known d (propertyOf d p) k budget (told .tries) (j .bound) (j .outcome) (told .verdict)
+    known = subst (λ (t : Told). Known d (propertyOf d p) k budget (t .tries) (j .bound) (j .outcome) (t .verdict)) (a .same) (judge-right d (propertyOf d p) th k budget)
 
-    says : Says d p k budget (told .verdict)
-    says = known-says d p k budget (told .tries) (j .bound) (j .outcome) (told .verdict) known
+    says : Says d (propertyOf d p) k budget (told .verdict)
+    says = known-says d (propertyOf d p) k budget (told .tries) (j .bound) (j .outcome) (told .verdict) known
 
     -- the choices left
-    left : (i : ℕ) → told .verdict ≡ VIOLATED i → Witness d p i (lent .choices) ((verdict file p k budget lent) .memory .choices)
+    left : (i : ℕ) → told .verdict ≡ VIOLATED i → Witness d (propertyOf d p) i (lent .choices) ((verdict file p k budget lent) .memory .choices)
     unfolding memoryLeft
     left i q =
-        let v : Violated d p k budget (told .tries) (j .bound) (j .outcome) i = subst (Known d p k budget (told .tries) (j .bound) (j .outcome)) q known in
-        let rest = drop (n d p i) (lent .values) in
-        let m : (verdict file p k budget lent) .memory .choices ≡ choicesLeft file d p (VIOLATED i) (valuesLeft (n d p i) (SAT (v .settings)) ++ rest) (lent .choices) =
+        let v : Violated d (propertyOf d p) k budget (told .tries) (j .bound) (j .outcome) i = subst (Known d (propertyOf d p) k budget (told .tries) (j .bound) (j .outcome)) q known in
+        let rest = drop (n d (propertyOf d p) i) (lent .values) in
+        let m : (verdict file p k budget lent) .memory .choices ≡ choicesLeft file d p (VIOLATED i) (valuesLeft (n d (propertyOf d p) i) (SAT (v .settings)) ++ rest) (lent .choices) =
         ap (λ (x : Memory). x .choices) (a .memory)
-        ∙ ap (λ (x : Verdict). choicesLeft file d p x (valuesLeft (n d p (j .bound)) (j .outcome .answer) ++ drop (n d p (j .bound)) (lent .values)) (lent .choices)) (ap (λ (x : Told). x .verdict) (a .same) ∙ q)
-        ∙ ap (λ (x : ℕ). choicesLeft file d p (VIOLATED i) (valuesLeft (n d p x) (j .outcome .answer) ++ drop (n d p x) (lent .values)) (lent .choices)) (v .last)
-        ∙ ap (λ (x : search.Answer). choicesLeft file d p (VIOLATED i) (valuesLeft (n d p i) x ++ rest) (lent .choices)) (v .sat) in
-        subst (Witness d p i (lent .choices)) (sym m)
+        ∙ ap (λ (x : Verdict). choicesLeft file d p x (valuesLeft (n d (propertyOf d p) (j .bound)) (j .outcome .answer) ++ drop (n d (propertyOf d p) (j .bound)) (lent .values)) (lent .choices)) (ap (λ (x : Told). x .verdict) (a .same) ∙ q)
+        ∙ ap (λ (x : ℕ). choicesLeft file d p (VIOLATED i) (valuesLeft (n d (propertyOf d p) x) (j .outcome .answer) ++ drop (n d (propertyOf d p) x) (lent .values)) (lent .choices)) (v .last)
+        ∙ ap (λ (x : search.Answer). choicesLeft file d p (VIOLATED i) (valuesLeft (n d (propertyOf d p) i) x ++ rest) (lent .choices)) (v .sat) in
+        subst (Witness d (propertyOf d p) i (lent .choices)) (sym m)
         (witness file d e p (a .property) i (v .settings) rest (lent .choices) (th i)
         (omega (arith, v .within, a .bound)) (omega (arith, v .within, a .room .choices)) (v .none) (v .satisfies))
 
-    of-verdict : OfVerdict d p k budget told (lent .choices) ((verdict file p k budget lent) .memory .choices)
+    of-verdict : OfVerdict d (propertyOf d p) k budget told (lent .choices) ((verdict file p k budget lent) .memory .choices)
     of-verdict = record {
-      verdict = λ v. ((λ q. subst (Says d p k budget) q says), same-verdict d p k budget (told .verdict) v says);
-      tries = known-tries d p k budget (told .tries) (j .bound) (j .outcome) (told .verdict) known;
+      verdict = λ v. ((λ q. subst (Says d (propertyOf d p) k budget) q says), same-verdict d (propertyOf d p) k budget (told .verdict) v says);
+      tries = known-tries d (propertyOf d p) k budget (told .tries) (j .bound) (j .outcome) (told .verdict) known;
       witness = left;
     }
 
 -- The entries of a file are bytes.
 pub demand-3 : (file : List ℕ) → ((i : ℕ) → getD file i 0 < 256) → (d : Design) → check file ≡ Checked.accepted d → Demand3 file d
 demand-3 file bytes d e = record {
-  formula = λ p k. of-formula d p k (theorem-of-file file bytes d e p k);
+  formula = λ p k. of-formula d (propertyOf d p) k (theorem-of-file file bytes d e p k);
   decode = λ p k low few. decodes file d e p low k few (theorem-of-file file bytes d e p k);
   verdict = λ p k budget lent told h. of-verdict file d e p k budget lent (theorem-of-file file bytes d e p) told (answered file d e p k budget lent told h);
 }

@@ -8,11 +8,15 @@ use lib.ListN.{length, drop, length-append, List·getD-append}
 use borrow.Author.Tests.{le-leb}
 use Rattle.design.specs.Tree.{Design, bit}
 use Rattle.design.specs.Check.{Checked, check}
+use Rattle.step.specs.Property.{propertyOf}
+use Rattle.step.specs.Gate.{gate}
+use Rattle.step.specs.Breaking.{Breaking}
 use Rattle.clauses.specs.Meaning.{satisfies}
 use Rattle.clauses.specs.Formula.{n, formula, choices}
-use Rattle.clauses.specs.Answer.{Answer, answer, onDesign, maxProperty, maxBound}
+use Rattle.design.specs.Answer.{Answer, answer, onDesign}
+use Rattle.step.specs.Limits.{lastProperty, maxBound}
 use Rattle.clauses.specs.Decode.{Decoded, written, chosenFrom, choicesToWrite, decode}
-use Rattle.clauses.specs.Theorem.{Breaking, Theorem, Stored}
+use Rattle.clauses.specs.Theorem.{Theorem, Stored}
 use Rattle.search.specs.Search.{Value, unset, is, Settings, valueOf}
 use Rattle.search.specs.Solve.{bitOf, valuesFrom}
 use Rattle.search.proofs.Scans.{isTrue, made}
@@ -36,29 +40,29 @@ values-hold m ss rest = record {
       ∙ bit-true (valueOf ss (suc i));
 }
 
-module _ (file : List ℕ) (d : Design) (e : check file ≡ Checked.accepted d) (p : ℕ) (low : p ≤ maxProperty) where
+module _ (file : List ℕ) (d : Design) (e : check file ≡ Checked.accepted d) (p : ℕ) (low : p ≤ lastProperty) where
   -- past the other refusals DECODE looks at the flags
-  decode-past : (i : ℕ) (values cs : List ℕ) → i ≤ maxBound → n d p i ≤ length values → i ≤ length cs
-      → decode file p i values cs ≡ written (chosenFrom d p values i 0) cs
-  unfolding decode choicesToWrite onDesign
+  decode-past : (i : ℕ) (values cs : List ℕ) → i ≤ maxBound → n d (propertyOf d p) i ≤ length values → i ≤ length cs
+      → decode file p i values cs ≡ written (chosenFrom d (propertyOf d p) values i 0) cs
+  unfolding decode choicesToWrite gate onDesign
   decode-past i values cs few long room =
-      rw (e, le-leb p maxProperty low, le-leb i maxBound few, le-leb (n d p i) (length values) long, le-leb i (length cs) room)
+      rw (e, le-leb p lastProperty low, le-leb i maxBound few, le-leb (n d (propertyOf d p) i) (length values) long, le-leb i (length cs) room)
 
-  pub decodes : (i : ℕ) → i ≤ maxBound → Theorem d p i → Decodes file d p i
+  pub decodes : (i : ℕ) → i ≤ maxBound → Theorem d (propertyOf d p) i → Decodes file d p i
   decodes i few th ρ values cs s h room =
       decode-past i values cs few (h .long) room
       ∙ ap (λ (r : Answer (List ℕ)). written r cs) (th .decode ρ values s h)
-      ∙ ap {B = Decoded} (λ (m : ℕ). record { answer = answer tt; choices = choices d p ρ i ++ drop m cs }) (th .decodes ρ s .long)
+      ∙ ap {B = Decoded} (λ (m : ℕ). record { answer = answer tt; choices = choices d (propertyOf d p) ρ i ++ drop m cs }) (th .decodes ρ s .long)
 
-  pub witness : (i : ℕ) (ss : Settings) (rest cs : List ℕ) → Theorem d p i → i ≤ maxBound → i ≤ length cs → NoneShorter d p i
-      → satisfies (made ss) (formula d p i) ≡ true → Witness d p i cs ((decode file p i (valuesFrom ss 1 (n d p i) ++ rest) cs) .choices)
+  pub witness : (i : ℕ) (ss : Settings) (rest cs : List ℕ) → Theorem d (propertyOf d p) i → i ≤ maxBound → i ≤ length cs → NoneShorter d (propertyOf d p) i
+      → satisfies (made ss) (formula d (propertyOf d p) i) ≡ true → Witness d (propertyOf d p) i cs ((decode file p i (valuesFrom ss 1 (n d (propertyOf d p) i) ++ rest) cs) .choices)
   witness i ss rest cs th few room none s =
-      let b : Breaking d p i (choices d p (made ss) i) = th .decodes (made ss) s in
-      let x = decodes i few th (made ss) (valuesFrom ss 1 (n d p i) ++ rest) cs s (values-hold (n d p i) ss rest) room in
+      let b : Breaking d (propertyOf d p) i (choices d (propertyOf d p) (made ss) i) = th .decodes (made ss) s in
+      let x = decodes i few th (made ss) (valuesFrom ss 1 (n d (propertyOf d p) i) ++ rest) cs s (values-hold (n d (propertyOf d p) i) ss rest) room in
       record {
-        list = choices d p (made ss) i;
+        list = choices d (propertyOf d p) (made ss) i;
         written = ap (λ (r : Decoded). r .choices) x;
         long = b .long;
         movers = b .movers;
-        breaks = breaks-at d p i (choices d p (made ss) i) b none;
+        breaks = breaks-at d (propertyOf d p) i (choices d (propertyOf d p) (made ss) i) b none;
       }

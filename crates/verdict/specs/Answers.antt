@@ -1,5 +1,5 @@
 -- The code's answers, of what the definitions say.
-use Rattle.clauses.specs.Answer.{Answer, refused, answer}
+use Rattle.design.specs.Answer.{Answer, refused, answer}
 use Rattle.verdict.specs.Verdict.{Verdict, VIOLATED, CLEAN, SPENT-AT, Told, Memory, After}
 use Rattle.verdict.specs.declared.answer.Verdict as declared
 use Rattle.verdict.specs.declared.answer.Verdict.the-variants.{Violated, Clean, Spent}

@@ -1,5 +1,5 @@
 -- Demand 3 of document 01, whole: "one claim about such lists as wholes, not one for each choice". A list's choices are movers' numbers,
--- idle ones included (`AllBelow (w d) cs`). `Breaking d p k cs`: cs is a list of just k choices that breaks property p; `Breakable d p k`: some
+-- idle ones included (`AllBelow (length (movers d)) cs`). `Breaking d p k cs`: cs is a list of just k choices that breaks property p; `Breakable d p k`: some
 -- list of at most k does.
 use mathlib.Core.Path.{_≡_}
 use mathlib.Core.Logic.{_↔_}
@@ -7,25 +7,28 @@ use mathlib.Core.Bool.{true}
 use mathlib.Core.List.{List, [], _++_}
 use Prim.Native.Nat.{ℕ, zero, suc, _+_, _<_, _≤_}
 use lib.ListN.{length, drop}
-use Rattle.design.specs.Tree.{Design}
+use Rattle.design.specs.Tree.{Design, movers}
+use Rattle.step.specs.Property.{Property, propertyOf}
 use Rattle.step.specs.OneStep.{breaksAt}
+use Rattle.step.specs.Breaking.{AllBelow, Breaking, Breakable}
 use Rattle.clauses.specs.Meaning.{Assignment, satisfies, Satisfiable, Within}
-use Rattle.clauses.specs.Formula.{w, n, formula, choices}
+use Rattle.clauses.specs.Formula.{n, formula, choices}
 use Rattle.clauses.specs.Words.{words, clausesOf}
-use Rattle.clauses.specs.Answer.{answer, maxProperty, maxBound}
+use Rattle.design.specs.Answer.{answer}
+use Rattle.step.specs.Limits.{lastProperty, maxBound}
 use Rattle.clauses.specs.Decode.{decode}
-use Rattle.clauses.specs.Theorem.{AllBelow, Breaking, Breakable, Stored}
+use Rattle.clauses.specs.Theorem.{Stored}
 use Rattle.search.specs.Search.{turn, Budget, noBudget, Ends}
 use Rattle.verdict.specs.Verdict.{Verdict, VIOLATED, CLEAN, SPENT-AT, Told, Memory, searched, verdict}
 
 -- just one satisfying assignment of the formula for bound k decodes to a list: any other gives each of the variables 1..n the same value
-pub record JustOne (d : Design) (p k : ℕ) (cs : List ℕ) : Type 0 where
+pub record JustOne (d : Design) (p : Property) (k : ℕ) (cs : List ℕ) : Type 0 where
   pub assignment : Assignment
   pub satisfying : satisfies assignment (formula d p k) ≡ true
   pub decodes : choices d p assignment k ≡ cs
   pub only : (ρ : Assignment) → satisfies ρ (formula d p k) ≡ true → choices d p ρ k ≡ cs → (v : ℕ) → 0 < v → v ≤ n d p k → ρ v ≡ assignment v
 
-pub record OfFormula (d : Design) (p k : ℕ) : Type 0 where
+pub record OfFormula (d : Design) (p : Property) (k : ℕ) : Type 0 where
   -- the formula has a satisfying assignment exactly when some list of at most k choices breaks the property
   pub satisfiable : Satisfiable (formula d p k) ↔ Breakable d p k
   -- for every list of just k choices that breaks it, just one satisfying assignment decodes to it
@@ -43,10 +46,10 @@ pub record OfFormula (d : Design) (p k : ℕ) : Type 0 where
 -- DECODE's call: "It decodes to the k choices whose choice j, from 0, is the mover with the one true flag of frame j; DECODE, if not refused, writes them."
 -- On values that store a satisfying assignment, with room for k choices, it is not refused. "All else keeps."
 abbrev pub Decodes : List ℕ → Design → ℕ → ℕ → Type 0
-Decodes file d p k = (ρ : Assignment) (values lent : List ℕ) → satisfies ρ (formula d p k) ≡ true → Stored (n d p k) ρ values → k ≤ length lent
-    → decode file p k values lent ≡ record { answer = answer tt; choices = choices d p ρ k ++ drop k lent }
+Decodes file d p k = (ρ : Assignment) (values lent : List ℕ) → satisfies ρ (formula d (propertyOf d p) k) ≡ true → Stored (n d (propertyOf d p) k) ρ values
+    → k ≤ length lent → decode file p k values lent ≡ record { answer = answer tt; choices = choices d (propertyOf d p) ρ k ++ drop k lent }
 
-module _ (d : Design) (p : ℕ) where
+module _ (d : Design) (p : Property) where
   -- "A bound's tries are those the search makes on its formula with no budget set." That search ends (`ends`).
   abbrev pub triesOf : ℕ → ℕ
   triesOf i = (searched d p noBudget i) .tries
@@ -98,7 +101,7 @@ module _ (d : Design) (p : ℕ) where
     pub list : List ℕ
     pub written : left ≡ list ++ drop i lent
     pub long : length list ≡ i
-    pub movers : AllBelow (w d) list
+    pub movers : AllBelow (length (movers d)) list
     pub breaks : breaksAt d p list i ≡ true
 
   -- of an answer, and the choices before and after the call
@@ -112,8 +115,8 @@ module _ (d : Design) (p : ℕ) where
 
 -- of a file and its design
 pub record Demand3 (file : List ℕ) (d : Design) : Type 0 where
-  pub formula : (p k : ℕ) → OfFormula d p k
+  pub formula : (p k : ℕ) → OfFormula d (propertyOf d p) k
   -- for every call that is not refused for its property or bound: "13 property over 1", "14 bound over 100"
-  pub decode : (p k : ℕ) → p ≤ maxProperty → k ≤ maxBound → Decodes file d p k
+  pub decode : (p k : ℕ) → p ≤ lastProperty → k ≤ maxBound → Decodes file d p k
   pub verdict : (p k budget : ℕ) (lent : Memory) (told : Told) → (verdict file p k budget lent) .answer ≡ answer told
-      → OfVerdict d p k budget told (lent .choices) ((verdict file p k budget lent) .memory .choices)
+      → OfVerdict d (propertyOf d p) k budget told (lent .choices) ((verdict file p k budget lent) .memory .choices)

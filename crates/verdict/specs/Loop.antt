@@ -7,9 +7,10 @@ use lib.IntN.{ℤ}
 use lib.ListN.{length, getD, drop, replicate}
 use Rattle.design.specs.Tree.{Design}
 use Rattle.design.specs.Check.{Checked, check}
+use Rattle.step.specs.Property.{Property, propertyOf}
 use Rattle.clauses.specs.Words.{words}
 use Rattle.clauses.specs.Formula.{n, formula}
-use Rattle.clauses.specs.Answer.{maxProperty, maxBound}
+use Rattle.step.specs.Limits.{lastProperty, maxBound}
 use Rattle.search.specs.Search.{upTo}
 use Rattle.search.specs.Solve.{valuesLeft}
 use Rattle.search.specs.Answers.{solvedCode}
@@ -21,11 +22,11 @@ pub record Ready (file : List ℕ) (p k : ℕ) (lent : Memory) : Type 0 where
   pub design : Design
   pub accepted : check file ≡ Checked.accepted design
   pub bytes : (i : ℕ) → getD file i 0 < 256
-  pub property : p ≤ maxProperty
+  pub property : p ≤ lastProperty
   pub bound : k ≤ maxBound
-  pub room : roomFor design p k lent ≡ true
+  pub room : roomFor design (propertyOf design p) k lent ≡ true
 
-module _ (d : Design) (p k budget : ℕ) (lent : Memory) where
+module _ (d : Design) (p : Property) (k budget : ℕ) (lent : Memory) where
   -- Before bound i, after t tries: what is still to do, and lent memory, which is as it was lent past what bound i's formula and variables take.
   pub record Judging (i t : ℕ) (clauses : List ℤ) (values trail : List ℕ) : Type 0 where
     pub low : i ≤ k
@@ -48,5 +49,5 @@ module _ (d : Design) (p k budget : ℕ) (lent : Memory) where
 -- the loop's invariant
 pub record Standing (file : List ℕ) (p k budget : ℕ) (lent : Memory) (i t : ℕ) (clauses : List ℤ) (values trail choices : List ℕ) : Type 0 where
   pub ready : Ready file p k lent
-  pub judging : Judging (ready .design) p k budget lent i t clauses values trail
+  pub judging : Judging (ready .design) (propertyOf (ready .design) p) k budget lent i t clauses values trail
   pub choices-kept : choices ≡ lent .choices

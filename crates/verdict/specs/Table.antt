@@ -9,6 +9,7 @@ use lib.ListN.{length, replicate}
 use Rattle.design.specs.Check.{accepted, check}
 use Rattle.design.specs.State.{start}
 use Rattle.design.specs.DesignA.{bytesA, designA}
+use Rattle.step.specs.Property.{Property, propertyOf}
 use Rattle.step.specs.Pattern.{plus, minus, signed, wrap}
 use Rattle.step.specs.OneStep.{breaksAt, breaks}
 use Rattle.step.specs.Operations.{firstBreak}
@@ -18,6 +19,10 @@ use Rattle.search.specs.Solve.{solve}
 use Rattle.search.specs.declared.Answered.{Answered}
 use Rattle.search.specs.declared.Answered.the-variants.{Sat, Unsat, Spent}
 use Rattle.search.specs.declared.Reply.the-variants.{Done}
+
+-- property 0 of Design A
+abbrev invariantA : Property
+invariantA = propertyOf designA 0
 
 pub data Case : Type 0 where
   -- the bytes of Design A give its tree
@@ -39,11 +44,11 @@ pub data Case : Type 0 where
 abbrev pub Holds : Case → Type 0
 Holds design = check bytesA ≡ accepted designA
 Holds (frame bits gates movers stepGates size) =
-    (S designA ≡ bits) × (P designA 0 ≡ gates) × (w designA ≡ movers) × (G designA 0 ≡ stepGates) × (F designA 0 ≡ size)
-Holds (bound k variables clauses) = (n designA 0 k ≡ variables) × (length (formula designA 0 k) ≡ clauses)
-Holds (broken cs i) = (breaksAt designA 0 cs i ≡ true) × (firstBreak designA 0 (start designA) cs 0 ≡ some i)
-Holds (never cs) = breaks designA 0 cs ≡ false
-Holds (models k count) = Exactly (Model designA 0 k) count
+    (S designA ≡ bits) × (P designA invariantA ≡ gates) × (w designA ≡ movers) × (G designA invariantA ≡ stepGates) × (F designA invariantA ≡ size)
+Holds (bound k variables clauses) = (n designA invariantA k ≡ variables) × (length (formula designA invariantA k) ≡ clauses)
+Holds (broken cs i) = (breaksAt designA invariantA cs i ≡ true) × (firstBreak designA invariantA (start designA) cs 0 ≡ some i)
+Holds (never cs) = breaks designA invariantA cs ≡ false
+Holds (models k count) = Exactly (Model designA invariantA k) count
 Holds (sum a b c) = signed (plus (wrap a) (wrap b)) ≡ c
 Holds (difference a b c) = signed (minus (wrap a) (wrap b)) ≡ c
 Holds (solves variables words budget answer tries values) =

@@ -6,9 +6,11 @@ use lib.Dec.{leb}
 use lib.IntN.{ℤ}
 use lib.ListN.{length, drop}
 use Rattle.design.specs.Tree.{Design}
+use Rattle.step.specs.Property.{Property, propertyOf}
+use Rattle.step.specs.Gate.{gate}
 use Rattle.clauses.specs.Words.{words}
 use Rattle.clauses.specs.Formula.{n, formula}
-use Rattle.clauses.specs.Answer.{Answer, refused, answer, need, onDesign, maxProperty, maxBound}
+use Rattle.design.specs.Answer.{Answer, refused, answer, need}
 use Rattle.clauses.specs.Decode.{decode}
 use Rattle.search.specs.Search.{Budget, upTo, SAT, UNSAT, SPENT, Outcome, solved}
 use Rattle.search.specs.Search as search
@@ -40,7 +42,7 @@ decided (SAT settings) tries i o otherwise = judged (VIOLATED i) tries i o
 decided UNSAT tries i o otherwise = otherwise
 decided SPENT tries i o otherwise = judged (SPENT-AT i) tries i o
 
-module _ (d : Design) (p : ℕ) where
+module _ (d : Design) (p : Property) where
   -- the search on the formula for bound i
   unfoldable pub searched : Budget → ℕ → Outcome
   searched b i = solved (n d p i) (formula d p i) b
@@ -80,8 +82,8 @@ module _ (file : List ℕ) (d : Design) (p : ℕ) where
   -- "VERDICT leaves the last formula tried, SOLVE's leavings and, on VIOLATED only, the choices decoded from them. All else keeps."
   unfoldable pub memoryLeft : Judged → Memory → Memory
   memoryLeft j lent =
-      let formulaWords = words (formula d p (j .bound)) in
-      let solve = leaves (n d p (j .bound)) (j .outcome) (lent .values) (lent .trail) in
+      let formulaWords = words (formula d (propertyOf d p) (j .bound)) in
+      let solve = leaves (n d (propertyOf d p) (j .bound)) (j .outcome) (lent .values) (lent .trail) in
       record {
         clauses = formulaWords ++ drop (length formulaWords) (lent .clauses);
         values = solve .values;
@@ -90,7 +92,7 @@ module _ (file : List ℕ) (d : Design) (p : ℕ) where
       }
 
 -- there is room for the full bound
-unfoldable pub roomFor : Design → ℕ → ℕ → Memory → Bool
+unfoldable pub roomFor : Design → Property → ℕ → Memory → Bool
 roomFor d p k lent =
     leb (length (words (formula d p k))) (length (lent .clauses))
     && leb (n d p k) (length (lent .values))
@@ -106,8 +108,6 @@ afterCall lent (answer (told, left)) = record { answer = answer told; memory = l
 unfoldable pub verdict : List ℕ → ℕ → ℕ → ℕ → Memory → After
 verdict file p k budget lent =
     afterCall lent (
-    onDesign file λ d.
-    need (leb p maxProperty) 13 0
-    (need (leb k maxBound) 14 0
-    (need (roomFor d p k lent) 16 0
-    (answer ((judge d p k budget) .told, memoryLeft file d p (judge d p k budget) lent)))))
+    gate file p k λ d q.
+    need (roomFor d q k lent) 16 0
+    (answer ((judge d q k budget) .told, memoryLeft file d p (judge d q k budget) lent)))

@@ -2,9 +2,9 @@
 
 // "VIOLATED with its step, CLEAN, or SPENT with the bound it stood at"
 pub enum Verdict {
-    Violated(u8),
+    Violated(u64),
     Clean,
-    Spent(u8),
+    Spent(u64),
 }
 
 // The verdict, and the tries summed.

@@ -14,8 +14,8 @@ use search::search;
 // The bounds one after the other, to the first SAT.
 pub fn judge(
     file: &[u8],
-    property: u8,
-    bound: u8,
+    property: u64,
+    bound: u64,
     budget: u64,
     clauses: &mut [i32],
     values: &mut [u8],
@@ -25,7 +25,7 @@ pub fn judge(
     requires { ⌜ Ready (now file) property bound (record { clauses = now clauses; values = now values; trail = now trail; choices = now choices }) ⌝ }
     ensures { λ r. ⌜ record { reply = Reply.Done r; memory = record { clauses = now (clauses .exit); values = now (values .exit); trail = now (trail .exit); choices = now (choices .exit) } } ≡ exit (verdictOf (now (file .entry)) property bound budget (record { clauses = now (clauses .entry); values = now (values .entry); trail = now (trail .entry); choices = now (choices .entry) })) ⌝ }
 {
-    let mut i: u8 = 0;
+    let mut i: u64 = 0;
     let mut tries: u64 = 0;
     loop {
         let f = write_formula(file, property, i, clauses);

@@ -18,8 +18,8 @@ const SHORT: Reply = Reply::Refused {
 // VERDICT: a design, a property, a bound, a budget of tries, and memory for the clauses, the values, the trail and the choices.
 pub fn verdict(
     file: &[u8],
-    property: u8,
-    bound: u8,
+    property: u64,
+    bound: u64,
     budget: u64,
     clauses: &mut [i32],
     values: &mut [u8],
@@ -42,7 +42,7 @@ pub fn verdict(
             if (trail.len() as u64) < n {
                 return SHORT;
             }
-            if choices.len() < bound as usize {
+            if (choices.len() as u64) < bound {
                 return SHORT;
             }
             Reply::Done(judge(

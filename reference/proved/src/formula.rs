@@ -17,7 +17,7 @@ fn told<T, const N: usize>(code: u64, words: [u64; N], answer: impl FnOnce([u64;
     answered(code, || answer(words))
 }
 
-pub fn size(query: Query<[u8]>, bound: u8) -> Answer<Size> {
+pub fn size(query: Query<[u8]>, bound: u64) -> Answer<Size> {
     let Query { design, property } = query;
     let mut words = [FILLED; 7];
     let code = unsafe { stm_size(design.as_ptr(), design.len(), property, bound, &mut words) };
@@ -32,7 +32,7 @@ pub fn size(query: Query<[u8]>, bound: u8) -> Answer<Size> {
     })
 }
 
-pub fn encode(query: Query<[u8]>, bound: u8, part: u64, clauses: &mut [i32]) -> Answer<u64> {
+pub fn encode(query: Query<[u8]>, bound: u64, part: u64, clauses: &mut [i32]) -> Answer<u64> {
     let Query { design, property } = query;
     let mut words = [FILLED; 1];
     let code = unsafe {
@@ -42,7 +42,7 @@ pub fn encode(query: Query<[u8]>, bound: u8, part: u64, clauses: &mut [i32]) -> 
     told(code, words, |[count]| count)
 }
 
-pub fn decode(query: Query<[u8]>, bound: u8, values: &[u8], choices: &mut [u8]) -> Answer<()> {
+pub fn decode(query: Query<[u8]>, bound: u64, values: &[u8], choices: &mut [u8]) -> Answer<()> {
     let Query { design, property } = query;
     let code = unsafe {
         let (at, len) = (choices.as_mut_ptr(), choices.len());
@@ -51,7 +51,7 @@ pub fn decode(query: Query<[u8]>, bound: u8, values: &[u8], choices: &mut [u8]) 
     answered(code, || ())
 }
 
-pub fn verdict(query: Query<[u8]>, bound: u8, budget: u64, lent: Lent) -> Answer<Verdict> {
+pub fn verdict(query: Query<[u8]>, bound: u64, budget: u64, lent: Lent) -> Answer<Verdict> {
     let Query { design, property } = query;
     let mut words = [FILLED; 3];
     let code = unsafe {

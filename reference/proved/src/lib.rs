@@ -159,19 +159,19 @@ impl Operations for Proved {
         answered(code, || Solved { outcome: OUTCOMES[answer[0] as usize], tries: answer[1] })
     }
 
-    fn size(&mut self, query: Query<[u8]>, bound: u8) -> Answer<formula::Size> {
+    fn size(&mut self, query: Query<[u8]>, bound: u64) -> Answer<formula::Size> {
         formula::size(query, bound)
     }
 
-    fn encode(&mut self, query: Query<[u8]>, bound: u8, part: u64, clauses: &mut [i32]) -> Answer<u64> {
+    fn encode(&mut self, query: Query<[u8]>, bound: u64, part: u64, clauses: &mut [i32]) -> Answer<u64> {
         formula::encode(query, bound, part, clauses)
     }
 
-    fn decode(&mut self, query: Query<[u8]>, bound: u8, values: &[u8], choices: &mut [u8]) -> Answer<()> {
+    fn decode(&mut self, query: Query<[u8]>, bound: u64, values: &[u8], choices: &mut [u8]) -> Answer<()> {
         formula::decode(query, bound, values, choices)
     }
 
-    fn verdict(&mut self, query: Query<[u8]>, bound: u8, budget: u64, lent: formula::Lent) -> Answer<formula::Verdict> {
+    fn verdict(&mut self, query: Query<[u8]>, bound: u64, budget: u64, lent: formula::Lent) -> Answer<formula::Verdict> {
         formula::verdict(query, bound, budget, lent)
     }
 }

@@ -20,7 +20,7 @@ fn solve(operations: &mut impl Operations, n: u64, words: &[i32], budget: u64) -
     Solving { answer, values, trail }
 }
 
-fn formula(bound: u8) -> (u64, Vec<i32>) {
+fn formula(bound: u64) -> (u64, Vec<i32>) {
     let design = design_a();
     let formula = Formula::new(Query::new(&design, 0), bound);
     let mut words = vec![0; formula.size().words as usize];

@@ -3,13 +3,14 @@
 
 use proved::Proved;
 use reference::builder::file_bytes;
+use reference::design::Refusal;
 use reference::designs::design_a;
 use reference::formula::{Formula, Size};
 use reference::operations::{Answer, Operations};
 use reference::query::Query;
 use reference::verdict::{Finding, Lent, Verdict};
 
-fn size(bound: u8) -> Size {
+fn size(bound: u64) -> Size {
     match Proved.size(Query::new(&file_bytes(&design_a())[..], 0), bound) {
         Answer::Done(size) => size,
         other => panic!("SIZE answered {other:?}"),
@@ -37,6 +38,23 @@ fn parts_are_the_second_implementations() {
         let count = formula.write_part(part, &mut expected);
         let answer = Proved.encode(Query::new(&file[..], 0), bound, part, &mut words);
         assert_eq!((answer, words), (Answer::Done(count), expected), "part {part}");
+    }
+}
+
+#[test]
+fn properties_and_bounds_are_not_cut_to_a_byte() {
+    let file = file_bytes(&design_a());
+    let refused = |number| Refusal { number, place: 0 };
+    for over in [256, 257, 300, (1 << 32) + 1, u64::MAX] {
+        for (property, bound, number) in [(over, 0, 13), (0, over, 14)] {
+            let query = Query::new(&file[..], property);
+            assert_eq!(Proved.size(query, bound), Answer::Refused(refused(number)));
+            assert_eq!(Proved.encode(query, bound, 0, &mut [0; 44]), Answer::Refused(refused(number)));
+            assert_eq!(Proved.decode(query, bound, &[0; 102], &mut [0; 100]), Answer::Refused(refused(number)));
+            let (clauses, values, trail) = (&mut [0; 1_038], &mut [0; 102], &mut [0; 102]);
+            let lent = Lent { clauses, values, trail, choices: &mut [0; 100] };
+            assert_eq!(Proved.verdict(query, bound, 0, lent), Answer::Refused(refused(number)));
+        }
     }
 }
 

@@ -42,6 +42,17 @@ fn a_status_over_a_byte_is_refused() {
 }
 
 #[test]
+fn a_property_is_not_cut_to_a_byte() {
+    let file = file_bytes(&design_a());
+    let lent = Lent { values: [0; 32], statuses: [0; 8] };
+    for property in [2, 256, 257, 1 << 32, u64::MAX] {
+        let query = Query::new(&file[..], property);
+        assert_eq!(holds(query, &lent, &mut [7]), 13);
+        assert_eq!(replay(query, &[], &mut [7; 2]), 13);
+    }
+}
+
+#[test]
 fn a_choice_is_not_cut_to_a_byte() {
     let file = file_bytes(&design_a());
     for choice in [3, 256, 258, 1 << 32, u64::MAX] {

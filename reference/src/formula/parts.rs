@@ -47,10 +47,10 @@ pub struct Formula<'a> {
 }
 
 impl<'a> Formula<'a> {
-    pub fn new(query: Query<'a, Design>, bound: u8) -> Formula<'a> {
+    pub fn new(query: Query<'a, Design>, bound: u64) -> Formula<'a> {
         let mut formula = Formula {
             query,
-            bound: bound as u64,
+            bound,
             bits: BitPlaces::new(query.design),
             movers: query.design.movers(),
             property_gates: 0,

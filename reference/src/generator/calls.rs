@@ -45,7 +45,7 @@ pub fn replay(random: &mut Random, operation: &str) -> String {
     if operation == "trace" && random.chance(1) {
         file.resize(random.pick(&[16_385, 16_386, 16_390]), 0);
     }
-    let property = any_property(random);
+    let property = if operation == "trace" { property_byte(random) } else { any_property(random) };
     let choices = any_choices(random, design.movers().len());
     format!("{operation} {} {property} {}", hex(&file), list_text(&choices))
 }
@@ -60,7 +60,7 @@ pub fn encode(random: &mut Random) -> String {
     let (design, file) = design_to_encode(random);
     let (property, bound) = (any_property(random), any_bound(random));
     let part = any_part(random, bound);
-    let words = if property > 1 || bound > 100 || part > bound as u64 + 2 {
+    let words = if property > 1 || bound > 100 || part > bound + 2 {
         random.between(0, 20) as u64
     } else {
         Formula::new(Query::new(&design, property), bound).part_count(part).words
@@ -78,8 +78,8 @@ pub fn decode(random: &mut Random) -> String {
     if random.chance(30) {
         values.resize(length_near(random, values.len()), 255);
     }
-    let bound = if random.chance(5) { random.pick(&[100, 101, 255]) } else { bound };
-    let choices = length_near(random, bound as usize);
+    let bound = if random.chance(5) { far_bound(random) } else { bound };
+    let choices = length_near(random, lent_choices(bound));
     format!("decode {} {property} {bound} {} {choices}", hex(&file), list_text(&values))
 }
 
@@ -95,14 +95,14 @@ pub fn verdict(random: &mut Random) -> String {
         Some(tries) => budget_near(random, tries),
         None => random.between(0, MAX_TRIES as usize) as u64,
     };
-    let bound = if random.chance(3) { random.pick(&[101, 255]) } else { bound };
+    let bound = if random.chance(3) { far_bound(random) } else { bound };
     let lengths = verdict_lengths(random, size.words, size.variables, bound);
     format!("verdict {} {property} {bound} {budget} {}", hex(&file), lengths)
 }
 
 /// Lengths of clauses, values, trail and choices: mostly enough.
-fn verdict_lengths(random: &mut Random, words: u64, variables: u64, bound: u8) -> String {
-    let exact = [words, variables, variables, bound as u64];
+fn verdict_lengths(random: &mut Random, words: u64, variables: u64, bound: u64) -> String {
+    let exact = [words, variables, variables, lent_choices(bound) as u64];
     let near = random.chance(40);
     let lengths: Vec<String> = exact
         .iter()
@@ -115,19 +115,46 @@ fn verdict_lengths(random: &mut Random, words: u64, variables: u64, bound: u8) -
     lengths.join(" ")
 }
 
-fn any_property(random: &mut Random) -> u8 {
-    random.pick(&[0, 0, 0, 0, 0, 0, 0, 0, 1, 1, 1, 1, 1, 1, 1, 2, 255])
-}
+/// Numbers over a byte. Cut to one, most of them would be taken.
+const OVER_A_BYTE: [u64; 6] = [256, 257, 300, 1 << 32, (1 << 32) + 1, u64::MAX];
 
-fn any_bound(random: &mut Random) -> u8 {
-    match random.below(10) {
-        0..=7 => random.between(0, 5) as u8,
-        _ => random.pick(&[99, 100, 100, 101, 255]),
+fn any_property(random: &mut Random) -> u64 {
+    if random.chance(4) {
+        random.pick(&OVER_A_BYTE)
+    } else {
+        property_byte(random)
     }
 }
 
-fn any_part(random: &mut Random, bound: u8) -> u64 {
-    let last = bound as u64 + 2;
+/// A property as a program reads it.
+fn property_byte(random: &mut Random) -> u64 {
+    random.pick(&[0, 0, 0, 0, 0, 0, 0, 0, 1, 1, 1, 1, 1, 1, 1, 2, 255])
+}
+
+fn any_bound(random: &mut Random) -> u64 {
+    match random.below(10) {
+        0..=7 => random.between(0, 5) as u64,
+        8 => random.pick(&[99, 100]),
+        _ => far_bound(random),
+    }
+}
+
+/// The greatest bound, or one beyond it.
+fn far_bound(random: &mut Random) -> u64 {
+    if random.chance(40) {
+        random.pick(&OVER_A_BYTE)
+    } else {
+        random.pick(&[100, 101, 255])
+    }
+}
+
+/// The choices to lend for a bound, which may be no bound.
+fn lent_choices(bound: u64) -> usize {
+    bound.min(255) as usize
+}
+
+fn any_part(random: &mut Random, bound: u64) -> u64 {
+    let last = bound.min(255) + 2;
     match random.below(10) {
         0..=6 => random.between(0, last as usize) as u64,
         7 => last,
@@ -203,7 +230,7 @@ fn state_fault(random: &mut Random, design: &Design, state: &mut State) {
 
 /// Values with one flag set in each frame, except for some faults. Values
 /// that are no flags may be anything.
-fn flagged_values(random: &mut Random, query: Query<Design>, bound: u8) -> Vec<u8> {
+fn flagged_values(random: &mut Random, query: Query<Design>, bound: u64) -> Vec<u8> {
     let size = Formula::new(query, bound).size();
     let mut values: Vec<u8> = (0..size.variables).map(|_| random.word() as u8).collect();
     let movers = size.movers as usize;

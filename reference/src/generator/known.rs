@@ -11,7 +11,7 @@ use crate::query::Query;
 use crate::random::Random;
 
 /// Small designs and the bounds up to which a verdict on them takes few tries.
-const VERDICTS: [(&str, u8); 10] = [
+const VERDICTS: [(&str, u64); 10] = [
     ("design-a.stm", 4),
     ("first-state.stm", 4),
     ("turnstile.stm", 4),
@@ -24,18 +24,18 @@ const VERDICTS: [(&str, u8); 10] = [
     ("lock.stm", 2),
 ];
 
-fn design_for_verdict(random: &mut Random) -> (Design, u8) {
+fn design_for_verdict(random: &mut Random) -> (Design, u64) {
     let (name, most) = random.pick(&VERDICTS);
     let files = all_files();
     let known = files.iter().find(|file| file.0 == name);
     let design = check(&known.expect("a known name").1).expect("a known design is accepted");
-    (design, random.between(0, most as usize) as u8)
+    (design, random.between(0, most as usize) as u64)
 }
 
 /// Every part of a formula, each into memory that is short by one, just suffices, and is longer.
 pub fn all_parts(random: &mut Random) -> Vec<String> {
     let (design, file) = design_to_encode(random);
-    let (property, bound) = (random.below(2) as u8, random.between(0, 3) as u8);
+    let (property, bound) = (random.below(2) as u64, random.between(0, 3) as u64);
     let formula = Formula::new(Query::new(&design, property), bound);
     let mut requests = vec![];
     for part in 0..=formula.last_part() {
@@ -50,11 +50,11 @@ pub fn all_parts(random: &mut Random) -> Vec<String> {
 /// A verdict with no try, one too few, just enough and more; then each memory short by one, and all of it longer.
 pub fn all_budgets(random: &mut Random) -> Vec<String> {
     let (design, bound) = design_for_verdict(random);
-    let property = random.below(2) as u8;
+    let property = random.below(2) as u64;
     let query = Query::new(&design, property);
     let size = Formula::new(query, bound).size();
     let tries = exact_tries(query, bound).unwrap_or(20);
-    let exact = [size.words, size.variables, size.variables, bound as u64];
+    let exact = [size.words, size.variables, size.variables, bound];
     let mut requests = vec![];
     let mut add = |budget: u64, lengths: [u64; 4]| {
         let [clauses, values, trail, choices] = lengths;

@@ -39,8 +39,8 @@ fn any_list(random: &mut Random) -> (usize, Vec<i32>) {
 
 fn formula_list(random: &mut Random) -> (usize, Vec<i32>) {
     let design = chain_design(random);
-    let query = Query::new(&design, random.below(2) as u8);
-    let formula = Formula::new(query, random.between(0, 2) as u8);
+    let query = Query::new(&design, random.below(2) as u64);
+    let formula = Formula::new(query, random.between(0, 2) as u64);
     let mut words = vec![0; formula.size().words as usize];
     let mut at = 0;
     for part in 0..=formula.last_part() {

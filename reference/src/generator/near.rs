@@ -15,16 +15,16 @@ pub fn affordable_bound(
     query: Query<Design>,
     bound: usize,
     affordable: impl Fn(u64, u64) -> bool,
-) -> u8 {
-    let fits = |k: &u8| {
+) -> u64 {
+    let fits = |k: &u64| {
         let size = Formula::new(query, *k).size();
         affordable(size.variables, size.words)
     };
-    (0..=bound as u8).rev().find(fits).unwrap_or(0)
+    (0..=bound as u64).rev().find(fits).unwrap_or(0)
 }
 
 /// The tries of VERDICT with no budget set, where they are few.
-pub fn exact_tries(query: Query<Design>, bound: u8) -> Option<u64> {
+pub fn exact_tries(query: Query<Design>, bound: u64) -> Option<u64> {
     let size = Formula::new(query, bound).size();
     let n = size.variables as usize;
     let lent = Lent {

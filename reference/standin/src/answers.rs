@@ -57,7 +57,7 @@ pub fn stm_holds(
     design: &[u8],
     values: &[i16; 32],
     statuses: &[u16; 8],
-    property: u8,
+    property: u64,
     holds: &mut [u8; 1],
 ) -> u64 {
     let query = Query::new(design, property);
@@ -70,11 +70,11 @@ pub fn stm_replay(query: Query<[u8]>, choices: &[u8], answer: &mut [u64; 2]) -> 
     })
 }
 
-pub fn stm_size(query: Query<[u8]>, bound: u8, answer: &mut [u64; 7]) -> u64 {
+pub fn stm_size(query: Query<[u8]>, bound: u64, answer: &mut [u64; 7]) -> u64 {
     code(Reference.size(query, bound), |size| *answer = size.numbers())
 }
 
-pub fn stm_encode(query: Query<[u8]>, bound: u8, part: u64, clauses: &mut [i32], answer: &mut [u64; 1]) -> u64 {
+pub fn stm_encode(query: Query<[u8]>, bound: u64, part: u64, clauses: &mut [i32], answer: &mut [u64; 1]) -> u64 {
     code(Reference.encode(query, bound, part, clauses), |count| *answer = [count])
 }
 
@@ -96,14 +96,14 @@ pub fn stm_solve(
     })
 }
 
-pub fn stm_decode(query: Query<[u8]>, bound: u8, values: &[u8], choices: &mut [u8]) -> u64 {
+pub fn stm_decode(query: Query<[u8]>, bound: u64, values: &[u8], choices: &mut [u8]) -> u64 {
     code(Reference.decode(query, bound, values, choices), |()| ())
 }
 
 #[allow(clippy::too_many_arguments)]
 pub fn stm_verdict(
     query: Query<[u8]>,
-    bound: u8,
+    bound: u64,
     budget: u64,
     clauses: &mut [i32],
     values: &mut [u8],

@@ -10,14 +10,6 @@ pub trait Lent<'a> {
     unsafe fn lent(self) -> Self::Form;
 }
 
-impl Lent<'_> for (u8,) {
-    type Form = u8;
-
-    unsafe fn lent(self) -> u8 {
-        self.0
-    }
-}
-
 impl Lent<'_> for (u64,) {
     type Form = u64;
 
@@ -58,7 +50,7 @@ impl<'a, T: 'a> Lent<'a> for (*mut T, usize) {
     }
 }
 
-impl<'a> Lent<'a> for (*const u8, usize, u8) {
+impl<'a> Lent<'a> for (*const u8, usize, u64) {
     type Form = Query<'a, [u8]>;
 
     unsafe fn lent(self) -> Query<'a, [u8]> {

@@ -25,7 +25,7 @@ pub fn all_lists(movers: usize, length: usize) -> Vec<Vec<u8>> {
 }
 
 /// Whether a list breaks the property, step by step.
-pub fn breaks(design: &Design, property: u8, choices: &[u8]) -> bool {
+pub fn breaks(design: &Design, property: u64, choices: &[u8]) -> bool {
     let mut state = start(design);
     let mut broken = !holds(Query::new(design, property), &state).unwrap();
     for &choice in choices {
@@ -35,7 +35,7 @@ pub fn breaks(design: &Design, property: u8, choices: &[u8]) -> bool {
     broken
 }
 
-pub fn breaking_lists(design: &Design, property: u8, length: usize) -> Vec<Vec<u8>> {
+pub fn breaking_lists(design: &Design, property: u64, length: usize) -> Vec<Vec<u8>> {
     let mut lists = all_lists(design.movers().len(), length);
     lists.retain(|list| breaks(design, property, list));
     lists
@@ -71,24 +71,24 @@ pub fn first_bad_step(design: &Design, bad: impl Fn(&State, &State) -> bool) -> 
     None
 }
 
-pub fn first_break(design: &Design, property: u8) -> Option<usize> {
+pub fn first_break(design: &Design, property: u64) -> Option<usize> {
     first_bad_step(design, |_, after| !holds(Query::new(design, property), after).unwrap())
 }
 
 /// The words of a part, or of all parts joined.
-pub fn part_words(design: &Design, property: u8, bound: u8, part: u64) -> Vec<i32> {
+pub fn part_words(design: &Design, property: u64, bound: u64, part: u64) -> Vec<i32> {
     let formula = Formula::new(Query::new(design, property), bound);
     let mut words = vec![0; formula.part_count(part).words as usize];
     assert_eq!(formula.write_part(part, &mut words), words.len() as u64);
     words
 }
 
-pub fn formula_words(design: &Design, property: u8, bound: u8) -> Vec<i32> {
-    let parts = 0..=bound as u64 + 2;
+pub fn formula_words(design: &Design, property: u64, bound: u64) -> Vec<i32> {
+    let parts = 0..=bound + 2;
     parts.flat_map(|part| part_words(design, property, bound, part)).collect()
 }
 
-pub fn variables(design: &Design, property: u8, bound: u8) -> usize {
+pub fn variables(design: &Design, property: u64, bound: u64) -> usize {
     Formula::new(Query::new(design, property), bound).variables() as usize
 }
 
@@ -101,7 +101,7 @@ pub fn solved(n: usize, words: &[i32], budget: u64) -> (Solved, Vec<u8>) {
 }
 
 /// VERDICT on memory of its own: the answer and the choices.
-pub fn verdict_of(design: &Design, property: u8, bound: u8, budget: u64) -> (Verdict, Vec<u8>) {
+pub fn verdict_of(design: &Design, property: u64, bound: u64, budget: u64) -> (Verdict, Vec<u8>) {
     let size = Formula::new(Query::new(design, property), bound).size();
     let n = size.variables as usize;
     let mut choices = vec![255; bound as usize];

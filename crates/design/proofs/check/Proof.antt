@@ -34,64 +34,13 @@ returns-2 c =
     c .answer2 .ensures ∙ whole-version (c .before .before .before .before .before .before .args .file .now) _ (c .before .before .before .before
     .length-right .ensures) (not-false _ (c .before .before .before .if1 .left)) _ (c .before .before .word .ensures .0) (c .before .if2 .taken)
 
-trailer-word-requires : tie.Need-trailer-word-requires
-trailer-word-requires c κs =
+trailer-counts-requires : tie.Need-trailer-counts-requires
+trailer-counts-requires c κs =
     omega (
       arith,
       length-low _ (length (c .before .before .before .before .before .args .file .now)) (c .before .before .before .length-right .ensures)
           (not-false _ (c .before .before .if1 .left)),
     )
-
-trailer-word-requires-2 : tie.Need-trailer-word-requires-2
-trailer-word-requires-2 c κs =
-    omega (
-      arith,
-      length-low _ (length (c .before .before .before .before .before .before .args .file .now)) (c .before .before .before .before
-          .length-right .ensures) (not-false _ (c .before .before .before .if1 .left)),
-    )
-
-trailer-word-requires-3 : tie.Need-trailer-word-requires-3
-trailer-word-requires-3 c κs =
-    omega (
-      arith,
-      length-low _ (length (c .before .before .before .before .before .before .before .args .file .now)) (c .before .before .before .before
-          .before .length-right .ensures) (not-false _ (c .before .before .before .before .if1 .left)),
-    )
-
-trailer-word-requires-4 : tie.Need-trailer-word-requires-4
-trailer-word-requires-4 c κs =
-    let entry = c .before .before .before .before .before .before .before .before in
-    omega (
-      arith,
-      length-low _ (length (entry .args .file .now)) (c .before .before .before .before .before .before .length-right .ensures) (not-false _
-          (c .before .before .before .before .before .if1 .left)),
-    )
-
-trailer-word-requires-5 : tie.Need-trailer-word-requires-5
-trailer-word-requires-5 c κs =
-    let entry = c .before .before .before .before .before .before .before .before .before in
-    omega (
-      arith,
-      length-low _ (length (entry .args .file .now)) (c .before .before .before .before .before .before .before .length-right .ensures)
-          (not-false _ (c .before .before .before .before .before .before .if1 .left)),
-    )
-
-trailer-word-requires-6 : tie.Need-trailer-word-requires-6
-trailer-word-requires-6 c κs =
-    let at-length-right = c .before .before .before .before .before .before .before .before in
-    let entry = at-length-right .before .before in
-    omega (
-      arith,
-      length-low _ (length (entry .args .file .now)) (at-length-right .length-right .ensures) (not-false _ (c .before .before .before .before
-          .before .before .before .if1 .left)),
-    )
-
-trailer-word-requires-7 : tie.Need-trailer-word-requires-7
-trailer-word-requires-7 c κs =
-    let at-if1 = c .before .before .before .before .before .before .before .before in
-    let at-length-right = at-if1 .before in
-    let entry = at-length-right .before .before in
-    omega (arith, length-low _ (length (entry .args .file .now)) (at-length-right .length-right .ensures) (not-false _ (at-if1 .if1 .left)))
 
 counts-right-requires : tie.Need-counts-right-requires
 counts-right-requires c κs = tt
@@ -101,27 +50,30 @@ answer-requires-3 c κs = tt
 
 returns-3 : tie.Need-returns-3
 returns-3 c =
-    let at-trailer-word = c .before .before .before .before .before .before .before .before .before in
-    let at-if2 = at-trailer-word .before in
-    let at-word = at-if2 .before in
-    let at-if1 = at-word .before in
-    let at-length-right = at-if1 .before in
-    let entry = at-length-right .before .before in
-    c .answer3 .ensures ∙ whole-counts (entry .args .file .now) _ (at-length-right .length-right .ensures) (not-false _ (at-if1 .if1 .left)) _ (at-word
-    .word .ensures .0) (at-if2 .if2 .left) _ _ _ (at-trailer-word .trailer-word .ensures .0) (c .before .before .before .before .before .before
-    .before .trailer-word3 .ensures .0) (c .before .before .before .before .trailer-word6 .ensures .0) _ (c .before .before .counts-right
+    let entry = c .before .before .before .before .before .before .before .before .before in
+    c .answer3 .ensures ∙ whole-counts (entry .args .file .now) _ (c .before .before .before .before .before .before .before .length-right .ensures)
+    (not-false _ (c .before .before .before .before .before .before .if1 .left)) _ (c .before .before .before .before .before .word .ensures .0)
+    (c .before .before .before .before .if2 .left) _ (c .before .before .before .trailer-counts .ensures .0) _ (c .before .before .counts-right
     .ensures) (not-true _ (c .before .if3 .taken))
+
+trailer-offsets-requires : tie.Need-trailer-offsets-requires
+trailer-offsets-requires c κs =
+    let entry = c .before .before .before .before .before .before .before .before in
+    omega (
+      arith,
+      length-low _ (length (entry .args .file .now)) (c .before .before .before .before .before .before .length-right .ensures) (not-false _
+          (c .before .before .before .before .before .if1 .left)),
+    )
 
 check-sections-requires : tie.Need-check-sections-requires
 check-sections-requires c κs =
-    let at-trailer-word = c .before .before .before .before .before .before .before .before in
-    let at-if1 = at-trailer-word .before .before .before in
-    let at-length-right = at-if1 .before in
-    let entry = at-length-right .before .before in
-    let h = length-low _ (length (entry .args .file .now)) (at-length-right .length-right .ensures) (not-false _ (at-if1 .if1 .left)) in omega (
-      arith,
-      at-trailer-word .trailer-word .ensures .1,
-      c .before .before .before .trailer-word6 .ensures .1,
+    let entry = c .before .before .before .before .before .before .before .before .before in (
+      omega (
+        arith,
+        length-low _ (length (entry .args .file .now)) (c .before .before .before .before .before .before .before .length-right .ensures)
+            (not-false _ (c .before .before .before .before .before .before .if1 .left)),
+      ),
+      c .before .before .before .trailer-counts .ensures .1,
     )
 
 enum-known-movers : tie.Need-enum-known-movers
@@ -144,69 +96,49 @@ answer-requires-6 c κs = tt
 
 returns-4 : tie.Need-returns-4
 returns-4 c =
-    let at-counts-right = c .before .before .before .before .before .before .before .before in
-    let at-trailer-word7 = at-counts-right .before in
-    let at-trailer-word6 = at-trailer-word7 .before in
-    let at-trailer-word5 = at-trailer-word6 .before in
-    let at-trailer-word4 = at-trailer-word5 .before in
-    let at-trailer-word3 = at-trailer-word4 .before in
-    let at-trailer-word2 = at-trailer-word3 .before in
-    let at-trailer-word = at-trailer-word2 .before in
-    let at-if2 = at-trailer-word .before in
+    let at-if3 = c .before .before .before .before .before .before .before .before in
+    let at-counts-right = at-if3 .before in
+    let at-trailer-counts = at-counts-right .before in
+    let at-if2 = at-trailer-counts .before in
     let at-word = at-if2 .before in
     let at-if1 = at-word .before in
     let at-length-right = at-if1 .before in
     let entry = at-length-right .before .before in
     c .answer4 .ensures ∙ whole-accepted (entry .args .file .now) _ (at-length-right .length-right .ensures) (not-false _ (at-if1 .if1 .left)) _ (at-word
-    .word .ensures .0) (at-if2 .if2 .left) _ _ _ (at-trailer-word .trailer-word .ensures .0) (at-trailer-word3 .trailer-word3 .ensures .0)
-    (at-trailer-word6 .trailer-word6 .ensures .0) _ (at-counts-right .counts-right .ensures) (not-false _ (c .before .before .before .before
-    .before .before .before .if3 .left)) _ _ _ _ (at-trailer-word2 .trailer-word2 .ensures .0) (at-trailer-word4 .trailer-word4 .ensures .0)
-    (at-trailer-word5 .trailer-word5 .ensures .0) (at-trailer-word7 .trailer-word7 .ensures .0) _ _ _ (c .before .before .before .before .before
-    .before .check-sections .ensures) (c .before .before .before .before .movers .given .1) _ (c .before .before .movers-right .ensures) (c
-    .before .if4 .taken)
+    .word .ensures .0) (at-if2 .if2 .left) _ (at-trailer-counts .trailer-counts .ensures .0) _ (at-counts-right .counts-right .ensures) (not-false
+    _ (at-if3 .if3 .left)) _ (c .before .before .before .before .before .before .before .trailer-offsets .ensures) _ _ _ (c .before .before
+    .before .before .before .before .check-sections .ensures) (c .before .before .before .before .movers .given .1) _ (c .before .before
+    .movers-right .ensures) (c .before .if4 .taken)
 
 returns-5 : tie.Need-returns-5
 returns-5 c =
-    let at-counts-right = c .before .before .before .before .before .before .before .before in
-    let at-trailer-word7 = at-counts-right .before in
-    let at-trailer-word6 = at-trailer-word7 .before in
-    let at-trailer-word5 = at-trailer-word6 .before in
-    let at-trailer-word4 = at-trailer-word5 .before in
-    let at-trailer-word3 = at-trailer-word4 .before in
-    let at-trailer-word2 = at-trailer-word3 .before in
-    let at-trailer-word = at-trailer-word2 .before in
-    let at-if2 = at-trailer-word .before in
+    let at-if3 = c .before .before .before .before .before .before .before .before in
+    let at-counts-right = at-if3 .before in
+    let at-trailer-counts = at-counts-right .before in
+    let at-if2 = at-trailer-counts .before in
     let at-word = at-if2 .before in
     let at-if1 = at-word .before in
     let at-length-right = at-if1 .before in
     let entry = at-length-right .before .before in
     c .answer5 .ensures ∙ whole-movers (entry .args .file .now) _ (at-length-right .length-right .ensures) (not-false _ (at-if1 .if1 .left)) _ (at-word
-    .word .ensures .0) (at-if2 .if2 .left) _ _ _ (at-trailer-word .trailer-word .ensures .0) (at-trailer-word3 .trailer-word3 .ensures .0)
-    (at-trailer-word6 .trailer-word6 .ensures .0) _ (at-counts-right .counts-right .ensures) (not-false _ (c .before .before .before .before
-    .before .before .before .if3 .left)) _ _ _ _ (at-trailer-word2 .trailer-word2 .ensures .0) (at-trailer-word4 .trailer-word4 .ensures .0)
-    (at-trailer-word5 .trailer-word5 .ensures .0) (at-trailer-word7 .trailer-word7 .ensures .0) _ _ _ (c .before .before .before .before .before
-    .before .check-sections .ensures) (c .before .before .before .before .movers .given .1) _ (c .before .before .movers-right .ensures) (c
-    .before .if4 .left)
+    .word .ensures .0) (at-if2 .if2 .left) _ (at-trailer-counts .trailer-counts .ensures .0) _ (at-counts-right .counts-right .ensures) (not-false
+    _ (at-if3 .if3 .left)) _ (c .before .before .before .before .before .before .before .trailer-offsets .ensures) _ _ _ (c .before .before
+    .before .before .before .before .check-sections .ensures) (c .before .before .before .before .movers .given .1) _ (c .before .before
+    .movers-right .ensures) (c .before .if4 .left)
 
 returns-6 : tie.Need-returns-6
 returns-6 c =
-    let at-trailer-word6 = c .before .before .before .before .before .before .before .before in
-    let at-trailer-word5 = at-trailer-word6 .before in
-    let at-trailer-word4 = at-trailer-word5 .before in
-    let at-trailer-word3 = at-trailer-word4 .before in
-    let at-trailer-word2 = at-trailer-word3 .before in
-    let at-trailer-word = at-trailer-word2 .before in
-    let at-if2 = at-trailer-word .before in
+    let at-trailer-counts = c .before .before .before .before .before .before .before .before in
+    let at-if2 = at-trailer-counts .before in
     let at-word = at-if2 .before in
     let at-if1 = at-word .before in
     let at-length-right = at-if1 .before in
     let entry = at-length-right .before .before in
     c .answer6 .ensures ∙ whole-stopped (entry .args .file .now) _ (at-length-right .length-right .ensures) (not-false _ (at-if1 .if1 .left)) _ (at-word
-    .word .ensures .0) (at-if2 .if2 .left) _ _ _ (at-trailer-word .trailer-word .ensures .0) (at-trailer-word3 .trailer-word3 .ensures .0)
-    (at-trailer-word6 .trailer-word6 .ensures .0) _ (c .before .before .before .before .before .before .counts-right .ensures) (not-false _ (c
-    .before .before .before .before .before .if3 .left)) _ _ _ _ (at-trailer-word2 .trailer-word2 .ensures .0) (at-trailer-word4 .trailer-word4
-    .ensures .0) (at-trailer-word5 .trailer-word5 .ensures .0) (c .before .before .before .before .before .before .before .trailer-word7 .ensures
-    .0) _ _ _ (c .before .before .before .before .check-sections .ensures) (c .before .before .number .given .1)
+    .word .ensures .0) (at-if2 .if2 .left) _ (at-trailer-counts .trailer-counts .ensures .0) _ (c .before .before .before .before .before .before
+    .before .counts-right .ensures) (not-false _ (c .before .before .before .before .before .before .if3 .left)) _ (c .before .before .before
+    .before .before .trailer-offsets .ensures) _ _ _ (c .before .before .before .before .check-sections .ensures) (c .before .before .number
+    .given .1)
 
 pub check-spec : {M : Type 1} → statement M
 check-spec =
@@ -219,16 +151,11 @@ check-spec =
     word-requires
     answer-requires-2
     returns-2
-    trailer-word-requires
-    trailer-word-requires-2
-    trailer-word-requires-3
-    trailer-word-requires-4
-    trailer-word-requires-5
-    trailer-word-requires-6
-    trailer-word-requires-7
+    trailer-counts-requires
     counts-right-requires
     answer-requires-3
     returns-3
+    trailer-offsets-requires
     check-sections-requires
     enum-known-movers
     movers-right-requires

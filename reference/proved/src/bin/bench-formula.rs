@@ -22,11 +22,11 @@ fn done<T>(answer: Answer<T>) -> T {
     }
 }
 
-fn sizes(operations: &mut impl Operations, query: Query<[u8]>, bound: u8) -> Size {
+fn sizes(operations: &mut impl Operations, query: Query<[u8]>, bound: u64) -> Size {
     done(operations.size(query, bound))
 }
 
-fn size(name: &str, property: u8, bound: u8) {
+fn size(name: &str, property: u64, bound: u64) {
     let design = file(name);
     let query = Query::new(&design[..], property);
     assert_eq!(sizes(&mut Proved, query, bound), sizes(&mut Reference, query, bound));
@@ -38,15 +38,15 @@ fn size(name: &str, property: u8, bound: u8) {
 }
 
 /// The words of every part, one after the other.
-fn encoded(operations: &mut impl Operations, query: Query<[u8]>, bound: u8, words: &mut [i32]) -> usize {
+fn encoded(operations: &mut impl Operations, query: Query<[u8]>, bound: u64, words: &mut [i32]) -> usize {
     let mut at = 0;
-    for part in 0..=bound as u64 + 2 {
+    for part in 0..=bound + 2 {
         at += done(operations.encode(query, bound, part, &mut words[at..])) as usize;
     }
     at
 }
 
-fn encode(name: &str, property: u8, bound: u8) {
+fn encode(name: &str, property: u64, bound: u64) {
     let design = file(name);
     let query = Query::new(&design[..], property);
     let length = sizes(&mut Reference, query, bound).words as usize;
@@ -81,13 +81,13 @@ struct Memory {
 }
 
 impl Memory {
-    fn verdict(&mut self, operations: &mut impl Operations, query: Query<[u8]>, bound: u8) -> Verdict {
+    fn verdict(&mut self, operations: &mut impl Operations, query: Query<[u8]>, bound: u64) -> Verdict {
         let Memory { clauses, values, trail, choices } = self;
         done(operations.verdict(query, bound, u64::MAX, Lent { clauses, values, trail, choices }))
     }
 }
 
-fn verdict(name: &str, property: u8, bound: u8) {
+fn verdict(name: &str, property: u64, bound: u64) {
     let design = file(name);
     let query = Query::new(&design[..], property);
     let size = sizes(&mut Reference, query, bound);

@@ -51,7 +51,7 @@ fn clean_a() -> Design {
 }
 
 /// The words of a formula and its number of variables.
-fn formula(design: &Design, bound: u8) -> (u64, Vec<i32>) {
+fn formula(design: &Design, bound: u64) -> (u64, Vec<i32>) {
     let formula = Formula::new(Query::new(design, 0), bound);
     let mut words = vec![0; formula.size().words as usize];
     let mut at = 0;
@@ -77,7 +77,7 @@ impl Memory {
     }
 }
 
-fn solve(name: &str, design: &Design, bound: u8) {
+fn solve(name: &str, design: &Design, bound: u64) {
     let (n, words) = formula(design, bound);
     let mut first = Memory { values: vec![0; n as usize], trail: vec![0; n as usize] };
     let mut second = first.clone();

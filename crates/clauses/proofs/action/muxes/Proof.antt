@@ -8,82 +8,73 @@ use Rattle.clauses.proofs.action.muxes.Statement.{statement}
 use Rattle.clauses.proofs.action.muxes.Tie as tie
 use Rattle.clauses.proofs.action.muxes.Reads as reads
 use Rattle.clauses.proofs.action.muxes.Lts as lts
-use Rattle.clauses.proofs.action.state_bits.Reads as state-bits-reads
-use Rattle.clauses.proofs.gate.emit_mux.Reads as emit-mux-reads
 
 abbrev Inv-loop : tie.InvT-loop
-Inv-loop file nv nm c state₀ other buf₀ cur var s at₀ g₀ i₀ state buf at g i = Muxing file nv nm (fromCode c) state₀ other var buf₀ cur buf state at g i × (length buf ≡ length buf₀)
+Inv-loop shape c state₀ other buf₀ at₀ g₀ i₀ state buf at g i = Muxing (shape .bits) (fromCode c) state₀ other g₀ buf₀ at₀ buf state at g i × (length buf ≡ length buf₀)
 
 abbrev μ-loop : tie.MeasureT-loop
-μ-loop file nv nm c state₀ other buf₀ cur var s at₀ g₀ i₀ state buf at g i = s - i
-
-state-bits-requires : tie.Need-state-bits-requires Inv-loop μ-loop
-state-bits-requires c κs = ((c .before .pre .0) .kinds, (c .before .pre .0) .variables, (c .before .pre .0) .matrices)
+μ-loop shape c state₀ other buf₀ at₀ g₀ i₀ state buf at g i = shape .bits - i
 
 loop-holds : tie.Need-loop-holds Inv-loop μ-loop
 loop-holds c = (
-  muxing-start (c .before .before .args .file .now) (c .before .before .args .nv) (c .before .before .args .nm) _ (c .before .before .args .state .now)
-      (c .before .before .args .other .now) (omega (arith, (c .before .before .pre .0) .bits, c .before .before .pre .1)) (omega (
-        arith,
-        (c .before
-            .before .pre .0) .bits,
-        c .before .before .pre .1,
-        c .before .before .pre .2,
-      )) _ _ _,
+  muxing-start (c .args .shape .bits) _ (c .args .state .now) (c .args .other .now) (omega (arith, c .pre .0, c .pre .1)) (omega (
+    arith,
+    c .pre .0,
+    c
+        .pre .2,
+  )) _ _ _,
   refl,
 )
 
 mul-emit-mux : tie.Need-mul-emit-mux Inv-loop μ-loop
-mul-emit-mux c = omega (arith, c .before .before .before .state-bits .ensures)
+mul-emit-mux c = omega (arith, c .before .before .before .before .pre .0, c .before .if1 .taken)
 
 element-copy-out-emit-mux : tie.Need-element-copy-out-emit-mux Inv-loop μ-loop
-element-copy-out-emit-mux c = omega (arith, c .before .before .before .state-bits .ensures)
+element-copy-out-emit-mux c = omega (arith, c .before .before .before .before .pre .0, c .before .if1 .taken)
 
 mul-emit-mux-2 : tie.Need-mul-emit-mux-2 Inv-loop μ-loop
-mul-emit-mux-2 c = omega (arith, c .before .before .before .before .state-bits .ensures)
+mul-emit-mux-2 c = omega (arith, c .before .before .before .before .before .pre .0, c .before .before .if1 .taken)
 
 element-copy-out-emit-mux-2 : tie.Need-element-copy-out-emit-mux-2 Inv-loop μ-loop
-element-copy-out-emit-mux-2 c = omega (arith, c .before .before .before .before .state-bits .ensures)
+element-copy-out-emit-mux-2 c = omega (arith, c .before .before .before .before .before .pre .0, c .before .before .if1 .taken)
 
 emit-mux-requires : tie.Need-emit-mux-requires Inv-loop μ-loop
 emit-mux-requires c κs = tt
 
 mul-state : tie.Need-mul-state Inv-loop μ-loop
-mul-state c = omega (arith, c .before .before .before .before .before .before .before .state-bits .ensures)
+mul-state c =
+    let entry = c .before .before .before .before .before .before .before .before in
+    omega (arith, entry .pre .0, c .before .before .before .before .before .if1 .taken)
 
 element-write-state : tie.Need-element-write-state Inv-loop μ-loop
-element-write-state c = omega (arith, c .before .before .before .before .before .before .before .state-bits .ensures)
+element-write-state c =
+    let entry = c .before .before .before .before .before .before .before .before in
+    omega (arith, entry .pre .0, c .before .before .before .before .before .if1 .taken)
 
 add-i : tie.Need-add-i Inv-loop μ-loop
-add-i c = omega (arith, c .before .before .before .before .before .before .before .state-bits .ensures)
+add-i c =
+    let entry = c .before .before .before .before .before .before .before .before in
+    omega (arith, entry .pre .0, c .before .before .before .before .before .if1 .taken)
 
 loop-less : tie.Need-loop-less Inv-loop μ-loop
 loop-less c = omega arith
 
 loop-again : tie.Need-loop-again Inv-loop μ-loop
 loop-again c = (
-  muxing-on (c .before .before .before .before .before .before .before .before .before .args .file .now) (c .before .before .before .before .before
-      .before .before .before .before .args .nv) (c .before .before .before .before .before .before .before .before .before .args .nm) _ (c .before
-      .before .before .before .before .before .before .before .before .args .state .now) (c .before .before .before .before .before .before .before
-      .before .before .args .other .now) (omega (
+  muxing-on (c .before .before .before .before .before .before .before .before .args .shape .bits) _ (c .before .before .before .before .before .before
+      .before .before .args .state .now) (c .before .before .before .before .before .before .before .before .args .other .now) (omega (
         arith,
-        (c .before .before .before .before .before .before .before .before .before .pre .0) .bits,
         c
-            .before .before .before .before .before .before .before .before .before .pre .1,
+            .before .before .before .before .before .before .before .before .pre .0,
+        c .before .before .before .before .before .before .before .before
+            .pre .1,
       )) (omega (
         arith,
-        (c .before .before .before .before .before
-            .before .before .before .before .pre .0) .bits,
-        c .before .before .before .before .before .before .before .before .before .pre .1,
-        c .before
-            .before .before .before .before .before .before .before .before .pre .2,
-      )) _ _ _ _ (omega (
-        arith,
+        c .before .before .before .before .before .before .before .before .pre .0,
         c .before .before .before .before .before
-            .before .before .state-bits .ensures,
-        c .before .before .before .before .before .loop-test .taken,
-      )) (c .before .before .before .before .before
-      .before .loop .inv .0) _ (c .before .emit-mux .ensures),
+            .before .before .before .pre .2,
+      )) _ _ _ _ (c .before .before .before .before .before .if1 .taken) (c .before .before .before .before .before
+      .before .before .loop .inv .0) _ (c .before .emit-mux .ensures),
   omega arith,
 )
 
@@ -92,19 +83,11 @@ same-length c = omega arith
 
 returns : tie.Need-returns Inv-loop μ-loop
 returns c =
-    let entry = c .before .before .before .before in (
-      muxing-end (entry .args .file .now) (entry .args .nv) (entry .args .nm) _ (entry .args .state .now) (entry .args .other .now) (omega (
-        arith,
-        (entry
-            .pre .0) .bits,
-        entry .pre .1,
-      )) (omega (arith, (entry .pre .0) .bits, entry .pre .1, entry .pre .2)) _ _ _ _ (omega (
-        arith,
-        c .before .before
-            .state-bits .ensures,
-        c .loop-test .left,
-      )) (c .before .loop .inv .0),
-      c .before .loop .inv .0 .size ∙ entry .pre .1,
+    let entry = c .before .before .before in (
+      (λ file e. muxing-end (entry .args .shape .bits) _ (entry .args .state .now) (entry .args .other .now) (omega (arith, entry .pre .0, entry .pre .1))
+          (omega (arith, entry .pre .0, entry .pre .2)) _ _ _ _ (c .if1 .left) (c .before .before .loop .inv .0) file (entry .args .shape) e),
+      c .before
+          .before .loop .inv .0 .size ∙ entry .pre .1,
     )
 
 pub muxes-spec : {M : Type 1} → statement M
@@ -113,7 +96,6 @@ muxes-spec =
     (tie.spec
     Inv-loop
     μ-loop
-    state-bits-requires
     loop-holds
     mul-emit-mux
     element-copy-out-emit-mux

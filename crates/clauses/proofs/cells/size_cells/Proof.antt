@@ -10,39 +10,40 @@ use Rattle.clauses.proofs.cost.join.Reads as join-reads
 use Rattle.design.proofs.index.trailer_word.Reads as trailer-word-reads
 
 abbrev Inv-loop : tie.InvT-loop
-Inv-loop file events nv nm bits invalid left₀ sum₀ left sum = Walking file bits invalid left sum
+Inv-loop file events shape invalid left₀ sum₀ left sum = Walking file (shape .bits) invalid left sum
 
 abbrev μ-loop : tie.MeasureT-loop
-μ-loop file events nv nm bits invalid left₀ sum₀ left sum = left
+μ-loop file events shape invalid left₀ sum₀ left sum = left
 
 trailer-word-requires : tie.Need-trailer-word-requires Inv-loop μ-loop
-trailer-word-requires c κs = (sizes _ _ _ _ _ (c .before .pre) .0, omega arith)
+trailer-word-requires c κs = (sizes _ _ _ (c .before .pre) .0, omega arith)
 
 trailer-word-requires-2 : tie.Need-trailer-word-requires-2 Inv-loop μ-loop
-trailer-word-requires-2 c κs = (sizes _ _ _ _ _ (c .before .before .pre) .0, omega arith)
+trailer-word-requires-2 c κs = (sizes _ _ _ (c .before .before .pre) .0, omega arith)
+
+no-gates-requires : tie.Need-no-gates-requires Inv-loop μ-loop
+no-gates-requires c κs = tt
 
 loop-holds : tie.Need-loop-holds Inv-loop μ-loop
-loop-holds c = walking-start _ _ _ _ _ (c .before .trailer-word .ensures .0) refl refl (c .trailer-word2 .ensures .0)
+loop-holds c = walking-start _ _ _ _ _ _ (c .before .before .trailer-word .ensures .0) (c .no-gates .ensures) (c .before .trailer-word2 .ensures .0)
 
 size-cell-requires : tie.Need-size-cell-requires Inv-loop μ-loop
 size-cell-requires c κs =
-    let entry = c .before .before .before .before .before in (
+    let entry = c .before .before .before .before .before .before in (
       entry .pre,
-      cell-here _ _ _ _ _ (entry .pre) (λ i. omega (arith, c .before .before .before .before .shared-slice-known .given i)) _ _ _ (c .loop-test
-          .taken) (c .before .loop .inv),
+      cell-here _ _ _ (entry .pre) (λ i. omega (arith, c .before .before .before .before .before .shared-slice-known .given i)) _ _ _ (c
+          .loop-test .taken) (c .before .loop .inv),
     )
 
 join-requires : tie.Need-join-requires Inv-loop μ-loop
 join-requires c κs =
-    let f = sum-few _ _ _ _ _ (c .before .before .before .before .before .before .pre) (λ i. omega (
+    let f = sum-few _ _ _ (c .before .before .before .before .before .before .before .pre) (λ i. omega (
       arith,
       c .before .before .before .before .before
-          .shared-slice-known .given i,
+          .before .shared-slice-known .given i,
     )) _ _ _ (c .before .loop-test .taken) (c .before .before .loop .inv) _ (c .size-cell .ensures) in (
-      omega (
-        arith,
-        f .0,
-      ),
+      omega
+          (arith, f .0),
       omega (arith, f .1),
     )
 
@@ -59,10 +60,10 @@ loop-again c =
 
 returns : tie.Need-returns Inv-loop μ-loop
 returns c =
-    all-counted _ _ _ _ _ (c .before .before .before .before .before .pre) (λ i. omega (
+    all-counted _ _ _ (c .before .before .before .before .before .before .pre) (λ i. omega (
       arith,
-      c .before .before .before .before .shared-slice-known
-          .given i,
+      c .before .before .before .before .before
+          .shared-slice-known .given i,
     )) _ _ _ (c .loop-test .left) (c .before .loop .inv)
 
 pub size-cells-spec : {M : Type 1} → statement M
@@ -73,6 +74,7 @@ size-cells-spec =
     μ-loop
     trailer-word-requires
     trailer-word-requires-2
+    no-gates-requires
     loop-holds
     size-cell-requires
     join-requires

@@ -9,39 +9,39 @@ use Rattle.clauses.proofs.cost.size_bool.Reads as size-bool-reads
 use Rattle.design.proofs.bytes.wide.Reads as wide-reads
 
 mul-at : tie.Need-mul-at
-mul-at c = omega (arith, event-slot _ _ _ _ _ (c .before .pre .0) _ _ (c .before .pre .1) (c .before .pre .2))
+mul-at c = omega (arith, event-slot _ _ _ (c .before .pre .0) _ _ (c .before .pre .1) (c .before .pre .2))
 
 add-at : tie.Need-add-at
-add-at c = omega (arith, event-slot _ _ _ _ _ (c .before .pre .0) _ _ (c .before .pre .1) (c .before .pre .2))
+add-at c = omega (arith, event-slot _ _ _ (c .before .pre .0) _ _ (c .before .pre .1) (c .before .pre .2))
 
 mul-at-2 : tie.Need-mul-at-2
-mul-at-2 c = omega (arith, event-slot _ _ _ _ _ (c .before .pre .0) _ _ (c .before .pre .1) (c .before .pre .2))
+mul-at-2 c = omega (arith, event-slot _ _ _ (c .before .pre .0) _ _ (c .before .pre .1) (c .before .pre .2))
 
 element-copy-out-at : tie.Need-element-copy-out-at
-element-copy-out-at c = omega (arith, event-slot _ _ _ _ _ (c .before .pre .0) _ _ (c .before .pre .1) (c .before .pre .2))
+element-copy-out-at c = omega (arith, event-slot _ _ _ (c .before .pre .0) _ _ (c .before .pre .1) (c .before .pre .2))
 
 cast-at : tie.Need-cast-at
 cast-at c =
     omega (
       arith,
-      event-inside _ _ _ _ _ (c .before .before .pre .0) _ _ (c .before .before .pre .1) (c .before .before .pre .2),
-      sizes _ _ _ _ _ (c
-          .before .before .pre .0),
+      event-inside _ _ _ (c .before .before .pre .0) _ _ (c .before .before .pre .1) (c .before .before .pre .2),
+      sizes _ _ _ (c .before
+          .before .pre .0),
     )
 
 add-past : tie.Need-add-past
 add-past c =
     omega (
       arith,
-      event-inside _ _ _ _ _ (c .before .before .pre .0) _ _ (c .before .before .pre .1) (c .before .before .pre .2),
-      sizes _ _ _ _ _ (c
-          .before .before .pre .0),
+      event-inside _ _ _ (c .before .before .pre .0) _ _ (c .before .before .pre .1) (c .before .before .pre .2),
+      sizes _ _ _ (c .before
+          .before .pre .0),
     )
 
 shared-slice-read-wide : tie.Need-shared-slice-read-wide
 shared-slice-read-wide c =
     let entry = c .before .before .before in
-    omega (arith, event-inside _ _ _ _ _ (entry .pre .0) _ _ (entry .pre .1) (entry .pre .2), sizes _ _ _ _ _ (entry .pre .0))
+    omega (arith, event-inside _ _ _ (entry .pre .0) _ _ (entry .pre .1) (entry .pre .2), sizes _ _ _ (entry .pre .0))
 
 wide-requires : tie.Need-wide-requires
 wide-requires c κs = search needs
@@ -49,37 +49,37 @@ wide-requires c κs = search needs
 add-past-2 : tie.Need-add-past-2
 add-past-2 c =
     let entry = c .before .before .before .before in
-    omega (arith, c .wide .ensures .0, event-inside _ _ _ _ _ (entry .pre .0) _ _ (entry .pre .1) (entry .pre .2), sizes _ _ _ _ _ (entry .pre .0))
+    omega (arith, c .wide .ensures .0, event-inside _ _ _ (entry .pre .0) _ _ (entry .pre .1) (entry .pre .2), sizes _ _ _ (entry .pre .0))
 
 add-size-bool : tie.Need-add-size-bool
 add-size-bool c =
     let entry = c .before .before .before .before in
-    omega (arith, event-inside _ _ _ _ _ (entry .pre .0) _ _ (entry .pre .1) (entry .pre .2), sizes _ _ _ _ _ (entry .pre .0))
+    omega (arith, event-inside _ _ _ (entry .pre .0) _ _ (entry .pre .1) (entry .pre .2), sizes _ _ _ (entry .pre .0))
 
 size-bool-requires : tie.Need-size-bool-requires
 size-bool-requires c κs =
     let entry = c .before .before .before .before in (
-      event-reads _ _ _ _ _ (entry .pre .0) _ _ (entry .pre .1) (entry .pre .2) _ (c .wide .ensures .0),
+      event-reads _ _ _ (entry .pre .0) _ _ (entry .pre .1) (entry .pre .2) _ (c .wide .ensures .0),
       omega (
         arith,
         c .wide .ensures .0,
-        event-inside _
-            _ _ _ _ (entry .pre .0) _ _ (entry .pre .1) (entry .pre .2),
-        sizes _ _ _ _ _ (entry .pre .0),
+        event-inside _ _ _
+            (entry .pre .0) _ _ (entry .pre .1) (entry .pre .2),
+        sizes _ _ _ (entry .pre .0),
       ),
       omega (
         arith,
         c .wide .ensures .0,
-        event-inside
-            _ _ _ _ _ (entry .pre .0) _ _ (entry .pre .1) (entry .pre .2),
-        sizes _ _ _ _ _ (entry .pre .0),
+        event-inside _ _ _
+            (entry .pre .0) _ _ (entry .pre .1) (entry .pre .2),
+        sizes _ _ _ (entry .pre .0),
       ),
     )
 
 returns : tie.Need-returns
 returns c =
     let entry = c .before .before .before .before .before in
-    event-gates _ _ _ _ _ (entry .pre .0) _ _ (entry .pre .1) (entry .pre .2) _ (c .before .wide .ensures .0) _ (c .size-bool .ensures)
+    event-gates _ _ _ (entry .pre .0) _ _ (entry .pre .1) (entry .pre .2) _ (c .before .wide .ensures .0) _ (c .size-bool .ensures)
 
 pub size-event-spec : {M : Type 1} → statement M
 size-event-spec =

@@ -17,10 +17,10 @@ use Rattle.design.proofs.bytes.wide.Reads as wide-reads
 use Rattle.design.proofs.bytes.word.Reads as word-reads
 
 size-place-requires : tie.Need-size-place-requires
-size-place-requires c κs = (c .before .pre .0, normal-fields _ _ _ _ _ (c .before .pre .0) _ (c .before .pre .1))
+size-place-requires c κs = (c .before .pre .0, normal-fields _ _ _ (c .before .pre .0) _ (c .before .pre .1))
 
 size-guard-requires : tie.Need-size-guard-requires
-size-guard-requires c κs = search needs
+size-guard-requires c κs = ((_, c .before .before .pre .0), c .before .before .pre .1)
 
 add-middle : tie.Need-add-middle
 add-middle c = search needs
@@ -49,25 +49,27 @@ add-past c = search needs
 size-list-requires : tie.Need-size-list-requires
 size-list-requires c κs =
     let entry = c .before .before .before .before .before .before in (
-      action-reads _ _ _ _ _ (entry .pre .0) _ (entry .pre .1) _ _ (ap (λ (i : ℕ). entry .args .p + 8 + i) (c .before .wide .ensures .0)) (ap₂ (λ (i j :
-          ℕ). entry .args .p + 8 + i + j) (c .before .wide .ensures .0) (c .word .ensures .0)),
-      omega (
-        arith,
-        c .before .wide .ensures .0,
-        c .word
-            .ensures .0,
-        normal-fields _ _ _ _ _ (entry .pre .0) _ (entry .pre .1) .past,
+      action-reads _ _ _ (entry .pre .0) _ (entry .pre .1) _ _ (ap (λ (i : ℕ). entry .args .p + 8 + i) (c .before .wide .ensures .0)) (ap₂ (λ (i j : ℕ).
+          entry .args .p + 8 + i + j) (c .before .wide .ensures .0) (c .word .ensures .0)),
+      (
+        omega (
+          arith,
+          c .before .wide .ensures .0,
+          c .word .ensures
+              .0,
+          normal-fields _ _ _ (entry .pre .0) _ (entry .pre .1) .past,
+        ),
+        omega (
+          arith,
+          c .before .wide .ensures .0,
+          c .word .ensures .0,
+          normal-fields _ _ _ (entry .pre .0) _ (entry .pre .1) .past,
+          sizes _ _ _ (entry .pre .0),
+        ),
+        kinds _ _ _ (entry .pre .0),
+        entry .pre .0 .bits
+            .few,
       ),
-      omega (
-        arith,
-        c .before .wide .ensures .0,
-        c .word .ensures .0,
-        normal-fields _ _ _ _ _ (entry .pre .0) _ (entry .pre .1) .past,
-        sizes _ _ _ _ _ (entry .pre .0),
-      ),
-      kinds _ _ _ _ _ (entry .pre .0),
-      entry .pre
-          .0 .few,
     )
 
 join-requires : tie.Need-join-requires
@@ -82,10 +84,10 @@ join-requires-2 c κs =
       arith,
       c .before .before .before .wide .ensures .0,
       c .before .before .word .ensures .0,
-      normal-fields _ _ _ _ _ (entry
+      normal-fields _ _ _ (entry
           .pre .0) _ (entry .pre .1) .past,
-      sizes _ _ _ _ _ (entry .pre .0),
-    )) _ (entry .pre .0 .few) _ _ _ (c .before .size-list .ensures) in (
+      sizes _ _ _ (entry .pre .0),
+    )) _ (entry .pre .0 .bits .few) _ _ _ (c .before .size-list .ensures) in (
       omega (
         arith,
         f .ands,
@@ -97,10 +99,10 @@ join-requires-2 c κs =
       omega (
         arith,
         f .wides,
-        entry .pre .0 .few,
+        entry .pre .0 .bits .few,
         at-size-place .size-place .ensures .0 .wides,
-        at-size-guard .size-guard .ensures
-            .0 .wides,
+        at-size-guard .size-guard
+            .ensures .0 .wides,
         ap (λ (z : GatesAt). z .wides) (c .join .ensures),
       ),
     )
@@ -109,10 +111,10 @@ returns : tie.Need-returns
 returns c =
     let at-wide = c .before .before .before .before in
     let entry = at-wide .before .before .before .before .before in
-    λ x. normal-gates _ _ _ _ _ (entry .pre .0) _ x _ _ (ap (λ (i : ℕ). entry .args .p + 8 + i) (at-wide .wide .ensures .0)) (ap₂ (λ (i j : ℕ). entry
-    .args .p + 8 + i + j) (at-wide .wide .ensures .0) (c .before .before .before .word .ensures .0)) _ _ _ _ _ (c .before .before .before .before
-    .before .before .before .size-place .ensures .1) (c .before .before .before .before .before .before .size-guard .ensures .1 x) (c .before
-    .before .size-list .ensures) (c .before .join .ensures) (c .join2 .ensures)
+    λ x. normal-gates _ _ _ (entry .pre .0) _ x _ _ (ap (λ (i : ℕ). entry .args .p + 8 + i) (at-wide .wide .ensures .0)) (ap₂ (λ (i j : ℕ). entry .args .p
+    + 8 + i + j) (at-wide .wide .ensures .0) (c .before .before .before .word .ensures .0)) _ _ _ _ _ (c .before .before .before .before .before
+    .before .before .size-place .ensures .1) (c .before .before .before .before .before .before .size-guard .ensures .1 x) (c .before .before
+    .size-list .ensures) (c .before .join .ensures) (c .join2 .ensures)
 
 pub size-normal-spec : {M : Type 1} → statement M
 size-normal-spec =

@@ -27,25 +27,31 @@ wide-requires-2 c κs = search needs
 size-event-requires : tie.Need-size-event-requires
 size-event-requires c κs =
     let entry = c .before .before .before .before .before in
-    let q = place-range _ _ _ _ _ (entry .pre .0) _ _ _ (c .before .before .wide .ensures .0) (c .wide2 .ensures .0) (entry .pre .1) in (
+    let q = place-range _ _ _ (entry .pre .0) _ _ _ (c .before .before .wide .ensures .0) (c .wide2 .ensures .0) (entry .pre .1) in (
       entry .pre .0,
-      q
-          .0,
+      q .0,
       q .1,
     )
 
-add-t14 : tie.Need-add-t14
-add-t14 c = search needs
+add-t12 : tie.Need-add-t12
+add-t12 c = search needs
 
-add-t15 : tie.Need-add-t15
-add-t15 c = search needs
+add-t13 : tie.Need-add-t13
+add-t13 c = search needs
 
 returns : tie.Need-returns
 returns c =
     let entry = c .before .before .before .before .before .before .before .before in (
-      record { ands = omega (arith, c .before .before .size-event .ensures .0); wides = omega (arith, c .before .before .size-event .ensures .1) },
-      place-gates _ _ _ _ _ (entry .pre .0) _ _ _ (c .before .before .before .before .before .wide .ensures .0) (c .before .before .before .wide2
-          .ensures .0) _ _ (c .before .before .size-event .ensures .2) refl refl,
+      record {
+        ands = omega (arith, c .before .before .size-event .ensures .0 .ands);
+        wides = omega (
+          arith,
+          c .before .before .size-event .ensures .0
+              .wides,
+        );
+      },
+      place-gates _ _ _ (entry .pre .0) _ _ _ (c .before .before .before .before .before .wide .ensures .0) (c .before .before .before
+          .wide2 .ensures .0) _ _ (c .before .before .size-event .ensures .1) refl refl,
     )
 
 pub size-place-spec : {M : Type 1} → statement M
@@ -58,6 +64,6 @@ size-place-spec =
     shared-slice-read-wide-2
     wide-requires-2
     size-event-requires
-    add-t14
-    add-t15
+    add-t12
+    add-t13
     returns)

@@ -3,6 +3,7 @@ use Prim.Native.Nat.{_+_, _-_, _≤_}
 use mathlib.Core.Path.{_≡_, refl, ap, ap₂, _∙_}
 use mathlib.Core.List.{[], _∷_}
 use lib.ListN.{length}
+use Rattle.clauses.specs.Writing.{variableLimit}
 use Rattle.clauses.specs.Literal.{Literal, positive, negate}
 use Rattle.clauses.specs.Words.{clauseWords, words}
 use Rattle.clauses.specs.Circuit.{Bits}
@@ -18,7 +19,7 @@ use Rattle.clauses.proofs.literal.next.Reads as next-reads
 use Rattle.clauses.proofs.literal.positive.Reads as positive-reads
 
 abbrev Inv-loop : tie.InvT-loop
-Inv-loop buf₀ cur f v n nf at₀ x₀ i₀ buf at x i = (f + 1 ≤ 2147483648 → Putting (λ (bs : Bits). words (against (positive f) bs)) v n buf₀ cur buf at x i) × (length buf ≡ length buf₀)
+Inv-loop buf₀ cur f v n nf at₀ x₀ i₀ buf at x i = (f + 1 ≤ variableLimit → Putting (λ (bs : Bits). words (against (positive f) bs)) v n buf₀ cur buf at x i) × (length buf ≡ length buf₀)
 
 abbrev μ-loop : tie.MeasureT-loop
 μ-loop buf₀ cur f v n nf at₀ x₀ i₀ buf at x i = n - i

@@ -3,6 +3,7 @@ use Prim.Native.Nat.{_+_, _-_, _≤_}
 use mathlib.Core.Path.{_≡_, refl, ap, _∙_}
 use mathlib.Core.List.{[]}
 use lib.ListN.{length}
+use Rattle.clauses.specs.Writing.{variableLimit}
 use Rattle.clauses.specs.Literal.{positive, negate}
 use Rattle.clauses.proofs.EmitClauses.{Tying, tying-start, tying-on, tying-end}
 use Rattle.clauses.proofs.clause.put_ties.Statement.{statement}
@@ -15,7 +16,7 @@ use Rattle.clauses.proofs.literal.next.Reads as next-reads
 use Rattle.clauses.proofs.literal.positive.Reads as positive-reads
 
 abbrev Inv-loop : tie.InvT-loop
-Inv-loop buf₀ cur f r b n nf at₀ x₀ y₀ i₀ buf at x y i = (f + 1 ≤ 2147483648 → Tying (positive f) r b n buf₀ cur buf at x y i) × (length buf ≡ length buf₀)
+Inv-loop buf₀ cur f r b n nf at₀ x₀ y₀ i₀ buf at x y i = (f + 1 ≤ variableLimit → Tying (positive f) r b n buf₀ cur buf at x y i) × (length buf ≡ length buf₀)
 
 abbrev μ-loop : tie.MeasureT-loop
 μ-loop buf₀ cur f r b n nf at₀ x₀ y₀ i₀ buf at x y i = n - i

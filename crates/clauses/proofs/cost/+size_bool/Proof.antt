@@ -1,5 +1,5 @@
 use native.Mathlib.Omega.{arith}
-use mathlib.Core.Logic.{inl, inr}
+use mathlib.Core.Logic.{inl, inr, ⊎-elim}
 use mathlib.Core.Path.{_∙_}
 use Rattle.step.proofs.Values.{bool-live, bool-unknown, not-first, logic-first, compare-first}
 use Rattle.clauses.proofs.Inside.{int-few, bool-few}
@@ -11,164 +11,158 @@ use Rattle.clauses.proofs.cost.size_bool.Reads as size-bool
 use Rattle.clauses.proofs.cost.size_bool.Kinds as size-bool-kinds
 use Rattle.clauses.proofs.cost.+size_bool.Lts-size_bool as size-bool-lts
 use Rattle.clauses.proofs.cost.join.Reads as join-reads
+use Rattle.clauses.proofs.cost.no_gates.Reads as no-gates-reads
 use Rattle.clauses.proofs.cost.size_int.Reads as size-int-reads
 use Rattle.clauses.proofs.cost.+size_bool.{statement}
 use Rattle.clauses.proofs.cost.+size_bool.Tie.{close}
 
-abbrev μ-size-bool : Measures 2 size-bool-kinds.ps ℕ
-μ-size-bool κs a = a .1 .1 .1 .1 .1 .1 .0
+abbrev μ-size-bool : Measures 1 size-bool-kinds.ps ℕ
+μ-size-bool κs a = a .1 .1 .1 .1 .0
 
-abbrev size-bool-at : ℕ → In 2 size-bool-kinds.ps
-size-bool-at t = and 2 size-bool-kinds.ps (is 2 size-bool-kinds.ps μ-size-bool t) size-bool.Pre
+abbrev size-bool-at : ℕ → In 1 size-bool-kinds.ps
+size-bool-at t = and 1 size-bool-kinds.ps (is 1 size-bool-kinds.ps μ-size-bool t) size-bool.Pre
 
-abbrev size-bool-below : ℕ → In 2 size-bool-kinds.ps
-size-bool-below t =
-    and 2 size-bool-kinds.ps (falls 2 size-bool-kinds.ps _<_ μ-size-bool t) size-bool.Pre
+abbrev size-bool-below : ℕ → In 1 size-bool-kinds.ps
+size-bool-below t = and 1 size-bool-kinds.ps (falls 1 size-bool-kinds.ps _<_ μ-size-bool t) size-bool.Pre
 
 abbrev size-bool-claims : ℕ → size-bool-lts.Claims
-size-bool-claims t = (size-bool-below t, size-bool.Post, join-reads.Asked, join-reads.Learnt, size-int-reads.Asked, size-int-reads.Learnt)
+size-bool-claims t = (size-bool-below t, size-bool.Post, no-gates-reads.Asked, no-gates-reads.Learnt, join-reads.Asked, join-reads.Learnt, size-int-reads.Asked, size-int-reads.Learnt)
 
 size-bool-shared-slice-read-op : (t : ℕ) → size-bool-lts.Need-shared-slice-read-op (size-bool-claims t) (size-bool-at t) size-bool.Post
-size-bool-shared-slice-read-op t c = omega (arith, bool-live _ _ _ _ _ (c .before .before .before .pre .1 .0) .inside)
+size-bool-shared-slice-read-op t c = omega (arith, bool-live _ _ _ _ _ (c .before .before .pre .1 .0) .inside)
 
 size-bool-add-size-bool : (t : ℕ) → size-bool-lts.Need-add-size-bool (size-bool-claims t) (size-bool-at t) size-bool.Post
-size-bool-add-size-bool t c = omega (arith, bool-live _ _ _ _ _ (c .before .before .before .before .pre .1 .0) .inside)
+size-bool-add-size-bool t c = omega (arith, bool-live _ _ _ _ _ (c .before .before .before .pre .1 .0) .inside)
 
 size-bool-sub-size-bool : (t : ℕ) → size-bool-lts.Need-sub-size-bool (size-bool-claims t) (size-bool-at t) size-bool.Post
-size-bool-sub-size-bool t c = omega (arith, bool-live _ _ _ _ _ (c .before .before .before .before .pre .1 .0) .deep)
+size-bool-sub-size-bool t c = omega (arith, bool-live _ _ _ _ _ (c .before .before .before .pre .1 .0) .deep)
 
 size-bool-size-bool-requires : (t : ℕ) → size-bool-lts.Need-size-bool-requires (size-bool-claims t) (size-bool-at t) size-bool.Post
 size-bool-size-bool-requires t c κs = (
-  omega (arith, bool-live _ _ _ _ _ (c .before .before .before .before .pre .1 .0) .deep),
+  omega (arith, bool-live _ _ _ _ _ (c .before .before .before .pre .1 .0) .deep),
   (
-    not-first _ _ _ _ _ (c .before .before .before .before .pre
-        .1 .0) (c .match .keys1),
+    not-first _ _ _ _ _ (c .before .before .before .pre .1 .0) (c
+        .match .keys1),
     omega arith,
     omega arith,
   ),
 )
 
-size-bool-add-t19 : (t : ℕ) → size-bool-lts.Need-add-t19 (size-bool-claims t) (size-bool-at t) size-bool.Post
-size-bool-add-t19 t c =
-    omega (arith, bool-name _ _ _ _ _ (c .before .before .before .before .before .before .pre .1 .0) (omega arith) (omega arith) .0)
+size-bool-add-no-gates : (t : ℕ) → size-bool-lts.Need-add-no-gates (size-bool-claims t) (size-bool-at t) size-bool.Post
+size-bool-add-no-gates t c = omega (arith, bool-name _ _ _ _ _ (c .before .before .before .before .before .pre .1 .0) (omega arith) (omega arith) .0)
+
+size-bool-no-gates-requires : (t : ℕ) → size-bool-lts.Need-no-gates-requires (size-bool-claims t) (size-bool-at t) size-bool.Post
+size-bool-no-gates-requires t c κs = tt
 
 size-bool-add-size-bool-2 : (t : ℕ) → size-bool-lts.Need-add-size-bool-2 (size-bool-claims t) (size-bool-at t) size-bool.Post
-size-bool-add-size-bool-2 t c = omega (arith, bool-live _ _ _ _ _ (c .before .before .before .before .before .before .before .pre .1 .0) .inside)
+size-bool-add-size-bool-2 t c = omega (arith, bool-live _ _ _ _ _ (c .before .before .before .before .before .before .pre .1 .0) .inside)
 
 size-bool-sub-size-bool-2 : (t : ℕ) → size-bool-lts.Need-sub-size-bool-2 (size-bool-claims t) (size-bool-at t) size-bool.Post
-size-bool-sub-size-bool-2 t c = omega (arith, bool-live _ _ _ _ _ (c .before .before .before .before .before .before .before .pre .1 .0) .deep)
+size-bool-sub-size-bool-2 t c = omega (arith, bool-live _ _ _ _ _ (c .before .before .before .before .before .before .pre .1 .0) .deep)
 
 size-bool-size-bool-requires-2 : (t : ℕ) → size-bool-lts.Need-size-bool-requires-2 (size-bool-claims t) (size-bool-at t) size-bool.Post
 size-bool-size-bool-requires-2 t c κs = (
-  omega (arith, bool-live _ _ _ _ _ (c .before .before .before .before .before .before .before .pre .1 .0) .deep),
+  omega (arith, bool-live _ _ _ _ _ (c .before .before .before .before .before .before .pre .1 .0) .deep),
   (
-    logic-first _ _ _ _ _ (c .before
-        .before .before .before .before .before .before .pre .1 .0) (omega arith) (omega arith),
+    logic-first _ _ _ _ _ (c .before .before
+        .before .before .before .before .pre .1 .0) (omega arith) (omega arith),
     omega arith,
     omega arith,
   ),
 )
 
 size-bool-sub-size-bool-3 : (t : ℕ) → size-bool-lts.Need-sub-size-bool-3 (size-bool-claims t) (size-bool-at t) size-bool.Post
-size-bool-sub-size-bool-3 t c =
-    let entry = c .before .before .before .before .before .before .before .before in
-    omega (arith, bool-live _ _ _ _ _ (entry .pre .1 .0) .deep)
+size-bool-sub-size-bool-3 t c = omega (arith, bool-live _ _ _ _ _ (c .before .before .before .before .before .before .before .pre .1 .0) .deep)
 
 size-bool-size-bool-requires-3 : (t : ℕ) → size-bool-lts.Need-size-bool-requires-3 (size-bool-claims t) (size-bool-at t) size-bool.Post
 size-bool-size-bool-requires-3 t c κs = (
-  omega (arith, bool-live _ _ _ _ _ (c .before .before .before .before .before .before .before .before .pre .1 .0) .deep),
+  omega (arith, bool-live _ _ _ _ _ (c .before .before .before .before .before .before .before .pre .1 .0) .deep),
   (
-    bool-then _ _ _ _ _ (c
-        .before .before .before .before .before .before .before .before .pre .1 .0) (omega arith) (omega arith) _ (c .size-bool2 .ensures),
-    omega
-        arith,
+    bool-then _ _ _ _ _ (c .before
+        .before .before .before .before .before .before .pre .1 .0) (omega arith) (omega arith) _ (c .size-bool2 .ensures),
+    omega arith,
     omega arith,
   ),
 )
 
 size-bool-join-requires : (t : ℕ) → size-bool-lts.Need-join-requires (size-bool-claims t) (size-bool-at t) size-bool.Post
 size-bool-join-requires t c κs =
-    let entry = c .before .before .before .before .before .before .before .before .before in
+    let entry = c .before .before .before .before .before .before .before .before in
     let f = bool-few _ _ _ (entry .pre .1 .2) _ _ _ (c .before .size-bool2 .ensures) in let g = bool-few _ _ _ (entry .pre .1 .2) _ _ _ (c .size-bool3
     .ensures) in (omega (arith, f .ands, g .ands), omega (arith, f .wides, g .wides))
 
 size-bool-add-size-int : (t : ℕ) → size-bool-lts.Need-add-size-int (size-bool-claims t) (size-bool-at t) size-bool.Post
-size-bool-add-size-int t c =
-    let entry = c .before .before .before .before .before .before .before .before in
-    omega (arith, bool-live _ _ _ _ _ (entry .pre .1 .0) .inside)
+size-bool-add-size-int t c = omega (arith, bool-live _ _ _ _ _ (c .before .before .before .before .before .before .before .pre .1 .0) .inside)
 
 size-bool-sub-size-int : (t : ℕ) → size-bool-lts.Need-sub-size-int (size-bool-claims t) (size-bool-at t) size-bool.Post
-size-bool-sub-size-int t c =
-    let entry = c .before .before .before .before .before .before .before .before in
-    omega (arith, bool-live _ _ _ _ _ (entry .pre .1 .0) .deep)
+size-bool-sub-size-int t c = omega (arith, bool-live _ _ _ _ _ (c .before .before .before .before .before .before .before .pre .1 .0) .deep)
 
 size-bool-size-int-requires : (t : ℕ) → size-bool-lts.Need-size-int-requires (size-bool-claims t) (size-bool-at t) size-bool.Post
-size-bool-size-int-requires t c κs = (
-  compare-first _ _ _ _ _ (c .before .before .before .before .before .before .before .before .pre .1 .0) (omega arith) (omega arith),
-  omega arith,
-  omega arith,
-)
+size-bool-size-int-requires t c κs =
+    (compare-first _ _ _ _ _ (c .before .before .before .before .before .before .before .pre .1 .0) (omega arith) (omega arith), omega arith, omega arith)
 
 size-bool-sub-size-int-2 : (t : ℕ) → size-bool-lts.Need-sub-size-int-2 (size-bool-claims t) (size-bool-at t) size-bool.Post
 size-bool-sub-size-int-2 t c =
-    let entry = c .before .before .before .before .before .before .before .before .before in
+    let entry = c .before .before .before .before .before .before .before .before in
     omega (arith, bool-live _ _ _ _ _ (entry .pre .1 .0) .deep)
 
 size-bool-size-int-requires-2 : (t : ℕ) → size-bool-lts.Need-size-int-requires-2 (size-bool-claims t) (size-bool-at t) size-bool.Post
 size-bool-size-int-requires-2 t c κs = (
-  compare-then _ _ _ _ _ (c .before .before .before .before .before .before .before .before .before .pre .1 .0) (omega arith) (omega arith) _ (c
-      .size-int .ensures),
+  compare-then _ _ _ _ _ (c .before .before .before .before .before .before .before .before .pre .1 .0) (omega arith) (omega arith) _ (c .size-int
+      .ensures),
   omega arith,
   omega arith,
 )
 
 size-bool-join-requires-2 : (t : ℕ) → size-bool-lts.Need-join-requires-2 (size-bool-claims t) (size-bool-at t) size-bool.Post
 size-bool-join-requires-2 t c κs =
-    let entry = c .before .before .before .before .before .before .before .before .before .before .before in
+    let entry = c .before .before .before .before .before .before .before .before .before .before in
     let f = int-few _ _ _ (entry .pre .1 .2) _ _ _ (c .before .before .size-int .ensures) in let g = int-few _ _ _ (entry .pre .1 .2) _ _ _ (c .before
     .size-int2 .ensures) in (omega (arith, f .ands, g .ands), omega (arith, f .wides, g .wides))
 
 size-bool-join-requires-3 : (t : ℕ) → size-bool-lts.Need-join-requires-3 (size-bool-claims t) (size-bool-at t) size-bool.Post
 size-bool-join-requires-3 t c κs =
-    let entry = c .before .before .before .before .before .before .before .before .before .before .before in
+    let entry = c .before .before .before .before .before .before .before .before .before .before in
     let f = int-few _ _ _ (entry .pre .1 .2) _ _ _ (c .before .before .size-int .ensures) in let g = int-few _ _ _ (entry .pre .1 .2) _ _ _ (c .before
     .size-int2 .ensures) in (omega (arith, f .ands, g .ands), omega (arith, f .wides, g .wides))
 
+size-bool-no-gates-requires-2 : (t : ℕ) → size-bool-lts.Need-no-gates-requires-2 (size-bool-claims t) (size-bool-at t) size-bool.Post
+size-bool-no-gates-requires-2 t c κs = tt
+
 size-bool-returns : (t : ℕ) → size-bool-lts.Need-returns (size-bool-claims t) (size-bool-at t) size-bool.Post
-size-bool-returns t c =
-    bool-negated _ _ _ _ _ (c .before .before .before .before .before .pre .1 .0) (c .before .match .keys1) _ (c .size-bool .ensures)
+size-bool-returns t c = bool-negated _ _ _ _ _ (c .before .before .before .before .pre .1 .0) (c .before .match .keys1) _ (c .size-bool .ensures)
 
 size-bool-returns-2 : (t : ℕ) → size-bool-lts.Need-returns-2 (size-bool-claims t) (size-bool-at t) size-bool.Post
-size-bool-returns-2 t c = bool-name _ _ _ _ _ (c .before .before .before .before .before .before .pre .1 .0) (omega arith) (omega arith) .1
+size-bool-returns-2 t c =
+    c .no-gates .ensures ∙ bool-name _ _ _ _ _ (c .before .before .before .before .before .before .pre .1 .0) (omega arith) (omega arith) .1
 
 size-bool-returns-3 : (t : ℕ) → size-bool-lts.Need-returns-3 (size-bool-claims t) (size-bool-at t) size-bool.Post
 size-bool-returns-3 t c =
-    c .join .ensures ∙ bool-joined _ _ _ _ _ (c .before .before .before .before .before .before .before .before .before .before .pre .1 .0) (omega arith)
-    (omega arith) _ _ (c .before .before .size-bool2 .ensures) (c .before .size-bool3 .ensures)
+    c .join .ensures ∙ bool-joined _ _ _ _ _ (c .before .before .before .before .before .before .before .before .before .pre .1 .0) (omega arith) (omega
+    arith) _ _ (c .before .before .size-bool2 .ensures) (c .before .size-bool3 .ensures)
 
 size-bool-returns-4 : (t : ℕ) → size-bool-lts.Need-returns-4 (size-bool-claims t) (size-bool-at t) size-bool.Post
 size-bool-returns-4 t c =
-    c .join2 .ensures ∙ equal-joined _ _ _ _ _ (c .before .before .before .before .before .before .before .before .before .before .before .before .pre .1
-    .0) (omega arith) (omega arith) _ _ (c .before .before .before .size-int .ensures) (c .before .before .size-int2 .ensures) (c .before .if5
-    .taken)
+    c .join2 .ensures ∙ equal-joined _ _ _ _ _ (c .before .before .before .before .before .before .before .before .before .before .before .pre .1 .0)
+    (omega arith) (omega arith) _ _ (c .before .before .before .size-int .ensures) (c .before .before .size-int2 .ensures) (c .before .if5 .taken)
 
 size-bool-returns-5 : (t : ℕ) → size-bool-lts.Need-returns-5 (size-bool-claims t) (size-bool-at t) size-bool.Post
 size-bool-returns-5 t c =
-    c .join3 .ensures ∙ less-joined _ _ _ _ _ (c .before .before .before .before .before .before .before .before .before .before .before .before .pre .1
-    .0) (omega arith) (omega arith) _ _ (c .before .before .before .size-int .ensures) (c .before .before .size-int2 .ensures) (c .before .if5
-    .left)
+    c .join3 .ensures ∙ less-joined _ _ _ _ _ (c .before .before .before .before .before .before .before .before .before .before .before .pre .1 .0)
+    (omega arith) (omega arith) _ _ (c .before .before .before .size-int .ensures) (c .before .before .size-int2 .ensures) (c .before .if5 .left)
 
 size-bool-returns-6 : (t : ℕ) → size-bool-lts.Need-returns-6 (size-bool-claims t) (size-bool-at t) size-bool.Post
-size-bool-returns-6 t c = absurd (bool-unknown _ _ _ _ _ (c .before .before .before .before .before .pre .1 .0) (inl (omega arith)))
-
-size-bool-returns-7 : (t : ℕ) → size-bool-lts.Need-returns-7 (size-bool-claims t) (size-bool-at t) size-bool.Post
-size-bool-returns-7 t c =
-    absurd (bool-unknown _ _ _ _ _ (c .before .before .before .before .before .before .before .before .pre .1 .0) (inr (omega arith)))
+size-bool-returns-6 t c =
+    let entry = c .before .before .before .before .before in
+    absurd (⊎-elim (λ w. bool-unknown _ _ _ _ _ (entry .pre .1 .0) (inl (omega (arith, w .taken)))) (λ w. bool-unknown _ _ _ _ _ (entry .pre .1 .0) (inr
+    (omega (arith, w .3 .left)))) (c .before .if1 .came))
 
 pub +size-bool-spec : {M : Type 1} → statement M
 +size-bool-spec = close μ-size-bool λ t. size-bool-lts.spec (
   size-bool-below t,
   size-bool.Post,
+  no-gates-reads.Asked,
+  no-gates-reads.Learnt,
   join-reads.Asked,
   join-reads.Learnt,
   size-int-reads.Asked,
@@ -180,7 +174,8 @@ pub +size-bool-spec : {M : Type 1} → statement M
     (size-bool-add-size-bool t)
     (size-bool-sub-size-bool t)
     (size-bool-size-bool-requires t)
-    (size-bool-add-t19 t)
+    (size-bool-add-no-gates t)
+    (size-bool-no-gates-requires t)
     (size-bool-add-size-bool-2 t)
     (size-bool-sub-size-bool-2 t)
     (size-bool-size-bool-requires-2 t)
@@ -194,10 +189,10 @@ pub +size-bool-spec : {M : Type 1} → statement M
     (size-bool-size-int-requires-2 t)
     (size-bool-join-requires-2 t)
     (size-bool-join-requires-3 t)
+    (size-bool-no-gates-requires-2 t)
     (size-bool-returns t)
     (size-bool-returns-2 t)
     (size-bool-returns-3 t)
     (size-bool-returns-4 t)
     (size-bool-returns-5 t)
     (size-bool-returns-6 t)
-    (size-bool-returns-7 t)

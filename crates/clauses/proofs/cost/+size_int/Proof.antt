@@ -1,5 +1,5 @@
 use native.Mathlib.Omega.{arith}
-use mathlib.Core.Logic.{inl, inr}
+use mathlib.Core.Logic.{inl, inr, ⊎-elim}
 use mathlib.Core.Path.{_∙_}
 use Rattle.step.proofs.Values.{int-live, int-unknown, int-first}
 use Rattle.clauses.proofs.Inside.{int-few}
@@ -11,59 +11,63 @@ use Rattle.clauses.proofs.cost.size_int.Reads as size-int
 use Rattle.clauses.proofs.cost.size_int.Kinds as size-int-kinds
 use Rattle.clauses.proofs.cost.+size_int.Lts-size_int as size-int-lts
 use Rattle.clauses.proofs.cost.join.Reads as join-reads
+use Rattle.clauses.proofs.cost.no_gates.Reads as no-gates-reads
 use Rattle.clauses.proofs.cost.+size_int.{statement}
 use Rattle.clauses.proofs.cost.+size_int.Tie.{close}
 
-abbrev μ-size-int : Measures 2 size-int-kinds.ps ℕ
-μ-size-int κs a = a .1 .1 .1 .1 .1 .1 .0
+abbrev μ-size-int : Measures 1 size-int-kinds.ps ℕ
+μ-size-int κs a = a .1 .1 .1 .1 .0
 
-abbrev size-int-at : ℕ → In 2 size-int-kinds.ps
-size-int-at t = and 2 size-int-kinds.ps (is 2 size-int-kinds.ps μ-size-int t) size-int.Pre
+abbrev size-int-at : ℕ → In 1 size-int-kinds.ps
+size-int-at t = and 1 size-int-kinds.ps (is 1 size-int-kinds.ps μ-size-int t) size-int.Pre
 
-abbrev size-int-below : ℕ → In 2 size-int-kinds.ps
-size-int-below t =
-    and 2 size-int-kinds.ps (falls 2 size-int-kinds.ps _<_ μ-size-int t) size-int.Pre
+abbrev size-int-below : ℕ → In 1 size-int-kinds.ps
+size-int-below t = and 1 size-int-kinds.ps (falls 1 size-int-kinds.ps _<_ μ-size-int t) size-int.Pre
 
 abbrev size-int-claims : ℕ → size-int-lts.Claims
-size-int-claims t = (size-int-below t, size-int.Post, join-reads.Asked, join-reads.Learnt)
+size-int-claims t = (no-gates-reads.Asked, no-gates-reads.Learnt, size-int-below t, size-int.Post, join-reads.Asked, join-reads.Learnt)
 
 size-int-shared-slice-read-op : (t : ℕ) → size-int-lts.Need-shared-slice-read-op (size-int-claims t) (size-int-at t) size-int.Post
-size-int-shared-slice-read-op t c = omega (arith, int-live _ _ _ _ _ (c .before .before .before .pre .1 .0) .inside)
+size-int-shared-slice-read-op t c = omega (arith, int-live _ _ _ _ _ (c .before .before .pre .1 .0) .inside)
 
-size-int-add-t14 : (t : ℕ) → size-int-lts.Need-add-t14 (size-int-claims t) (size-int-at t) size-int.Post
-size-int-add-t14 t c = omega (arith, int-number _ _ _ _ _ (c .before .before .before .before .pre .1 .0) (c .match .keys1) .0)
+size-int-add-no-gates : (t : ℕ) → size-int-lts.Need-add-no-gates (size-int-claims t) (size-int-at t) size-int.Post
+size-int-add-no-gates t c = omega (arith, int-number _ _ _ _ _ (c .before .before .before .pre .1 .0) (c .match .keys1) .0)
 
-size-int-add-t16 : (t : ℕ) → size-int-lts.Need-add-t16 (size-int-claims t) (size-int-at t) size-int.Post
-size-int-add-t16 t c = omega (arith, int-name _ _ _ _ _ (c .before .before .before .before .before .before .pre .1 .0) (omega arith) (omega arith) .0)
+size-int-no-gates-requires : (t : ℕ) → size-int-lts.Need-no-gates-requires (size-int-claims t) (size-int-at t) size-int.Post
+size-int-no-gates-requires t c κs = tt
+
+size-int-add-no-gates-2 : (t : ℕ) → size-int-lts.Need-add-no-gates-2 (size-int-claims t) (size-int-at t) size-int.Post
+size-int-add-no-gates-2 t c = omega (arith, int-name _ _ _ _ _ (c .before .before .before .before .before .pre .1 .0) (omega arith) (omega arith) .0)
+
+size-int-no-gates-requires-2 : (t : ℕ) → size-int-lts.Need-no-gates-requires-2 (size-int-claims t) (size-int-at t) size-int.Post
+size-int-no-gates-requires-2 t c κs = tt
 
 size-int-add-size-int : (t : ℕ) → size-int-lts.Need-add-size-int (size-int-claims t) (size-int-at t) size-int.Post
-size-int-add-size-int t c = omega (arith, int-live _ _ _ _ _ (c .before .before .before .before .before .before .before .pre .1 .0) .inside)
+size-int-add-size-int t c = omega (arith, int-live _ _ _ _ _ (c .before .before .before .before .before .before .pre .1 .0) .inside)
 
 size-int-sub-size-int : (t : ℕ) → size-int-lts.Need-sub-size-int (size-int-claims t) (size-int-at t) size-int.Post
-size-int-sub-size-int t c = omega (arith, int-live _ _ _ _ _ (c .before .before .before .before .before .before .before .pre .1 .0) .deep)
+size-int-sub-size-int t c = omega (arith, int-live _ _ _ _ _ (c .before .before .before .before .before .before .pre .1 .0) .deep)
 
 size-int-size-int-requires : (t : ℕ) → size-int-lts.Need-size-int-requires (size-int-claims t) (size-int-at t) size-int.Post
 size-int-size-int-requires t c κs = (
-  omega (arith, int-live _ _ _ _ _ (c .before .before .before .before .before .before .before .pre .1 .0) .deep),
+  omega (arith, int-live _ _ _ _ _ (c .before .before .before .before .before .before .pre .1 .0) .deep),
   (
-    int-first _ _ _ _ _ (c .before
-        .before .before .before .before .before .before .pre .1 .0) (omega arith) (omega arith),
+    int-first _ _ _ _ _ (c .before .before
+        .before .before .before .before .pre .1 .0) (omega arith) (omega arith),
     omega arith,
     omega arith,
   ),
 )
 
 size-int-sub-size-int-2 : (t : ℕ) → size-int-lts.Need-sub-size-int-2 (size-int-claims t) (size-int-at t) size-int.Post
-size-int-sub-size-int-2 t c =
-    let entry = c .before .before .before .before .before .before .before .before in
-    omega (arith, int-live _ _ _ _ _ (entry .pre .1 .0) .deep)
+size-int-sub-size-int-2 t c = omega (arith, int-live _ _ _ _ _ (c .before .before .before .before .before .before .before .pre .1 .0) .deep)
 
 size-int-size-int-requires-2 : (t : ℕ) → size-int-lts.Need-size-int-requires-2 (size-int-claims t) (size-int-at t) size-int.Post
 size-int-size-int-requires-2 t c κs = (
-  omega (arith, int-live _ _ _ _ _ (c .before .before .before .before .before .before .before .before .pre .1 .0) .deep),
+  omega (arith, int-live _ _ _ _ _ (c .before .before .before .before .before .before .before .pre .1 .0) .deep),
   (
-    int-then _ _ _ _ _ (c
-        .before .before .before .before .before .before .before .before .pre .1 .0) (omega arith) (omega arith) _ (c .size-int .ensures),
+    int-then _ _ _ _ _ (c .before
+        .before .before .before .before .before .before .pre .1 .0) (omega arith) (omega arith) _ (c .size-int .ensures),
     omega arith,
     omega arith,
   ),
@@ -71,29 +75,35 @@ size-int-size-int-requires-2 t c κs = (
 
 size-int-join-requires : (t : ℕ) → size-int-lts.Need-join-requires (size-int-claims t) (size-int-at t) size-int.Post
 size-int-join-requires t c κs =
-    let entry = c .before .before .before .before .before .before .before .before .before in
+    let entry = c .before .before .before .before .before .before .before .before in
     let f = int-few _ _ _ (entry .pre .1 .2) _ _ _ (c .before .size-int .ensures) in let g = int-few _ _ _ (entry .pre .1 .2) _ _ _ (c .size-int2
     .ensures) in (omega (arith, f .ands, g .ands), omega (arith, f .wides, g .wides))
 
+size-int-no-gates-requires-3 : (t : ℕ) → size-int-lts.Need-no-gates-requires-3 (size-int-claims t) (size-int-at t) size-int.Post
+size-int-no-gates-requires-3 t c κs = tt
+
 size-int-returns : (t : ℕ) → size-int-lts.Need-returns (size-int-claims t) (size-int-at t) size-int.Post
-size-int-returns t c = int-number _ _ _ _ _ (c .before .before .before .before .pre .1 .0) (c .match .keys1) .1
+size-int-returns t c = c .no-gates .ensures ∙ int-number _ _ _ _ _ (c .before .before .before .before .pre .1 .0) (c .before .match .keys1) .1
 
 size-int-returns-2 : (t : ℕ) → size-int-lts.Need-returns-2 (size-int-claims t) (size-int-at t) size-int.Post
-size-int-returns-2 t c = int-name _ _ _ _ _ (c .before .before .before .before .before .before .pre .1 .0) (omega arith) (omega arith) .1
+size-int-returns-2 t c =
+    c .no-gates2 .ensures ∙ int-name _ _ _ _ _ (c .before .before .before .before .before .before .pre .1 .0) (omega arith) (omega arith) .1
 
 size-int-returns-3 : (t : ℕ) → size-int-lts.Need-returns-3 (size-int-claims t) (size-int-at t) size-int.Post
 size-int-returns-3 t c =
-    c .join .ensures ∙ int-joined _ _ _ _ _ (c .before .before .before .before .before .before .before .before .before .before .pre .1 .0) (omega arith)
-    (omega arith) _ _ (c .before .before .size-int .ensures) (c .before .size-int2 .ensures)
+    c .join .ensures ∙ int-joined _ _ _ _ _ (c .before .before .before .before .before .before .before .before .before .pre .1 .0) (omega arith) (omega
+    arith) _ _ (c .before .before .size-int .ensures) (c .before .size-int2 .ensures)
 
 size-int-returns-4 : (t : ℕ) → size-int-lts.Need-returns-4 (size-int-claims t) (size-int-at t) size-int.Post
-size-int-returns-4 t c = absurd (int-unknown _ _ _ _ _ (c .before .before .before .before .before .pre .1 .0) (inl (omega arith)))
-
-size-int-returns-5 : (t : ℕ) → size-int-lts.Need-returns-5 (size-int-claims t) (size-int-at t) size-int.Post
-size-int-returns-5 t c = absurd (int-unknown _ _ _ _ _ (c .before .before .before .before .before .before .before .pre .1 .0) (inr (omega arith)))
+size-int-returns-4 t c =
+    let entry = c .before .before .before .before .before in
+    absurd (⊎-elim (λ w. int-unknown _ _ _ _ _ (entry .pre .1 .0) (inl (omega (arith, w .taken)))) (λ w. int-unknown _ _ _ _ _ (entry .pre .1 .0) (inr
+    (omega (arith, w .2 .left)))) (c .before .if1 .came))
 
 pub +size-int-spec : {M : Type 1} → statement M
 +size-int-spec = close μ-size-int λ t. size-int-lts.spec (
+  no-gates-reads.Asked,
+  no-gates-reads.Learnt,
   size-int-below t,
   size-int.Post,
   join-reads.Asked,
@@ -102,16 +112,18 @@ pub +size-int-spec : {M : Type 1} → statement M
     (size-int-at t)
     size-int.Post
     (size-int-shared-slice-read-op t)
-    (size-int-add-t14 t)
-    (size-int-add-t16 t)
+    (size-int-add-no-gates t)
+    (size-int-no-gates-requires t)
+    (size-int-add-no-gates-2 t)
+    (size-int-no-gates-requires-2 t)
     (size-int-add-size-int t)
     (size-int-sub-size-int t)
     (size-int-size-int-requires t)
     (size-int-sub-size-int-2 t)
     (size-int-size-int-requires-2 t)
     (size-int-join-requires t)
+    (size-int-no-gates-requires-3 t)
     (size-int-returns t)
     (size-int-returns-2 t)
     (size-int-returns-3 t)
     (size-int-returns-4 t)
-    (size-int-returns-5 t)

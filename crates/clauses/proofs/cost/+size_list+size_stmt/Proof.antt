@@ -1,7 +1,7 @@
 use native.Mathlib.Omega.{arith}
 use Prim.Native.Nat.{ℕ, _<_, _-_}
 use mathlib.Core.Path.{ap}
-use mathlib.Core.Logic.{inl, inr}
+use mathlib.Core.Logic.{inl, inr, ⊎-elim}
 use Rattle.design.specs.Check.{namesOf}
 use Rattle.clauses.specs.declared.cost.GatesAt.{GatesAt}
 use Rattle.step.proofs.Runs.{stmt-unknown, list-live, stmt-live, seq-first, assign-live, if-test, if-deep}
@@ -17,52 +17,55 @@ use Rattle.clauses.proofs.cost.size_stmt.Reads as size-stmt
 use Rattle.clauses.proofs.cost.size_stmt.Kinds as size-stmt-kinds
 use Rattle.clauses.proofs.cost.+size_list+size_stmt.Lts-size_stmt as size-stmt-lts
 use Rattle.clauses.proofs.cost.join.Reads as join-reads
+use Rattle.clauses.proofs.cost.no_gates.Reads as no-gates-reads
 use Rattle.clauses.proofs.cost.size_assign.Reads as size-assign-reads
 use Rattle.clauses.proofs.cost.size_bool.Reads as size-bool-reads
 use Rattle.design.proofs.bytes.wide.Reads as wide-reads
 use Rattle.clauses.proofs.cost.+size_list+size_stmt.{statement}
 use Rattle.clauses.proofs.cost.+size_list+size_stmt.Tie.{close}
 
-abbrev μ-size-list : Measures 2 size-list-kinds.ps ℕ
-μ-size-list κs a = a .1 .1 .1 .0 - a .1 .1 .0
+abbrev μ-size-list : Measures 1 size-list-kinds.ps ℕ
+μ-size-list κs a = a .1 .1 .0 - a .1 .0
 
-abbrev μ-size-stmt : Measures 2 size-stmt-kinds.ps ℕ
-μ-size-stmt κs a = a .1 .1 .1 .0 - a .1 .1 .0
+abbrev μ-size-stmt : Measures 1 size-stmt-kinds.ps ℕ
+μ-size-stmt κs a = a .1 .1 .0 - a .1 .0
 
-abbrev size-list-at : ℕ → In 2 size-list-kinds.ps
-size-list-at t = and 2 size-list-kinds.ps (is 2 size-list-kinds.ps μ-size-list t) size-list.Pre
+abbrev size-list-at : ℕ → In 1 size-list-kinds.ps
+size-list-at t = and 1 size-list-kinds.ps (is 1 size-list-kinds.ps μ-size-list t) size-list.Pre
 
-abbrev size-list-below : ℕ → In 2 size-list-kinds.ps
-size-list-below t =
-    and 2 size-list-kinds.ps (falls 2 size-list-kinds.ps _<_ μ-size-list t) size-list.Pre
+abbrev size-list-below : ℕ → In 1 size-list-kinds.ps
+size-list-below t = and 1 size-list-kinds.ps (falls 1 size-list-kinds.ps _<_ μ-size-list t) size-list.Pre
 
-abbrev size-stmt-at : ℕ → In 2 size-stmt-kinds.ps
-size-stmt-at t = and 2 size-stmt-kinds.ps (is 2 size-stmt-kinds.ps μ-size-stmt t) size-stmt.Pre
+abbrev size-stmt-at : ℕ → In 1 size-stmt-kinds.ps
+size-stmt-at t = and 1 size-stmt-kinds.ps (is 1 size-stmt-kinds.ps μ-size-stmt t) size-stmt.Pre
 
-abbrev size-stmt-below : ℕ → In 2 size-stmt-kinds.ps
-size-stmt-below t =
-    and 2 size-stmt-kinds.ps (falls 2 size-stmt-kinds.ps _<_ μ-size-stmt t) size-stmt.Pre
+abbrev size-stmt-below : ℕ → In 1 size-stmt-kinds.ps
+size-stmt-below t = and 1 size-stmt-kinds.ps (falls 1 size-stmt-kinds.ps _<_ μ-size-stmt t) size-stmt.Pre
 
 abbrev size-list-Inv-loop : size-list-lts.InvT-loop
-size-list-Inv-loop text file at end nv nm nest bits left₀ sum₀ left sum = Counting text (namesOf file nv nm) end bits nest at left sum
+size-list-Inv-loop file at end shape nest left₀ sum₀ left sum = Counting file (namesOf file shape) end (shape .bits) nest at left sum
 
 abbrev size-list-μ-loop : size-list-lts.MeasureT-loop
-size-list-μ-loop text file at end nv nm nest bits left₀ sum₀ left sum = left
+size-list-μ-loop file at end shape nest left₀ sum₀ left sum = left
 
 abbrev size-list-claims : ℕ → size-list-lts.Claims
-size-list-claims t = (wide-reads.Asked, wide-reads.Learnt, size-stmt-below t, size-stmt.Post, join-reads.Asked, join-reads.Learnt)
+size-list-claims t = (wide-reads.Asked, wide-reads.Learnt, no-gates-reads.Asked, no-gates-reads.Learnt, size-stmt-below t, size-stmt.Post, join-reads.Asked, join-reads.Learnt)
 
 size-list-shared-slice-read-wide : (t : ℕ) → size-list-lts.Need-shared-slice-read-wide (size-list-claims t) (size-list-at t) size-list.Post size-list-Inv-loop size-list-μ-loop
-size-list-shared-slice-read-wide t c = omega (arith, list-live _ _ _ _ _ (c .before .before .before .pre .1 .0))
+size-list-shared-slice-read-wide t c = omega (arith, list-live _ _ _ _ _ (c .before .before .pre .1 .0))
 
 size-list-wide-requires : (t : ℕ) → size-list-lts.Need-wide-requires (size-list-claims t) (size-list-at t) size-list.Post size-list-Inv-loop size-list-μ-loop
 size-list-wide-requires t c κs = tt
 
-size-list-add-t14 : (t : ℕ) → size-list-lts.Need-add-t14 (size-list-claims t) (size-list-at t) size-list.Post size-list-Inv-loop size-list-μ-loop
-size-list-add-t14 t c = omega (arith, list-live _ _ _ _ _ (c .before .before .before .before .pre .1 .0))
+size-list-add-no-gates : (t : ℕ) → size-list-lts.Need-add-no-gates (size-list-claims t) (size-list-at t) size-list.Post size-list-Inv-loop size-list-μ-loop
+size-list-add-no-gates t c = omega (arith, list-live _ _ _ _ _ (c .before .before .before .pre .1 .0))
+
+size-list-no-gates-requires : (t : ℕ) → size-list-lts.Need-no-gates-requires (size-list-claims t) (size-list-at t) size-list.Post size-list-Inv-loop size-list-μ-loop
+size-list-no-gates-requires t c κs = tt
 
 size-list-loop-holds : (t : ℕ) → size-list-lts.Need-loop-holds (size-list-claims t) (size-list-at t) size-list.Post size-list-Inv-loop size-list-μ-loop
-size-list-loop-holds t c = counting-start _ _ _ _ _ _ _ (c .wide .ensures .0) (c .before .before .before .before .pre .1 .0)
+size-list-loop-holds t c =
+    counting-start _ _ _ _ _ _ _ _ (c .before .wide .ensures .0) (c .before .before .before .before .pre .1 .0) (c .no-gates .ensures)
 
 size-list-size-stmt-requires : (t : ℕ) → size-list-lts.Need-size-stmt-requires (size-list-claims t) (size-list-at t) size-list.Post size-list-Inv-loop size-list-μ-loop
 size-list-size-stmt-requires t c κs = (
@@ -76,18 +79,15 @@ size-list-size-stmt-requires t c κs = (
   (
     seq-first _ _ _ _ _ _ (c .before .loop .inv .live) (c .loop-test
         .taken),
-    omega arith,
-    omega arith,
-    omega arith,
-    omega arith,
+    (omega arith, omega arith, omega arith, omega arith),
   ),
 )
 
 size-list-join-requires : (t : ℕ) → size-list-lts.Need-join-requires (size-list-claims t) (size-list-at t) size-list.Post size-list-Inv-loop size-list-μ-loop
 size-list-join-requires t c κs =
     let entry = c .before .before .before .before .before .before .before in
-    let f = counting-few _ _ _ _ _ _ _ _ (entry .pre .1 .2) (entry .pre .1 .4) (c .before .before .loop .inv) in let g = statement-few _ _ _ (entry .pre
-    .1 .2) _ (entry .pre .1 .4) _ _ _ (c .size-stmt .ensures) in (omega (arith, f .0, g .ands), omega (arith, f .1, g .wides))
+    let f = counting-few _ _ _ _ _ _ _ _ (entry .pre .1 .1 .1) (entry .pre .1 .1 .3) (c .before .before .loop .inv) in let g = statement-few _ _ _ (entry
+    .pre .1 .1 .1) _ (entry .pre .1 .1 .3) _ _ _ (c .size-stmt .ensures) in (omega (arith, f .ands, g .ands), omega (arith, f .wides, g .wides))
 
 size-list-sub-left : (t : ℕ) → size-list-lts.Need-sub-left (size-list-claims t) (size-list-at t) size-list.Post size-list-Inv-loop size-list-μ-loop
 size-list-sub-left t c = omega arith
@@ -104,112 +104,116 @@ size-list-returns : (t : ℕ) → size-list-lts.Need-returns (size-list-claims t
 size-list-returns t c = counting-end _ _ _ _ _ _ _ _ (c .loop-test .left) (c .before .loop .inv)
 
 abbrev size-stmt-claims : ℕ → size-stmt-lts.Claims
-size-stmt-claims t = (size-assign-reads.Asked, size-assign-reads.Learnt, size-bool-reads.Asked, size-bool-reads.Learnt, size-list-below t, size-list.Post, join-reads.Asked, join-reads.Learnt)
+size-stmt-claims t = (size-assign-reads.Asked, size-assign-reads.Learnt, size-bool-reads.Asked, size-bool-reads.Learnt, size-list-below t, size-list.Post, join-reads.Asked, join-reads.Learnt, no-gates-reads.Asked, no-gates-reads.Learnt)
 
 size-stmt-shared-slice-read-op : (t : ℕ) → size-stmt-lts.Need-shared-slice-read-op (size-stmt-claims t) (size-stmt-at t) size-stmt.Post
-size-stmt-shared-slice-read-op t c = omega (arith, stmt-live _ _ _ _ _ (c .before .before .before .pre .1 .0))
+size-stmt-shared-slice-read-op t c = omega (arith, stmt-live _ _ _ _ _ (c .before .before .pre .1 .0))
 
 size-stmt-add-size-assign : (t : ℕ) → size-stmt-lts.Need-add-size-assign (size-stmt-claims t) (size-stmt-at t) size-stmt.Post
-size-stmt-add-size-assign t c = omega (arith, stmt-live _ _ _ _ _ (c .before .before .before .before .before .before .pre .1 .0))
+size-stmt-add-size-assign t c = omega (arith, stmt-live _ _ _ _ _ (c .before .before .before .before .before .pre .1 .0))
 
 size-stmt-size-assign-requires : (t : ℕ) → size-stmt-lts.Need-size-assign-requires (size-stmt-claims t) (size-stmt-at t) size-stmt.Post
 size-stmt-size-assign-requires t c κs =
-    (assign-live _ _ _ _ _ (c .before .before .before .before .before .before .pre .1 .0) (c .if3 .taken), omega arith, omega arith, omega arith)
+    (assign-live _ _ _ _ _ (c .before .before .before .before .before .pre .1 .0) (c .if3 .taken), (omega arith, omega arith, omega arith))
 
 size-stmt-returns : (t : ℕ) → size-stmt-lts.Need-returns (size-stmt-claims t) (size-stmt-at t) size-stmt.Post
 size-stmt-returns t c =
-    stated-assign _ _ _ _ _ (c .before .before .before .before .before .before .before .pre .1 .0) _ (c .before .if3 .taken) _ (c .size-assign .ensures _)
+    stated-assign _ _ _ _ _ (c .before .before .before .before .before .before .pre .1 .0) _ (c .before .if3 .taken) _ (c .size-assign .ensures _)
 
 size-stmt-add-size-bool : (t : ℕ) → size-stmt-lts.Need-add-size-bool (size-stmt-claims t) (size-stmt-at t) size-stmt.Post
-size-stmt-add-size-bool t c = omega (arith, stmt-live _ _ _ _ _ (c .before .before .before .before .before .before .pre .1 .0))
+size-stmt-add-size-bool t c = omega (arith, stmt-live _ _ _ _ _ (c .before .before .before .before .before .pre .1 .0))
 
 size-stmt-size-bool-requires : (t : ℕ) → size-stmt-lts.Need-size-bool-requires (size-stmt-claims t) (size-stmt-at t) size-stmt.Post
 size-stmt-size-bool-requires t c κs =
-    (if-test _ _ _ _ _ (c .before .before .before .before .before .before .pre .1 .0) (c .if3 .left), omega arith, omega arith)
+    (if-test _ _ _ _ _ (c .before .before .before .before .before .pre .1 .0) (c .if3 .left), omega arith, omega arith)
 
 size-stmt-sub-size-list : (t : ℕ) → size-stmt-lts.Need-sub-size-list (size-stmt-claims t) (size-stmt-at t) size-stmt.Post
-size-stmt-sub-size-list t c =
-    omega (arith, if-deep _ _ _ _ _ (c .before .before .before .before .before .before .before .pre .1 .0) (c .before .if3 .left))
+size-stmt-sub-size-list t c = omega (arith, if-deep _ _ _ _ _ (c .before .before .before .before .before .before .pre .1 .0) (c .before .if3 .left))
 
 size-stmt-size-list-requires : (t : ℕ) → size-stmt-lts.Need-size-list-requires (size-stmt-claims t) (size-stmt-at t) size-stmt.Post
 size-stmt-size-list-requires t c κs = (
-  omega (
-    arith,
-    first-on _ _ _ _ _ (c .before .before .before .before .before .before .before .pre .1 .0) (c .before .if3 .left) _ (c .size-bool
-        .ensures),
-  ),
+  omega (arith, first-on _ _ _ _ _ (c .before .before .before .before .before .before .pre .1 .0) (c .before .if3 .left) _ (c .size-bool .ensures)),
   (
-    if-first _ _ _ _ _ (c .before .before .before .before .before .before .before .pre .1 .0) (c .before .if3 .left) _ (c .size-bool
-        .ensures),
-    omega arith,
-    omega arith,
-    omega arith,
-    omega arith,
+    if-first _ _ _ _ _ (c .before .before .before .before .before .before .pre .1 .0) (c .before .if3 .left) _ (c .size-bool .ensures),
+    (
+      omega
+          arith,
+      omega arith,
+      omega arith,
+      omega arith,
+    ),
   ),
 )
 
 size-stmt-sub-size-list-2 : (t : ℕ) → size-stmt-lts.Need-sub-size-list-2 (size-stmt-claims t) (size-stmt-at t) size-stmt.Post
 size-stmt-sub-size-list-2 t c =
-    let entry = c .before .before .before .before .before .before .before .before in
-    omega (arith, if-deep _ _ _ _ _ (entry .pre .1 .0) (c .before .before .if3 .left))
+    omega (arith, if-deep _ _ _ _ _ (c .before .before .before .before .before .before .before .pre .1 .0) (c .before .before .if3 .left))
 
 size-stmt-size-list-requires-2 : (t : ℕ) → size-stmt-lts.Need-size-list-requires-2 (size-stmt-claims t) (size-stmt-at t) size-stmt.Post
 size-stmt-size-list-requires-2 t c κs = (
   omega (
     arith,
-    second-on _ _ _ _ _ (c .before .before .before .before .before .before .before .before .pre .1 .0) (c .before .before .if3 .left) _ (c
-        .before .size-bool .ensures) _ _ (c .size-list .ensures),
+    second-on _ _ _ _ _ (c .before .before .before .before .before .before .before .pre .1 .0) (c .before .before .if3 .left) _ (c .before
+        .size-bool .ensures) _ _ (c .size-list .ensures),
   ),
   (
-    if-second _ _ _ _ _ (c .before .before .before .before .before .before .before
-        .before .pre .1 .0) (c .before .before .if3 .left) _ (c .before .size-bool .ensures) _ _ (c .size-list .ensures),
-    omega arith,
-    omega arith,
-    omega arith,
-    omega arith,
+    if-second _ _ _ _ _ (c .before .before .before .before .before .before .before .pre .1 .0)
+        (c .before .before .if3 .left) _ (c .before .size-bool .ensures) _ _ (c .size-list .ensures),
+    (
+      omega arith,
+      omega arith,
+      omega arith,
+      omega
+          arith,
+    ),
   ),
 )
 
 size-stmt-join-requires : (t : ℕ) → size-stmt-lts.Need-join-requires (size-stmt-claims t) (size-stmt-at t) size-stmt.Post
 size-stmt-join-requires t c κs =
-    let entry = c .before .before .before .before .before .before .before .before .before in
-    let f = bool-few _ _ _ (entry .pre .1 .2) _ _ _ (c .before .before .size-bool .ensures) in let g = list-few _ _ _ (entry .pre .1 .2) _ (entry .pre .1
-    .4) _ _ _ (c .before .size-list .ensures) in (omega (arith, f .ands, g .ands), omega (arith, f .wides, g .wides))
+    let entry = c .before .before .before .before .before .before .before .before in
+    let f = bool-few _ _ _ (entry .pre .1 .1 .1) _ _ _ (c .before .before .size-bool .ensures) in let g = list-few _ _ _ (entry .pre .1 .1 .1) _ (entry
+    .pre .1 .1 .3) _ _ _ (c .before .size-list .ensures) in (omega (arith, f .ands, g .ands), omega (arith, f .wides, g .wides))
 
 size-stmt-join-requires-2 : (t : ℕ) → size-stmt-lts.Need-join-requires-2 (size-stmt-claims t) (size-stmt-at t) size-stmt.Post
 size-stmt-join-requires-2 t c κs =
-    let entry = c .before .before .before .before .before .before .before .before .before .before in
-    let f = bool-few _ _ _ (entry .pre .1 .2) _ _ _ (c .before .before .before .size-bool .ensures) in let g = list-few _ _ _ (entry .pre .1 .2) _ (entry
-    .pre .1 .4) _ _ _ (c .before .before .size-list .ensures) in let k = list-few _ _ _ (entry .pre .1 .2) _ (entry .pre .1 .4) _ _ _ (c .before
-    .size-list2 .ensures) in let e = c .join .ensures in (
-      omega (arith, f .ands, g .ands, k .ands, ap (λ (z : GatesAt). z .ands) e),
+    let entry = c .before .before .before .before .before .before .before .before .before in
+    let f = bool-few _ _ _ (entry .pre .1 .1 .1) _ _ _ (c .before .before .before .size-bool .ensures) in let g = list-few _ _ _ (entry .pre .1 .1 .1) _
+    (entry .pre .1 .1 .3) _ _ _ (c .before .before .size-list .ensures) in let k = list-few _ _ _ (entry .pre .1 .1 .1) _ (entry .pre .1 .1 .3) _
+    _ _ (c .before .size-list2 .ensures) in let e = c .join .ensures in (
       omega (
         arith,
-        f .wides,
-        g .wides,
-        k .wides,
-        entry .pre .1 .4,
-        ap (λ (z : GatesAt). z .wides) e,
+        f .ands,
+        g .ands,
+        k .ands,
+        ap (λ (z : GatesAt). z .ands)
+            e,
       ),
+      omega (arith, f .wides, g .wides, k .wides, entry .pre .1 .1 .3, ap (λ (z : GatesAt). z .wides) e),
     )
+
+size-stmt-no-gates-requires : (t : ℕ) → size-stmt-lts.Need-no-gates-requires (size-stmt-claims t) (size-stmt-at t) size-stmt.Post
+size-stmt-no-gates-requires t c κs = tt
 
 size-stmt-returns-2 : (t : ℕ) → size-stmt-lts.Need-returns-2 (size-stmt-claims t) (size-stmt-at t) size-stmt.Post
 size-stmt-returns-2 t c =
-    let entry = c .before .before .before .before .before .before .before .before .before .before .before in
+    let entry = c .before .before .before .before .before .before .before .before .before .before in
     if-joined _ _ _ _ _ (entry .pre .1 .0) (c .before .before .before .before .before .if3 .left) _ (c .before .before .before .before .size-bool
     .ensures) _ _ (c .before .before .before .size-list .ensures) _ _ _ (c .before .before .size-list2 .ensures) (c .before .join .ensures) (c
     .join2 .ensures)
 
 size-stmt-returns-3 : (t : ℕ) → size-stmt-lts.Need-returns-3 (size-stmt-claims t) (size-stmt-at t) size-stmt.Post
-size-stmt-returns-3 t c = absurd (stmt-unknown _ _ _ _ _ (c .before .before .before .before .pre .1 .0) (inl (c .if1 .taken)))
-
-size-stmt-returns-4 : (t : ℕ) → size-stmt-lts.Need-returns-4 (size-stmt-claims t) (size-stmt-at t) size-stmt.Post
-size-stmt-returns-4 t c = absurd (stmt-unknown _ _ _ _ _ (c .before .before .before .before .before .pre .1 .0) (inr (c .if2 .left)))
+size-stmt-returns-3 t c =
+    let entry = c .before .before .before .before in
+    absurd (⊎-elim (λ w. stmt-unknown _ _ _ _ _ (entry .pre .1 .0) (inl (w .taken))) (λ w. stmt-unknown _ _ _ _ _ (entry .pre .1 .0) (inr (w .1 .left)))
+    (c .before .if1 .came))
 
 pub +size-list+size-stmt-spec : {M : Type 1} → statement M
 +size-list+size-stmt-spec = close μ-size-list μ-size-stmt (λ t. size-list-lts.spec (
   wide-reads.Asked,
   wide-reads.Learnt,
+  no-gates-reads.Asked,
+  no-gates-reads.Learnt,
   size-stmt-below t,
   size-stmt.Post,
   join-reads.Asked,
@@ -221,7 +225,8 @@ pub +size-list+size-stmt-spec : {M : Type 1} → statement M
     size-list-μ-loop
     (size-list-shared-slice-read-wide t)
     (size-list-wide-requires t)
-    (size-list-add-t14 t)
+    (size-list-add-no-gates t)
+    (size-list-no-gates-requires t)
     (size-list-loop-holds t)
     (size-list-size-stmt-requires t)
     (size-list-join-requires t)
@@ -238,6 +243,8 @@ pub +size-list+size-stmt-spec : {M : Type 1} → statement M
       size-list.Post,
       join-reads.Asked,
       join-reads.Learnt,
+      no-gates-reads.Asked,
+      no-gates-reads.Learnt,
     )
     (size-stmt-at t)
     size-stmt.Post
@@ -253,6 +260,6 @@ pub +size-list+size-stmt-spec : {M : Type 1} → statement M
     (size-stmt-size-list-requires-2 t)
     (size-stmt-join-requires t)
     (size-stmt-join-requires-2 t)
+    (size-stmt-no-gates-requires t)
     (size-stmt-returns-2 t)
     (size-stmt-returns-3 t)
-    (size-stmt-returns-4 t)

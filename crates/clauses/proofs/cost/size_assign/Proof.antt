@@ -14,7 +14,7 @@ use Rattle.clauses.proofs.cost.size_int.Reads as size-int-reads
 use Rattle.design.proofs.bytes.wide.Reads as wide-reads
 
 shared-slice-read-wide : tie.Need-shared-slice-read-wide
-shared-slice-read-wide c = omega (arith, assign-inside _ _ _ _ (c .before .before .before .pre .0) .0)
+shared-slice-read-wide c = omega (arith, assign-inside _ _ _ _ (c .before .before .pre .0) .0)
 
 wide-requires : tie.Need-wide-requires
 wide-requires c κs = search needs
@@ -23,39 +23,39 @@ mul-k : tie.Need-mul-k
 mul-k c = search needs
 
 shared-slice-read-k : tie.Need-shared-slice-read-k
-shared-slice-read-k c = omega (arith, c .before .wide .ensures .0, assign-inside _ _ _ _ (c .before .before .before .before .before .pre .0) .1)
+shared-slice-read-k c = omega (arith, c .before .wide .ensures .0, assign-inside _ _ _ _ (c .before .before .before .before .pre .0) .1)
 
 add-size-int : tie.Need-add-size-int
-add-size-int c = omega (arith, assign-inside _ _ _ _ (c .before .before .before .before .before .before .pre .0) .0)
+add-size-int c = omega (arith, assign-inside _ _ _ _ (c .before .before .before .before .before .pre .0) .0)
 
 size-int-requires : tie.Need-size-int-requires
 size-int-requires c κs = (
-  assign-int _ _ _ _ (c .before .before .before .before .before .before .pre .0) (sym (ap (λ (v : ℕ). getD (c .before .before .before .before .before
-      .before .args .file .now) (3 * v) 0) (c .before .before .wide .ensures .0)) ∙ c .if1 .taken),
+  assign-int _ _ _ _ (c .before .before .before .before .before .pre .0) (sym (ap (λ (v : ℕ). getD (c .before .before .before .before .before .args
+      .file .now) (3 * v) 0) (c .before .before .wide .ensures .0)) ∙ c .if1 .taken),
   omega arith,
   omega arith,
 )
 
 add-size-bool : tie.Need-add-size-bool
-add-size-bool c = omega (arith, assign-inside _ _ _ _ (c .before .before .before .before .before .before .pre .0) .0)
+add-size-bool c = omega (arith, assign-inside _ _ _ _ (c .before .before .before .before .before .pre .0) .0)
 
 size-bool-requires : tie.Need-size-bool-requires
 size-bool-requires c κs = (
-  assign-bool _ _ _ _ (c .before .before .before .before .before .before .pre .0) (λ e. c .if1 .left (ap (λ (v : ℕ). getD (c .before .before .before
-      .before .before .before .args .file .now) (3 * v) 0) (c .before .before .wide .ensures .0) ∙ e)),
+  assign-bool _ _ _ _ (c .before .before .before .before .before .pre .0) (λ e. c .if1 .left (ap (λ (v : ℕ). getD (c .before .before .before .before
+      .before .args .file .now) (3 * v) 0) (c .before .before .wide .ensures .0) ∙ e)),
   omega arith,
   omega arith,
 )
 
 returns : tie.Need-returns
 returns c =
-    let entry = c .before .before .before .before .before .before .before in
+    let entry = c .before .before .before .before .before .before in
     λ bits. assigned-int _ _ _ _ (entry .pre .0) _ bits (sym (ap (λ (v : ℕ). getD (entry .args .file .now) (3 * v) 0) (c .before .before .before .wide
     .ensures .0)) ∙ c .before .if1 .taken) (c .size-int .ensures)
 
 returns-2 : tie.Need-returns-2
 returns-2 c =
-    let entry = c .before .before .before .before .before .before .before in
+    let entry = c .before .before .before .before .before .before in
     λ bits. assigned-bool _ _ _ _ (entry .pre .0) _ bits (λ e. c .before .if1 .left (ap (λ (v : ℕ). getD (entry .args .file .now) (3 * v) 0) (c .before
     .before .before .wide .ensures .0) ∙ e)) (c .size-bool .ensures)
 

@@ -1,18 +1,11 @@
 use native.Mathlib.Omega.{arith}
-use Rattle.design.proofs.Tables.{bounds}
-use Rattle.clauses.proofs.EmitFormula.{frame-ready}
 use Rattle.clauses.proofs.Encodes.{encode-short, encode-done}
+use Rattle.clauses.proofs.EmitFormula.{frame-ready, normals-few}
 use borrow.Author.Needs.{needs}
 use Rattle.clauses.proofs.encode.encode_accepted.Statement.{statement}
 use Rattle.clauses.proofs.encode.encode_accepted.Tie as tie
 use Rattle.clauses.proofs.encode.encode_accepted.Reads as reads
 use Rattle.clauses.proofs.encode.encode_accepted.Lts as lts
-use Rattle.clauses.proofs.frame.part_words.Reads as part-words-reads
-use Rattle.clauses.proofs.frame.sizes.Reads as sizes-reads
-use Rattle.clauses.proofs.part.put_part.Reads as put-part-reads
-use Rattle.design.proofs.index.index_cells.Reads as index-cells-reads
-use Rattle.design.proofs.index.index_events.Reads as index-events-reads
-use Rattle.design.proofs.index.trailer_word.Reads as trailer-word-reads
 
 sizes-requires : tie.Need-sizes-requires
 sizes-requires c κs = search needs
@@ -29,27 +22,33 @@ returns c =
           .shared-slice-known .given i,
     )) _ (c .before .before .sizes .ensures .1) _ (c .before .part-words .ensures) (c .if1 .taken)
 
-trailer-word-requires : tie.Need-trailer-word-requires
-trailer-word-requires c κs = (bounds _ (c .before .before .before .before .pre .0) .long, omega arith)
-
-trailer-word-requires-2 : tie.Need-trailer-word-requires-2
-trailer-word-requires-2 c κs = (bounds _ (c .before .before .before .before .before .pre .0) .long, omega arith)
-
 index-events-requires : tie.Need-index-events-requires
 index-events-requires c κs = search needs
 
 index-cells-requires : tie.Need-index-cells-requires
 index-cells-requires c κs = search needs
 
+shape-in-requires : tie.Need-shape-in-requires
+shape-in-requires c κs =
+    let at-sizes = c .before .before .before .before .before .before in
+    let entry = at-sizes .before .before in (
+      entry .pre .0,
+      at-sizes .sizes .ensures .0,
+      normals-few _ _ _ (entry .pre .0) (λ i. omega (
+        arith,
+        c .before .before .before .before .before .before
+            .before .shared-slice-known .given i,
+      )) (c .index-cells .ensures) (at-sizes .sizes .ensures .1),
+    )
+
 put-part-requires : tie.Need-put-part-requires
 put-part-requires c κs =
-    let at-trailer-word = c .before .before .before .before .before .before .before .before in
-    let at-sizes = at-trailer-word .before .before .before in
+    let at-sizes = c .before .before .before .before .before .before .before .before .before .before in
     let at-shared-slice-known = at-sizes .before in
     let entry = at-shared-slice-known .before in (
-      frame-ready _ _ _ _ _ _ _ _ (entry .pre .0) (λ i. omega (arith, at-shared-slice-known .shared-slice-known .given i)) (c .before .before .before
-          .before .before .index-events .ensures) (at-trailer-word .trailer-word .ensures .0) (c .before .before .before .before .before .before .before
-          .trailer-word2 .ensures .0) (c .before .before .before .index-cells .ensures) (at-sizes .sizes .ensures .0) (at-sizes .sizes .ensures .1),
+      frame-ready _ _ _ (entry .pre .0) (λ i. omega (arith, at-shared-slice-known .shared-slice-known .given i)) (c .before .before .before .before .before
+          .before .index-events .ensures) (c .before .before .before .before .index-cells .ensures) (at-sizes .sizes .ensures .0) (at-sizes .sizes
+          .ensures .1) (c .before .before .before .shape-in .ensures),
       entry .pre .2,
       entry .pre .3,
     )
@@ -59,7 +58,7 @@ same-length c = search needs
 
 returns-2 : tie.Need-returns-2
 returns-2 c =
-    let at-if1 = c .before .before .before .before .before .before .before .before .before .before .before in
+    let at-if1 = c .before .before .before .before .before .before .before .before .before .before in
     let at-part-words = at-if1 .before in
     let at-sizes = at-part-words .before in
     let at-shared-slice-known = at-sizes .before in
@@ -77,10 +76,9 @@ encode-accepted-spec =
     sizes-requires
     part-words-requires
     returns
-    trailer-word-requires
-    trailer-word-requires-2
     index-events-requires
     index-cells-requires
+    shape-in-requires
     put-part-requires
     same-length
     returns-2)

@@ -1,44 +1,42 @@
 use native.Mathlib.Omega.{arith}
-use Rattle.design.proofs.Tables.{bounds}
-use Rattle.clauses.proofs.EmitFormula.{frame-ready}
-use Rattle.clauses.proofs.Encodes.{writable-accepted, formula-written}
+use Rattle.clauses.proofs.Encodes.{formula-written, writable-accepted}
+use Rattle.clauses.proofs.EmitFormula.{frame-ready, normals-few}
 use borrow.Author.Needs.{needs}
 use Rattle.clauses.proofs.encode.write_formula.Statement.{statement}
 use Rattle.clauses.proofs.encode.write_formula.Tie as tie
 use Rattle.clauses.proofs.encode.write_formula.Reads as reads
 use Rattle.clauses.proofs.encode.write_formula.Lts as lts
-use Rattle.clauses.proofs.frame.sizes.Reads as sizes-reads
-use Rattle.clauses.proofs.frame.variables.Reads as variables-reads
-use Rattle.clauses.proofs.part.put_parts.Reads as put-parts-reads
-use Rattle.design.proofs.index.index_cells.Reads as index-cells-reads
-use Rattle.design.proofs.index.index_events.Reads as index-events-reads
-use Rattle.design.proofs.index.trailer_word.Reads as trailer-word-reads
 
 sizes-requires : tie.Need-sizes-requires
-sizes-requires c κs = writable-accepted (c .before .pre)
-
-trailer-word-requires : tie.Need-trailer-word-requires
-trailer-word-requires c κs = (bounds _ (writable-accepted (c .before .before .pre)) .long, omega arith)
-
-trailer-word-requires-2 : tie.Need-trailer-word-requires-2
-trailer-word-requires-2 c κs = (bounds _ (writable-accepted (c .before .before .before .pre)) .long, omega arith)
+sizes-requires c κs = (writable-accepted (c .before .pre))
 
 index-events-requires : tie.Need-index-events-requires
-index-events-requires c κs = (writable-accepted (c .before .before .before .before .before .pre), search needs)
+index-events-requires c κs = ((writable-accepted (c .before .before .before .pre)), search needs)
 
 index-cells-requires : tie.Need-index-cells-requires
-index-cells-requires c κs = (writable-accepted (c .before .before .before .before .before .before .before .pre), search needs)
+index-cells-requires c κs = ((writable-accepted (c .before .before .before .before .before .pre)), search needs)
+
+shape-in-requires : tie.Need-shape-in-requires
+shape-in-requires c κs =
+    let at-sizes = c .before .before .before .before in
+    let entry = at-sizes .before .before in (
+      (writable-accepted (entry .pre)),
+      at-sizes .sizes .ensures .0,
+      normals-few _ _ _ (writable-accepted (entry .pre)) (λ i. omega (
+        arith,
+        c .before
+            .before .before .before .before .shared-slice-known .given i,
+      )) (c .index-cells .ensures) (at-sizes .sizes .ensures .1),
+    )
 
 put-parts-requires : tie.Need-put-parts-requires
 put-parts-requires c κs =
-    let at-trailer-word = c .before .before .before .before .before .before .before .before in
-    let at-sizes = at-trailer-word .before in
+    let at-sizes = c .before .before .before .before .before .before .before .before in
     let at-shared-slice-known = at-sizes .before in
     let entry = at-shared-slice-known .before in (
-      frame-ready _ _ _ _ _ _ _ _ (writable-accepted (entry .pre)) (λ i. omega (arith, at-shared-slice-known .shared-slice-known .given i)) (c .before
-          .before .before .before .before .index-events .ensures) (at-trailer-word .trailer-word .ensures .0) (c .before .before .before .before .before
-          .before .before .trailer-word2 .ensures .0) (c .before .before .before .index-cells .ensures) (at-sizes .sizes .ensures .0) (at-sizes .sizes
-          .ensures .1),
+      frame-ready _ _ _ (writable-accepted (entry .pre)) (λ i. omega (arith, at-shared-slice-known .shared-slice-known .given i)) (c .before .before
+          .before .before .before .before .index-events .ensures) (c .before .before .before .before .index-cells .ensures) (at-sizes .sizes .ensures
+          .0) (at-sizes .sizes .ensures .1) (c .before .before .before .shape-in .ensures),
       entry .pre .bound,
     )
 
@@ -50,7 +48,7 @@ same-length c = search needs
 
 returns : tie.Need-returns
 returns c =
-    let at-sizes = c .before .before .before .before .before .before .before .before .before .before .before .before in
+    let at-sizes = c .before .before .before .before .before .before .before .before .before .before .before in
     let at-shared-slice-known = at-sizes .before in
     let entry = at-shared-slice-known .before in
     formula-written _ _ _ _ _ _ _ _ (entry .pre) (λ i. omega (arith, at-shared-slice-known .shared-slice-known .given i)) (at-sizes .sizes .ensures .1) (c
@@ -61,10 +59,9 @@ write-formula-spec =
     tie.close
     (tie.spec
     sizes-requires
-    trailer-word-requires
-    trailer-word-requires-2
     index-events-requires
     index-cells-requires
+    shape-in-requires
     put-parts-requires
     variables-requires
     same-length

@@ -7,7 +7,6 @@ use Rattle.clauses.proofs.expression.load_flag.Statement.{statement}
 use Rattle.clauses.proofs.expression.load_flag.Tie as tie
 use Rattle.clauses.proofs.expression.load_flag.Reads as reads
 use Rattle.clauses.proofs.expression.load_flag.Lts as lts
-use Rattle.clauses.proofs.expression.offset.Reads as offset-reads
 
 offset-requires : tie.Need-offset-requires
 offset-requires c κs = search needs
@@ -17,8 +16,8 @@ mul-result c =
     let entry = c .before .before .before in
     omega (
       arith,
-      variable-room (entry .args .file .now) (entry .args .nv) (entry .args .nm) (entry .args .v) (c .offset .result) 1 (entry .pre .1) (c
-          .offset .ensures) (boolean-width (entry .args .file .now) (entry .args .v) (entry .pre .2)),
+      (variable-room (entry .args .file .now) (entry .args .shape .variables) (entry .args .shape .matrices) (entry .args .v) (c .offset
+          .result) 1 (entry .pre .1) (c .offset .ensures) (boolean-width (entry .args .file .now) (entry .args .v) (entry .pre .2))),
       entry .pre .0,
     )
 
@@ -27,22 +26,30 @@ shared-slice-read-result c =
     let entry = c .before .before .before .before in
     omega (
       arith,
-      variable-room (entry .args .file .now) (entry .args .nv) (entry .args .nm) (entry .args .v) (c .before .offset .result) 1 (entry .pre
-          .1) (c .before .offset .ensures) (boolean-width (entry .args .file .now) (entry .args .v) (entry .pre .2)),
+      (variable-room (entry .args .file .now) (entry .args .shape .variables) (entry .args .shape .matrices) (entry .args .v) (c .before
+          .offset .result) 1 (entry .pre .1) (c .before .offset .ensures) (boolean-width (entry .args .file .now) (entry .args .v) (entry .pre .2))),
       entry .pre .0,
     )
 
 returns : tie.Need-returns
 returns c =
-    sym (lowest-one (c .before .before .before .before .args .bits .now) (c .before .offset .result) (let h = variable-room (c .before .before .before
-    .before .args .file .now) (c .before .before .before .before .args .nv) (c .before .before .before .before .args .nm) (c .before .before
-    .before .before .args .v) (c .before .offset .result) 1 (c .before .before .before .before .pre .1) (c .before .offset .ensures)
-    (boolean-width (c .before .before .before .before .args .file .now) (c .before .before .before .before .args .v) (c .before .before .before
-    .before .pre .2)) in let k = c .before .before .before .before .pre .0 .bits in omega arith)) ∙ ap lowest (sym (variable-slot (c .before
-    .before .before .before .args .file .now) (c .before .before .before .before .args .nv) (c .before .before .before .before .args .nm) (c
-    .before .before .before .before .args .bits .now) (c .before .before .before .before .args .v) (c .before .offset .result) 1 (c .before
-    .before .before .before .pre .1) (c .before .offset .ensures) (boolean-width (c .before .before .before .before .args .file .now) (c .before
-    .before .before .before .args .v) (c .before .before .before .before .pre .2))))
+    let entry = c .before .before .before .before in
+    let file = entry .args .file .now in
+    let v = entry .args .v in
+    sym (lowest-one (entry .args .bits .now) (c .before .offset .result) (omega (
+      arith,
+      (variable-room file (entry .args .shape .variables) (entry .args
+          .shape .matrices) v (c .before .offset .result) 1 (entry .pre .1) (c .before .offset .ensures) (boolean-width file v (entry .pre .2))),
+      entry
+          .pre .0 .bits,
+    ))) ∙ ap lowest (sym (variable-slot _ _ _ _ _ _ (entry .pre .1) (c .before .offset .ensures) (boolean-width file v (entry .pre
+    .2))))
 
 pub load-flag-spec : {M : Type 1} → statement M
-load-flag-spec = tie.close (tie.spec offset-requires mul-result shared-slice-read-result returns)
+load-flag-spec =
+    tie.close
+    (tie.spec
+    offset-requires
+    mul-result
+    shared-slice-read-result
+    returns)

@@ -8,8 +8,6 @@ use Rattle.clauses.proofs.expression.load_status.Statement.{statement}
 use Rattle.clauses.proofs.expression.load_status.Tie as tie
 use Rattle.clauses.proofs.expression.load_status.Reads as reads
 use Rattle.clauses.proofs.expression.load_status.Lts as lts
-use Rattle.clauses.proofs.expression.load.Reads as load-reads
-use Rattle.clauses.proofs.expression.offset.Reads as offset-reads
 
 offset-requires : tie.Need-offset-requires
 offset-requires c κs = search needs
@@ -22,8 +20,8 @@ add-o c =
     let entry = c .before .before .before in
     omega (
       arith,
-      status-room (entry .args .file .now) (entry .args .nv) (entry .args .nm) (entry .args .m) _ (entry .pre .1) (ap (λ (j : ℕ). j + 4 *
-          (entry .args .m)) (c .offset .ensures)),
+      status-room (entry .args .file .now) (entry .args .shape .variables) (entry .args .shape .matrices) (entry .args .m) _ (entry .pre .1)
+          (ap (λ (j : ℕ). j + 4 * (entry .args .m)) (c .offset .ensures)),
       entry .pre .0,
     )
 
@@ -32,15 +30,22 @@ load-requires c κs =
     let entry = c .before .before .before in
     omega (
       arith,
-      status-room (entry .args .file .now) (entry .args .nv) (entry .args .nm) (entry .args .m) _ (entry .pre .1) (ap (λ (j : ℕ). j + 4 *
-          (entry .args .m)) (c .offset .ensures)),
+      status-room (entry .args .file .now) (entry .args .shape .variables) (entry .args .shape .matrices) (entry .args .m) _ (entry .pre .1)
+          (ap (λ (j : ℕ). j + 4 * (entry .args .m)) (c .offset .ensures)),
       entry .pre .0,
     )
 
 returns : tie.Need-returns
 returns c =
     let entry = c .before .before .before .before in
-    c .load .ensures ∙ ap (pad 16) (sym (status-slot _ _ _ _ _ _ (entry .pre .1) (ap (λ (j : ℕ). j + 4 * (entry .args .m)) (c .before .offset .ensures))))
+    c .load .ensures ∙ ap (pad 16) (sym (status-slot _ _ _ _ _ (entry .pre .1) (ap (λ (j : ℕ). j + 4 * (entry .args .m)) (c .before .offset .ensures))))
 
 pub load-status-spec : {M : Type 1} → statement M
-load-status-spec = tie.close (tie.spec offset-requires mul-o add-o load-requires returns)
+load-status-spec =
+    tie.close
+    (tie.spec
+    offset-requires
+    mul-o
+    add-o
+    load-requires
+    returns)

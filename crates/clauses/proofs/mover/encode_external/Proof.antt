@@ -6,48 +6,41 @@ use Rattle.clauses.specs.Literal.{Literal, negate}
 use Rattle.clauses.specs.FlatState.{slotsOf, layoutOf}
 use Rattle.clauses.proofs.EmitWords.{code-yes}
 use Rattle.clauses.proofs.EmitStates.{boolean-room, boolean-set}
-use Rattle.clauses.proofs.EmitCells.{sizes, kinds, few-bits, slotted, muxes-first, external-emits}
+use Rattle.clauses.proofs.EmitCells.{sizes, kinds, few-bits, bits-few, slotted, muxes-first, external-emits}
 use borrow.Author.Needs.{needs}
 use Rattle.clauses.proofs.mover.encode_external.Statement.{statement}
 use Rattle.clauses.proofs.mover.encode_external.Tie as tie
 use Rattle.clauses.proofs.mover.encode_external.Reads as reads
 use Rattle.clauses.proofs.mover.encode_external.Lts as lts
-use Rattle.clauses.proofs.action.muxes.Reads as muxes-reads
-use Rattle.clauses.proofs.expression.load_flag.Reads as load-flag-reads
-use Rattle.clauses.proofs.expression.offset.Reads as offset-reads
-use Rattle.clauses.proofs.literal.negate.Reads as negate-reads
 
 load-flag-requires : tie.Need-load-flag-requires
 load-flag-requires c κs = (
-  slotted (c .before .before .args .file .now) (c .before .before .args .events .now) (c .before .before .args .nv) (c .before .before .args .nm) (c
-      .before .before .pre .0) _ (c .before .before .pre .1),
+  (slotted (c .before .before .pre .0) (c .before .before .args .bits .now) (c .before .before .pre .1)),
   c .before .before .pre .2,
-  (λ e. omega (arith, e, c .before .before .pre .3)),
+  (λ e. omega
+      (arith, e, c .before .before .pre .3)),
 )
 
 negate-requires : tie.Need-negate-requires
-negate-requires c κs = tt
+negate-requires c κs = search needs
 
 offset-requires : tie.Need-offset-requires
 offset-requires c κs =
     let entry = c .before .before .before .before .before in
-    omega (
-      arith,
-      kinds (entry .args .file .now) (entry .args .events .now) (entry .args .nv) (entry .args .nm) (entry .pre .0),
-      sizes (entry .args .file
-          .now) (entry .args .events .now) (entry .args .nv) (entry .args .nm) (entry .pre .0),
-      entry .pre .2,
-    )
+    omega (arith, kinds (entry .pre .0), sizes (entry .pre .0), entry .pre .2)
 
 mul-state : tie.Need-mul-state
 mul-state c =
     let entry = c .before .before .before .before .before .before in
     omega (
       arith,
-      boolean-room (entry .args .file .now) (entry .args .nv) (entry .args .nm) (entry .args .v) (entry .args .v) (c .offset .result) (entry
-          .args .bits .now) refl (entry .pre .2) (c .offset .ensures) ((slotted (entry .args .file .now) (entry .args .events .now) (entry .args .nv)
-          (entry .args .nm) (entry .pre .0) (entry .args .bits .now) (entry .pre .1)) .bits) (λ e. omega (arith, e, entry .pre .3)),
-      (entry .pre .1),
+      boolean-room (entry .args .file .now) (entry .args .shape) (entry .args .v) (entry .args .v) (c .offset .result) (entry .args .bits
+          .now) refl (entry .pre .2) (c .offset .ensures) ((slotted (entry .pre .0) (entry .args .bits .now) (entry .pre .1)) .bits) (λ e. omega (
+            arith,
+            e,
+            entry .pre .3,
+          )),
+      entry .pre .1,
     )
 
 array-write-state : tie.Need-array-write-state
@@ -55,21 +48,19 @@ array-write-state c =
     let entry = c .before .before .before .before .before .before in
     omega (
       arith,
-      boolean-room (entry .args .file .now) (entry .args .nv) (entry .args .nm) (entry .args .v) (entry .args .v) (c .offset .result) (entry
-          .args .bits .now) refl (entry .pre .2) (c .offset .ensures) ((slotted (entry .args .file .now) (entry .args .events .now) (entry .args .nv)
-          (entry .args .nm) (entry .pre .0) (entry .args .bits .now) (entry .pre .1)) .bits) (λ e. omega (arith, e, entry .pre .3)),
-      (entry .pre .1),
+      boolean-room (entry .args .file .now) (entry .args .shape) (entry .args .v) (entry .args .v) (c .offset .result) (entry .args .bits
+          .now) refl (entry .pre .2) (c .offset .ensures) ((slotted (entry .pre .0) (entry .args .bits .now) (entry .pre .1)) .bits) (λ e. omega (
+            arith,
+            e,
+            entry .pre .3,
+          )),
+      entry .pre .1,
     )
 
 muxes-requires : tie.Need-muxes-requires
 muxes-requires c κs =
-    let entry = c .before .before .before .before .before .before .before .before in (
-      slotted (entry .args .file .now) (entry .args .events .now) (entry .args .nv) (entry .args .nm) (entry .pre .0) _ (length-set (entry .args .bits
-          .now) (c .before .before .offset .result) 2 ∙ (entry .pre .1)),
-      (length-set (entry .args .bits .now) (c .before .before .offset .result) 2 ∙
-          (entry .pre .1)),
-      (entry .pre .1),
-    )
+    let entry = c .before .before .before .before .before .before .before .before in
+    (bits-few (entry .pre .0), (length-set (entry .args .bits .now) (c .before .before .offset .result) 2 ∙ entry .pre .1), entry .pre .1)
 
 same-length : tie.Need-same-length
 same-length c = search needs
@@ -80,15 +71,18 @@ returns c =
     let entry = at-offset .before .before .before .before .before .before in
     let bits = entry .args .bits .now in
     let file = entry .args .file .now in
-    let nm = entry .args .nm in
-    let nv = entry .args .nv in
+    let shape = entry .args .shape in
     let v = entry .args .v in
-    external-emits (layoutOf nv) (slotsOf file nv nm bits) v _ _ (c .before .before .before .before .before .before .negate .ensures ∙ ap negate (c
-    .before .before .before .before .before .before .before .load-flag .ensures)) (boolean-set file nv nm v v (at-offset .offset .result) bits
-    refl (entry .pre .2) (at-offset .offset .ensures) ((slotted file (entry .args .events .now) nv nm (entry .pre .0) bits (entry .pre .1)) .bits)
-    2 _ (λ e. omega (arith, e, entry .pre .3)) refl ∙ ap (λ (l : Literal). set (slotsOf file nv nm bits) v (l ∷ [])) code-yes) (muxes-first file
-    nv nm _ _ bits (few-bits file (entry .args .events .now) nv nm (entry .pre .0)) (length-set bits (at-offset .offset .result) 2 ∙ (entry .pre
-    .1)) (entry .pre .1) (c .before .muxes .ensures .0))
+    external-emits (layoutOf shape) (slotsOf file shape bits) v _ _ (c .before .before .before .before .before .before .negate .ensures ∙ ap negate (c
+    .before .before .before .before .before .before .before .load-flag .ensures)) (boolean-set file shape v v (at-offset .offset .result) bits
+    refl (entry .pre .2) (at-offset .offset .ensures) ((slotted (entry .pre .0) bits (entry .pre .1)) .bits) 2 _ (λ e. omega (
+      arith,
+      e,
+      entry .pre
+          .3,
+    )) refl ∙ ap (λ (l : Literal). set (slotsOf file shape bits) v (l ∷ [])) code-yes) (muxes-first file shape _ _ bits (few-bits (entry .pre
+    .0)) (length-set bits (at-offset .offset .result) 2 ∙ entry .pre .1) (entry .pre .1) (c .before .muxes .ensures .0 file ((entry .pre .0)
+    .bits)))
 
 pub encode-external-spec : {M : Type 1} → statement M
 encode-external-spec =

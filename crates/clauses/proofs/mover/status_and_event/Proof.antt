@@ -1,106 +1,226 @@
 use native.Mathlib.Omega.{arith}
 use Prim.Native.Nat.{ℕ, _+_, _<_}
-use mathlib.Core.Path.{sym, ap, ap₂, subst, _∙_}
-use mathlib.Core.List.{[]}
+use mathlib.Core.Path.{refl, sym, ap, subst, _∙_}
 use Rattle.design.specs.DesignFile.{c-matrix, c-status, c-event, events as eventCount}
 use Rattle.design.specs.Check.{matricesOffset, eventIn}
-use Rattle.clauses.specs.Expression.{constantBits, integerAt, bool! }
+use Rattle.clauses.specs.Expression.{constantBits, integerAt}
 use Rattle.clauses.specs.FlatState.{slotsOf, layoutOf}
-use Rattle.clauses.proofs.EmitBuilds.{emits-same}
-use Rattle.clauses.proofs.EmitCells.{sizes, slotted, event-emits}
+use Rattle.clauses.proofs.EmitCells.{sizes, slotted, event-slot, event-inside, event-here, event-writes, event-emits}
 use borrow.Author.Needs.{needs}
 use Rattle.clauses.proofs.mover.status_and_event.Statement.{statement}
 use Rattle.clauses.proofs.mover.status_and_event.Tie as tie
 use Rattle.clauses.proofs.mover.status_and_event.Reads as reads
 use Rattle.clauses.proofs.mover.status_and_event.Lts as lts
-use Rattle.clauses.proofs.circuit.equal.Reads as equal-reads
-use Rattle.clauses.proofs.expression.constant.Reads as constant-reads
-use Rattle.clauses.proofs.expression.load_status.Reads as load-status-reads
-use Rattle.clauses.proofs.gate.emit_and.Reads as emit-and-reads
-use Rattle.clauses.proofs.mover.encode_event.Reads as encode-event-reads
-use Rattle.design.proofs.bytes.wide.Reads as wide-reads
 
 shared-slice-read-wide : tie.Need-shared-slice-read-wide
-shared-slice-read-wide c =
-    omega (
-      arith,
-      (c .before .before .pre .2) .header,
-      sizes (c .before .before .args .file .now) (c .before .before .args .events .now) (c .before
-          .before .args .nv) (c .before .before .args .nm) (c .before .before .pre .0),
-    )
+shared-slice-read-wide c = omega (arith, c .before .before .pre .2 .header, sizes (c .before .before .pre .0 .shaped))
 
 wide-requires : tie.Need-wide-requires
-wide-requires c κs = tt
+wide-requires c κs = search needs
 
 load-status-requires : tie.Need-load-status-requires
 load-status-requires c κs =
     let entry = c .before .before .before .before in (
-      slotted (entry .args .file .now) (entry .args .events .now) (entry .args .nv) (entry .args .nm) (entry .pre .0) _ (entry .pre .1),
-      omega (
+      slotted (entry .pre .0 .shaped) _ (entry .pre .1),
+      (omega (
         arith,
-        c
-            .before .wide .ensures .0,
-        (entry .pre .2) .matrix,
-        (entry .pre .0) .matrices,
-      ),
+        c .before .wide .ensures .0,
+        entry .pre .2 .matrix,
+        (entry .pre .0 .shaped)
+            .matrices,
+      )),
     )
 
 add-wide : tie.Need-add-wide
 add-wide c =
     let entry = c .before .before .before .before .before in
-    omega (arith, (entry .pre .2) .header, sizes (entry .args .file .now) (entry .args .events .now) (entry .args .nv) (entry .args .nm) (entry .pre .0))
+    omega (arith, entry .pre .2 .header, sizes (entry .pre .0 .shaped))
 
 shared-slice-read-wide-2 : tie.Need-shared-slice-read-wide-2
 shared-slice-read-wide-2 c =
     let entry = c .before .before .before .before .before .before in
-    omega (arith, (entry .pre .2) .header, sizes (entry .args .file .now) (entry .args .events .now) (entry .args .nv) (entry .args .nm) (entry .pre .0))
+    omega (arith, entry .pre .2 .header, sizes (entry .pre .0 .shaped))
 
 wide-requires-2 : tie.Need-wide-requires-2
-wide-requires-2 c κs = tt
+wide-requires-2 c κs = search needs
 
 cast-constant : tie.Need-cast-constant
 cast-constant c = omega (arith, c .wide2 .ensures .1)
 
 constant-requires : tie.Need-constant-requires
-constant-requires c κs = tt
+constant-requires c κs = search needs
 
 equal-requires : tie.Need-equal-requires
-equal-requires c κs = tt
+equal-requires c κs = search needs
 
 add-wide-2 : tie.Need-add-wide-2
 add-wide-2 c =
     let entry = c .before .before .before .before .before .before .before .before .before .before .before in
-    omega (arith, (entry .pre .2) .header, sizes (entry .args .file .now) (entry .args .events .now) (entry .args .nv) (entry .args .nm) (entry .pre .0))
+    omega (arith, entry .pre .2 .header, sizes (entry .pre .0 .shaped))
 
 shared-slice-read-wide-3 : tie.Need-shared-slice-read-wide-3
 shared-slice-read-wide-3 c =
     let entry = c .before .before .before .before .before .before .before .before .before .before .before .before in
-    omega (arith, (entry .pre .2) .header, sizes (entry .args .file .now) (entry .args .events .now) (entry .args .nv) (entry .args .nm) (entry .pre .0))
+    omega (arith, entry .pre .2 .header, sizes (entry .pre .0 .shaped))
 
 wide-requires-3 : tie.Need-wide-requires-3
-wide-requires-3 c κs = tt
+wide-requires-3 c κs = search needs
 
-encode-event-requires : tie.Need-encode-event-requires
-encode-event-requires c κs =
+mul-at : tie.Need-mul-at
+mul-at c =
+    let at-wide = c .before .before .before .before .before .before .before .before .before .before in
+    let entry = at-wide .before .before .before in
+    omega (
+      arith,
+      event-slot (entry .pre .0 .shaped) (entry .pre .0 .events) (at-wide .wide .result) (c .wide3 .result) (omega (
+        arith,
+        at-wide .wide
+            .ensures .0,
+        entry .pre .2 .matrix,
+        (entry .pre .0 .shaped) .matrices,
+      )) (subst (λ (k : ℕ). c .wide3 .result < eventCount (entry .args .file
+          .now) (matricesOffset (entry .args .file .now)) k) (sym (at-wide .wide .ensures .0)) (omega (
+            arith,
+            entry .pre .2 .event,
+            c .wide3 .ensures
+                .0,
+          ))),
+      sizes (entry .pre .0 .shaped),
+    )
+
+add-at : tie.Need-add-at
+add-at c =
+    let at-wide = c .before .before .before .before .before .before .before .before .before .before in
+    let entry = at-wide .before .before .before in
+    omega (
+      arith,
+      event-slot (entry .pre .0 .shaped) (entry .pre .0 .events) (at-wide .wide .result) (c .wide3 .result) (omega (
+        arith,
+        at-wide .wide
+            .ensures .0,
+        entry .pre .2 .matrix,
+        (entry .pre .0 .shaped) .matrices,
+      )) (subst (λ (k : ℕ). c .wide3 .result < eventCount (entry .args .file
+          .now) (matricesOffset (entry .args .file .now)) k) (sym (at-wide .wide .ensures .0)) (omega (
+            arith,
+            entry .pre .2 .event,
+            c .wide3 .ensures
+                .0,
+          ))),
+      sizes (entry .pre .0 .shaped),
+    )
+
+mul-at-2 : tie.Need-mul-at-2
+mul-at-2 c =
+    let at-wide = c .before .before .before .before .before .before .before .before .before .before in
+    let entry = at-wide .before .before .before in
+    omega (
+      arith,
+      event-slot (entry .pre .0 .shaped) (entry .pre .0 .events) (at-wide .wide .result) (c .wide3 .result) (omega (
+        arith,
+        at-wide .wide
+            .ensures .0,
+        entry .pre .2 .matrix,
+        (entry .pre .0 .shaped) .matrices,
+      )) (subst (λ (k : ℕ). c .wide3 .result < eventCount (entry .args .file
+          .now) (matricesOffset (entry .args .file .now)) k) (sym (at-wide .wide .ensures .0)) (omega (
+            arith,
+            entry .pre .2 .event,
+            c .wide3 .ensures
+                .0,
+          ))),
+      sizes (entry .pre .0 .shaped),
+    )
+
+element-copy-out-at : tie.Need-element-copy-out-at
+element-copy-out-at c =
+    let at-wide = c .before .before .before .before .before .before .before .before .before .before in
+    let entry = at-wide .before .before .before in
+    omega (
+      arith,
+      event-slot (entry .pre .0 .shaped) (entry .pre .0 .events) (at-wide .wide .result) (c .wide3 .result) (omega (
+        arith,
+        at-wide .wide
+            .ensures .0,
+        entry .pre .2 .matrix,
+        (entry .pre .0 .shaped) .matrices,
+      )) (subst (λ (k : ℕ). c .wide3 .result < eventCount (entry .args .file
+          .now) (matricesOffset (entry .args .file .now)) k) (sym (at-wide .wide .ensures .0)) (omega (
+            arith,
+            entry .pre .2 .event,
+            c .wide3 .ensures
+                .0,
+          ))),
+      sizes (entry .pre .0 .shaped),
+    )
+
+cast-at : tie.Need-cast-at
+cast-at c =
     let at-wide = c .before .before .before .before .before .before .before .before .before .before .before in
+    let entry = at-wide .before .before .before in
+    omega (
+      arith,
+      event-inside (entry .pre .0 .shaped) (entry .pre .0 .events) (at-wide .wide .result) (c .before .wide3 .result) (omega (
+        arith,
+        at-wide
+            .wide .ensures .0,
+        entry .pre .2 .matrix,
+        (entry .pre .0 .shaped) .matrices,
+      )) (subst (λ (k : ℕ). c .before .wide3 .result < eventCount (entry
+          .args .file .now) (matricesOffset (entry .args .file .now)) k) (sym (at-wide .wide .ensures .0)) (omega (
+            arith,
+            entry .pre .2 .event,
+            c
+                .before .wide3 .ensures .0,
+          ))),
+      sizes (entry .pre .0 .shaped),
+    )
+
+add-encode-bool : tie.Need-add-encode-bool
+add-encode-bool c =
+    let at-wide = c .before .before .before .before .before .before .before .before .before .before .before in
+    let entry = at-wide .before .before .before in
+    omega (
+      arith,
+      event-inside (entry .pre .0 .shaped) (entry .pre .0 .events) (at-wide .wide .result) (c .before .wide3 .result) (omega (
+        arith,
+        at-wide
+            .wide .ensures .0,
+        entry .pre .2 .matrix,
+        (entry .pre .0 .shaped) .matrices,
+      )) (subst (λ (k : ℕ). c .before .wide3 .result < eventCount (entry
+          .args .file .now) (matricesOffset (entry .args .file .now)) k) (sym (at-wide .wide .ensures .0)) (omega (
+            arith,
+            entry .pre .2 .event,
+            c
+                .before .wide3 .ensures .0,
+          ))),
+      sizes (entry .pre .0 .shaped),
+    )
+
+encode-bool-requires : tie.Need-encode-bool-requires
+encode-bool-requires c κs =
+    let at-wide3 = c .before .before .before in
+    let at-wide = at-wide3 .before .before .before .before .before .before .before .before .before .before in
     let entry = at-wide .before .before .before in (
-      (entry .pre .0),
-      (entry .pre .1),
-      omega (arith, at-wide .wide .ensures .0, (entry .pre .2) .matrix, (entry .pre .0) .matrices),
-      subst (λ (k : ℕ). c
-          .before .wide3 .result < eventCount (entry .args .file .now) (matricesOffset (entry .args .file .now)) k) (sym (at-wide .wide .ensures .0))
-          (omega (arith, (entry .pre .2) .event, c .before .wide3 .ensures .0)),
+      slotted (entry .pre .0 .shaped) _ (entry .pre .1),
+      event-here (entry .pre .0 .shaped) (entry .pre .0 .events) (at-wide .wide .result) (at-wide3
+          .wide3 .result) (omega (arith, at-wide .wide .ensures .0, entry .pre .2 .matrix, (entry .pre .0 .shaped) .matrices)) (subst (λ (k : ℕ).
+          at-wide3 .wide3 .result < eventCount (entry .args .file .now) (matricesOffset (entry .args .file .now)) k) (sym (at-wide .wide .ensures .0))
+          (omega (arith, entry .pre .2 .event, at-wide3 .wide3 .ensures .0))) _ refl,
     )
 
 emit-and-requires : tie.Need-emit-and-requires
-emit-and-requires c κs = tt
+emit-and-requires c κs = search needs
 
 same-length : tie.Need-same-length
 same-length c = search needs
 
 returns : tie.Need-returns
 returns c =
-    let at-equal = c .before .before .before .before .before .before .before .before .before in
+    let at-encode-bool = c .before .before .before .before in
+    let at-wide3 = at-encode-bool .before .before .before .before in
+    let at-equal = at-wide3 .before .before .before in
     let at-constant = at-equal .before .before in
     let at-wide2 = at-constant .before in
     let at-load-status = at-wide2 .before .before in
@@ -108,15 +228,21 @@ returns c =
     let entry = at-wide .before .before .before in
     let bits = entry .args .bits .now in
     let file = entry .args .file .now in
-    let nm = entry .args .nm in
-    let nv = entry .args .nv in
     let p = entry .args .p in
-    λ d w. event-emits (layoutOf nv) (slotsOf file nv nm bits) (c-matrix file p) (c-status file p) (eventIn (w .rows) (c-matrix file p) (c-event file p))
-    _ _ _ _ _ (at-load-status .load-status .ensures ∙ ap (λ (m : ℕ). integerAt (slotsOf file nv nm bits) (nv + m)) (at-wide .wide .ensures .0))
-    (at-constant .constant .ensures ∙ ap (constantBits 16) (at-wide2 .wide2 .ensures .0)) (at-equal .equal .ensures) (emits-same _ _ (ap₂ (λ (a b
-    : ℕ). bool! (layoutOf nv) (slotsOf file nv nm bits) (eventIn (w .rows) a b) (at-equal .equal .result .var)) (at-wide .wide .ensures .0) (c
-    .before .before .before .before .before .before .wide3 .ensures .0)) (c .before .before .before .before .encode-event .ensures d w)) (c
-    .before .emit-and .ensures)
+    let shape = entry .args .shape in
+    λ d w. event-emits (layoutOf shape) (slotsOf file shape bits) (c-matrix file p) (c-status file p) (eventIn (w .rows) (c-matrix file p) (c-event file
+    p)) _ _ _ _ _ (at-load-status .load-status .ensures ∙ ap (λ (m : ℕ). integerAt (slotsOf file shape bits) (shape .variables + m)) (at-wide
+    .wide .ensures .0)) (at-constant .constant .ensures ∙ ap (constantBits 16) (at-wide2 .wide2 .ensures .0)) (at-equal .equal .ensures)
+    (event-writes (entry .pre .0 .shaped) (entry .pre .0 .events) (at-wide .wide .result) (at-wide3 .wide3 .result) (omega (
+      arith,
+      at-wide .wide
+          .ensures .0,
+      entry .pre .2 .matrix,
+      (entry .pre .0 .shaped) .matrices,
+    )) (subst (λ (k : ℕ). at-wide3 .wide3 .result < eventCount file
+    (matricesOffset file) k) (sym (at-wide .wide .ensures .0)) (omega (arith, entry .pre .2 .event, at-wide3 .wide3 .ensures .0))) (c-matrix file
+    p) (c-event file p) _ (at-wide .wide .ensures .0) (at-wide3 .wide3 .ensures .0) refl bits (at-encode-bool .encode-bool .result)
+    (at-encode-bool .encode-bool .ensures) d w) (c .before .emit-and .ensures)
 
 pub status-and-event-spec : {M : Type 1} → statement M
 status-and-event-spec =
@@ -134,7 +260,13 @@ status-and-event-spec =
     add-wide-2
     shared-slice-read-wide-3
     wide-requires-3
-    encode-event-requires
+    mul-at
+    add-at
+    mul-at-2
+    element-copy-out-at
+    cast-at
+    add-encode-bool
+    encode-bool-requires
     emit-and-requires
     same-length
     returns)

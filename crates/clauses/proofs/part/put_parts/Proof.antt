@@ -5,13 +5,12 @@ use Rattle.clauses.proofs.part.put_parts.Statement.{statement}
 use Rattle.clauses.proofs.part.put_parts.Tie as tie
 use Rattle.clauses.proofs.part.put_parts.Reads as reads
 use Rattle.clauses.proofs.part.put_parts.Lts as lts
-use Rattle.clauses.proofs.part.put_part.Reads as put-part-reads
 
 abbrev Inv-loop : tie.InvT-loop
-Inv-loop file events cells count nv nm s property k buf₀ at₀ i₀ buf at i = PartsLeft file s property k buf₀ buf at i
+Inv-loop file events cells inst buf₀ k at₀ i₀ buf at i = PartsLeft file (inst .sizes) (inst .property) k buf₀ buf at i
 
 abbrev μ-loop : tie.MeasureT-loop
-μ-loop file events cells count nv nm s property k buf₀ at₀ i₀ buf at i = k + 3 - i
+μ-loop file events cells inst buf₀ k at₀ i₀ buf at i = k + 3 - i
 
 loop-holds : tie.Need-loop-holds Inv-loop μ-loop
 loop-holds c = parts-start _ _ _ _ _

@@ -6,49 +6,40 @@ use Rattle.clauses.specs.Writing.{fromCode}
 use Rattle.clauses.proofs.EmitWords.{code-yes}
 use Rattle.clauses.proofs.EmitCells.{sizes}
 use Rattle.clauses.proofs.EmitSteps.{Scanning, scanning-start, scanning-on, scanning-end, cell-in}
+use borrow.Author.Needs.{needs}
 use Rattle.clauses.proofs.property.encode_invalid.Statement.{statement}
 use Rattle.clauses.proofs.property.encode_invalid.Tie as tie
 use Rattle.clauses.proofs.property.encode_invalid.Reads as reads
 use Rattle.clauses.proofs.property.encode_invalid.Lts as lts
-use Rattle.clauses.proofs.property.encode_link.Reads as encode-link-reads
-use Rattle.design.proofs.bytes.wide.Reads as wide-reads
-use Rattle.design.proofs.bytes.word.Reads as word-reads
-use Rattle.design.proofs.index.trailer_word.Reads as trailer-word-reads
 
 abbrev Inv-loop : tie.InvT-loop
-Inv-loop file events nv nm bits buf₀ cur var count p₀ part₀ at₀ g₀ i₀ buf p part at g i = Scanning file nv nm bits var buf₀ cur p buf (fromCode part) at g i × (length buf ≡ length buf₀)
+Inv-loop file events shape bits buf₀ count p₀ part₀ at₀ g₀ i₀ buf p part at g i = Scanning file shape bits g₀ buf₀ at₀ p buf (fromCode part) at g i × (length buf ≡ length buf₀)
 
 abbrev μ-loop : tie.MeasureT-loop
-μ-loop file events nv nm bits buf₀ cur var count p₀ part₀ at₀ g₀ i₀ buf p part at g i = count - i
+μ-loop file events shape bits buf₀ count p₀ part₀ at₀ g₀ i₀ buf p part at g i = count - i
 
 trailer-word-requires : tie.Need-trailer-word-requires Inv-loop μ-loop
-trailer-word-requires c κs =
-    omega (arith, sizes (c .before .args .file .now) (c .before .args .events .now) (c .before .args .nv) (c .before .args .nm) (c .before .pre .0))
+trailer-word-requires c κs = omega (arith, sizes (c .before .pre .0 .shaped))
 
 trailer-word-requires-2 : tie.Need-trailer-word-requires-2 Inv-loop μ-loop
-trailer-word-requires-2 c κs =
-    omega (
-      arith,
-      sizes (c .before .before .args .file .now) (c .before .before .args .events .now) (c .before .before .args .nv) (c .before .before .args
-          .nm) (c .before .before .pre .0),
-    )
+trailer-word-requires-2 c κs = omega (arith, sizes (c .before .before .pre .0 .shaped))
 
 loop-holds : tie.Need-loop-holds Inv-loop μ-loop
 loop-holds c =
-    let entry = c .before .before .before in (
-      scanning-start (entry .args .file .now) (entry .args .nv) (entry .args .nm) (entry .args .bits .now) _ _ _ _ _ (c .trailer-word2 .ensures .0)
-          code-yes,
-      refl,
-    )
+    let entry = c .before .before .before in
+    (scanning-start (entry .args .file .now) (entry .args .shape) (entry .args .bits .now) _ _ _ _ _ (c .trailer-word2 .ensures .0) code-yes, refl)
 
 encode-link-requires : tie.Need-encode-link-requires Inv-loop μ-loop
 encode-link-requires c κs =
     let entry = c .before .before .before .before .before .before in (
-      (entry .pre .0),
-      (entry .pre .1),
-      (cell-in (entry .args .file .now) (entry .args .events .now) (entry .args .nv) (entry .args .nm) (entry .pre .0) _
-          _ (omega (arith, c .before .loop-test .taken, c .before .before .before .before .trailer-word .ensures)) ((c .before .before .loop .inv .0)
-          .place)),
+      entry .pre .0,
+      entry .pre .1,
+      (cell-in (entry .pre .0 .shaped) _ _ (omega (
+        arith,
+        c .before .loop-test .taken,
+        c .before .before .before .before
+            .trailer-word .ensures,
+      )) (c .before .before .loop .inv .0 .place)),
     )
 
 add-p : tie.Need-add-p Inv-loop μ-loop
@@ -57,20 +48,17 @@ add-p c =
     let at-loop = at-loop-test .before in
     let at-trailer-word = at-loop .before .before in
     let entry = at-trailer-word .before .before in
-    let events = entry .args .events .now in
-    let file = entry .args .file .now in
-    let nm = entry .args .nm in
-    let nv = entry .args .nv in
     omega (
       arith,
-      (cell-in file events nv nm (entry .pre .0) _ _ (omega (arith, at-loop-test .loop-test .taken, at-trailer-word .trailer-word .ensures))
-          ((at-loop .loop .inv .0) .place)) .header,
-      (cell-in file events nv nm (entry .pre .0) _ _ (omega (
+      (cell-in (entry .pre .0 .shaped) _ _ (omega (arith, at-loop-test .loop-test .taken, at-trailer-word .trailer-word .ensures)) (at-loop
+          .loop .inv .0 .place)) .header,
+      (cell-in (entry .pre .0 .shaped) _ _ (omega (
         arith,
         at-loop-test .loop-test .taken,
-        at-trailer-word .trailer-word .ensures,
-      )) ((at-loop .loop .inv .0) .place)) .past,
-      sizes file events nv nm (entry .pre .0),
+        at-trailer-word
+            .trailer-word .ensures,
+      )) (at-loop .loop .inv .0 .place)) .past,
+      sizes (entry .pre .0 .shaped),
     )
 
 add-wide : tie.Need-add-wide Inv-loop μ-loop
@@ -79,20 +67,17 @@ add-wide c =
     let at-loop = at-loop-test .before in
     let at-trailer-word = at-loop .before .before in
     let entry = at-trailer-word .before .before in
-    let events = entry .args .events .now in
-    let file = entry .args .file .now in
-    let nm = entry .args .nm in
-    let nv = entry .args .nv in
     omega (
       arith,
-      (cell-in file events nv nm (entry .pre .0) _ _ (omega (arith, at-loop-test .loop-test .taken, at-trailer-word .trailer-word .ensures))
-          ((at-loop .loop .inv .0) .place)) .header,
-      (cell-in file events nv nm (entry .pre .0) _ _ (omega (
+      (cell-in (entry .pre .0 .shaped) _ _ (omega (arith, at-loop-test .loop-test .taken, at-trailer-word .trailer-word .ensures)) (at-loop
+          .loop .inv .0 .place)) .header,
+      (cell-in (entry .pre .0 .shaped) _ _ (omega (
         arith,
         at-loop-test .loop-test .taken,
-        at-trailer-word .trailer-word .ensures,
-      )) ((at-loop .loop .inv .0) .place)) .past,
-      sizes file events nv nm (entry .pre .0),
+        at-trailer-word
+            .trailer-word .ensures,
+      )) (at-loop .loop .inv .0 .place)) .past,
+      sizes (entry .pre .0 .shaped),
     )
 
 shared-slice-read-wide : tie.Need-shared-slice-read-wide Inv-loop μ-loop
@@ -101,24 +86,21 @@ shared-slice-read-wide c =
     let at-loop = at-loop-test .before in
     let at-trailer-word = at-loop .before .before in
     let entry = at-trailer-word .before .before in
-    let events = entry .args .events .now in
-    let file = entry .args .file .now in
-    let nm = entry .args .nm in
-    let nv = entry .args .nv in
     omega (
       arith,
-      (cell-in file events nv nm (entry .pre .0) _ _ (omega (arith, at-loop-test .loop-test .taken, at-trailer-word .trailer-word .ensures))
-          ((at-loop .loop .inv .0) .place)) .header,
-      (cell-in file events nv nm (entry .pre .0) _ _ (omega (
+      (cell-in (entry .pre .0 .shaped) _ _ (omega (arith, at-loop-test .loop-test .taken, at-trailer-word .trailer-word .ensures)) (at-loop
+          .loop .inv .0 .place)) .header,
+      (cell-in (entry .pre .0 .shaped) _ _ (omega (
         arith,
         at-loop-test .loop-test .taken,
-        at-trailer-word .trailer-word .ensures,
-      )) ((at-loop .loop .inv .0) .place)) .past,
-      sizes file events nv nm (entry .pre .0),
+        at-trailer-word
+            .trailer-word .ensures,
+      )) (at-loop .loop .inv .0 .place)) .past,
+      sizes (entry .pre .0 .shaped),
     )
 
 wide-requires : tie.Need-wide-requires Inv-loop μ-loop
-wide-requires c κs = tt
+wide-requires c κs = search needs
 
 add-p-2 : tie.Need-add-p-2 Inv-loop μ-loop
 add-p-2 c =
@@ -126,16 +108,15 @@ add-p-2 c =
     let entry = at-trailer-word .before .before in
     omega (
       arith,
-      (cell-in (entry .args .file .now) (entry .args .events .now) (entry .args .nv) (entry .args .nm) (entry .pre .0) _ _ (omega (
+      (cell-in (entry .pre .0 .shaped) _ _ (omega (
         arith,
-        c
-            .before .before .before .before .before .loop-test .taken,
-        at-trailer-word .trailer-word .ensures,
-      )) ((c .before .before .before .before
-          .before .before .loop .inv .0) .place)) .past,
-      sizes (entry .args .file .now) (entry .args .events .now) (entry .args .nv) (entry .args .nm)
-          (entry .pre .0),
-      c .wide .ensures,
+        c .before .before .before .before .before .loop-test .taken,
+        at-trailer-word
+            .trailer-word .ensures,
+      )) (c .before .before .before .before .before .before .loop .inv .0 .place)) .past,
+      sizes (entry .pre .0 .shaped),
+      c
+          .wide .ensures,
     )
 
 add-word : tie.Need-add-word Inv-loop μ-loop
@@ -144,20 +125,17 @@ add-word c =
     let at-loop = at-loop-test .before in
     let at-trailer-word = at-loop .before .before in
     let entry = at-trailer-word .before .before in
-    let events = entry .args .events .now in
-    let file = entry .args .file .now in
-    let nm = entry .args .nm in
-    let nv = entry .args .nv in
     omega (
       arith,
-      (cell-in file events nv nm (entry .pre .0) _ _ (omega (arith, at-loop-test .loop-test .taken, at-trailer-word .trailer-word .ensures))
-          ((at-loop .loop .inv .0) .place)) .header,
-      (cell-in file events nv nm (entry .pre .0) _ _ (omega (
+      (cell-in (entry .pre .0 .shaped) _ _ (omega (arith, at-loop-test .loop-test .taken, at-trailer-word .trailer-word .ensures)) (at-loop
+          .loop .inv .0 .place)) .header,
+      (cell-in (entry .pre .0 .shaped) _ _ (omega (
         arith,
         at-loop-test .loop-test .taken,
-        at-trailer-word .trailer-word .ensures,
-      )) ((at-loop .loop .inv .0) .place)) .past,
-      sizes file events nv nm (entry .pre .0),
+        at-trailer-word
+            .trailer-word .ensures,
+      )) (at-loop .loop .inv .0 .place)) .past,
+      sizes (entry .pre .0 .shaped),
     )
 
 word-requires : tie.Need-word-requires Inv-loop μ-loop
@@ -166,20 +144,17 @@ word-requires c κs =
     let at-loop = at-loop-test .before in
     let at-trailer-word = at-loop .before .before in
     let entry = at-trailer-word .before .before in
-    let events = entry .args .events .now in
-    let file = entry .args .file .now in
-    let nm = entry .args .nm in
-    let nv = entry .args .nv in
     omega (
       arith,
-      (cell-in file events nv nm (entry .pre .0) _ _ (omega (arith, at-loop-test .loop-test .taken, at-trailer-word .trailer-word .ensures))
-          ((at-loop .loop .inv .0) .place)) .header,
-      (cell-in file events nv nm (entry .pre .0) _ _ (omega (
+      (cell-in (entry .pre .0 .shaped) _ _ (omega (arith, at-loop-test .loop-test .taken, at-trailer-word .trailer-word .ensures)) (at-loop
+          .loop .inv .0 .place)) .header,
+      (cell-in (entry .pre .0 .shaped) _ _ (omega (
         arith,
         at-loop-test .loop-test .taken,
-        at-trailer-word .trailer-word .ensures,
-      )) ((at-loop .loop .inv .0) .place)) .past,
-      sizes file events nv nm (entry .pre .0),
+        at-trailer-word
+            .trailer-word .ensures,
+      )) (at-loop .loop .inv .0 .place)) .past,
+      sizes (entry .pre .0 .shaped),
     )
 
 add-p-3 : tie.Need-add-p-3 Inv-loop μ-loop
@@ -188,15 +163,14 @@ add-p-3 c =
     let entry = at-trailer-word .before .before in
     omega (
       arith,
-      (cell-in (entry .args .file .now) (entry .args .events .now) (entry .args .nv) (entry .args .nm) (entry .pre .0) _ _ (omega (
+      (cell-in (entry .pre .0 .shaped) _ _ (omega (
         arith,
-        c
-            .before .before .before .before .before .before .loop-test .taken,
-        at-trailer-word .trailer-word .ensures,
-      )) ((c .before .before .before
-          .before .before .before .before .loop .inv .0) .place)) .past,
-      sizes (entry .args .file .now) (entry .args .events .now) (entry .args .nv)
-          (entry .args .nm) (entry .pre .0),
+        c .before .before .before .before .before .before .loop-test .taken,
+        at-trailer-word
+            .trailer-word .ensures,
+      )) (c .before .before .before .before .before .before .before .loop .inv .0 .place)) .past,
+      sizes (entry .pre .0
+          .shaped),
       c .before .wide .ensures,
       c .word .ensures,
     )
@@ -204,7 +178,7 @@ add-p-3 c =
 add-i : tie.Need-add-i Inv-loop μ-loop
 add-i c =
     let at-trailer-word = c .before .before .before .before .before .before .before .before .before in
-    omega (arith, c .before .before .before .before .before .before .loop-test .taken, at-trailer-word .trailer-word .ensures)
+    (omega (arith, c .before .before .before .before .before .before .loop-test .taken, at-trailer-word .trailer-word .ensures))
 
 loop-less : tie.Need-loop-less Inv-loop μ-loop
 loop-less c = omega arith
@@ -212,16 +186,15 @@ loop-less c = omega arith
 loop-again : tie.Need-loop-again Inv-loop μ-loop
 loop-again c = (
   scanning-on (c .before .before .before .before .before .before .before .before .before .before .before .args .file .now) (c .before .before .before
-      .before .before .before .before .before .before .before .before .args .nv) (c .before .before .before .before .before .before .before .before
-      .before .before .before .args .nm) (c .before .before .before .before .before .before .before .before .before .before .before .args .bits
-      .now) _ (omega (
+      .before .before .before .before .before .before .before .before .args .shape) (c .before .before .before .before .before .before .before
+      .before .before .before .before .args .bits .now) _ (omega (
         arith,
         c .before .before .before .before .before .before .loop-test .taken,
-        c .before .before .before .before .before .before
-            .before .before .before .trailer-word .ensures,
-      )) (c .before .before .before .before .before .before .before .loop .inv .0) _ (ap₂ (λ (a b :
-      ℕ). (c .before .before .before .before .before .before .before .loop .p) + 8 + a + b) (c .before .wide .ensures .0) (c .word .ensures .0)) _
-      (c .before .before .before .before .encode-link .ensures),
+        c
+            .before .before .before .before .before .before .before .before .before .trailer-word .ensures,
+      )) (c .before .before .before .before .before
+      .before .before .loop .inv .0) _ (ap₂ (λ (a b : ℕ). c .before .before .before .before .before .before .before .loop .p + 8 + a + b) (c .before
+      .wide .ensures .0) (c .word .ensures .0)) _ (c .before .before .before .before .encode-link .ensures),
   omega arith,
 )
 
@@ -231,11 +204,11 @@ same-length c = c .before .loop .inv .1
 returns : tie.Need-returns Inv-loop μ-loop
 returns c =
     let entry = c .before .before .before .before .before in
-    scanning-end (entry .args .file .now) (entry .args .nv) (entry .args .nm) (entry .args .bits .now) _ (omega (
+    scanning-end (entry .args .file .now) (entry .args .shape) (entry .args .bits .now) _ (omega (
       arith,
       c .loop-test .left,
-      c .before
-          .before .before .trailer-word .ensures,
+      c .before .before .before
+          .trailer-word .ensures,
     )) (c .before .loop .inv .0)
 
 pub encode-invalid-spec : {M : Type 1} → statement M

@@ -1,5 +1,4 @@
 use native.Mathlib.Omega.{arith}
-use Prim.Native.Nat.{_-_}
 use mathlib.Core.Path.{sym, _∙_}
 use Rattle.clauses.specs.FlatState.{slotsOf, layoutOf}
 use Rattle.clauses.proofs.EmitCells.{sizes}
@@ -9,46 +8,30 @@ use Rattle.clauses.proofs.property.encode_link.Statement.{statement}
 use Rattle.clauses.proofs.property.encode_link.Tie as tie
 use Rattle.clauses.proofs.property.encode_link.Reads as reads
 use Rattle.clauses.proofs.property.encode_link.Lts as lts
-use Rattle.clauses.proofs.gate.emit_and.Reads as emit-and-reads
-use Rattle.clauses.proofs.literal.negate.Reads as negate-reads
-use Rattle.clauses.proofs.mover.status_and_event.Reads as status-and-event-reads
-use Rattle.design.proofs.bytes.wide.Reads as wide-reads
 
 add-wide : tie.Need-add-wide
-add-wide c =
-    omega (
-      arith,
-      (c .before .pre .2) .header,
-      sizes (c .before .args .file .now) (c .before .args .events .now) (c .before .args .nv) (c .before .args
-          .nm) (c .before .pre .0),
-    )
+add-wide c = omega (arith, c .before .pre .2 .header, sizes (c .before .pre .0 .shaped))
 
 shared-slice-read-wide : tie.Need-shared-slice-read-wide
-shared-slice-read-wide c =
-    omega (
-      arith,
-      (c .before .before .pre .2) .header,
-      sizes (c .before .before .args .file .now) (c .before .before .args .events .now) (c .before
-          .before .args .nv) (c .before .before .args .nm) (c .before .before .pre .0),
-    )
+shared-slice-read-wide c = omega (arith, c .before .before .pre .2 .header, sizes (c .before .before .pre .0 .shaped))
 
 wide-requires : tie.Need-wide-requires
-wide-requires c κs = tt
+wide-requires c κs = search needs
 
 returns : tie.Need-returns
 returns c =
     let entry = c .before .before .before .before in
-    λ d w. link-pass (layoutOf (entry .args .nv)) (slotsOf (entry .args .file .now) (entry .args .nv) (entry .args .nm) (entry .args .bits .now)) _ _ _ _
-    _ _ _ _ (sym (c .before .wide .ensures .0) ∙ c .if1 .taken)
+    λ d w. link-pass (layoutOf (entry .args .shape)) (slotsOf (entry .args .file .now) (entry .args .shape) (entry .args .bits .now)) _ _ _ _ _ _ _ _ (sym
+    (c .before .wide .ensures .0) ∙ c .if1 .taken)
 
 status-and-event-requires : tie.Need-status-and-event-requires
 status-and-event-requires c κs = c .before .before .before .before .before .pre
 
 negate-requires : tie.Need-negate-requires
-negate-requires c κs = tt
+negate-requires c κs = search needs
 
 emit-and-requires : tie.Need-emit-and-requires
-emit-and-requires c κs = tt
+emit-and-requires c κs = search needs
 
 same-length : tie.Need-same-length
 same-length c = search needs
@@ -57,9 +40,9 @@ returns-2 : tie.Need-returns-2
 returns-2 c =
     let at-wide = c .before .before .before .before .before .before .before .before in
     let entry = at-wide .before .before .before in
-    λ d w. link-emits (layoutOf (entry .args .nv)) (slotsOf (entry .args .file .now) (entry .args .nv) (entry .args .nm) (entry .args .bits .now)) _ _ _ _
-    _ _ _ (λ e. c .before .before .before .before .before .before .before .if1 .left (at-wide .wide .ensures .0 ∙ e)) (c .before .before .before
-    .negate .ensures) (c .before .before .before .before .before .status-and-event .ensures d w) (c .before .emit-and .ensures)
+    λ d w. link-emits (layoutOf (entry .args .shape)) (slotsOf (entry .args .file .now) (entry .args .shape) (entry .args .bits .now)) _ _ _ _ _ _ _ (λ e.
+    c .before .before .before .before .before .before .before .if1 .left (at-wide .wide .ensures .0 ∙ e)) (c .before .before .before .negate
+    .ensures) (c .before .before .before .before .before .status-and-event .ensures d w) (c .before .emit-and .ensures)
 
 pub encode-link-spec : {M : Type 1} → statement M
 encode-link-spec =

@@ -45,10 +45,10 @@ check-stmt-below t =
     and 2 check-stmt-kinds.ps (falls 2 check-stmt-kinds.ps _<_ μ-check-stmt t) check-stmt.Pre
 
 abbrev check-list-Inv-loop : check-list-lts.InvT-loop
-check-list-Inv-loop text file at end nv nm nest left₀ p₀ left p = (at < p) × (found (statements text (namesOf file nv nm) end (one text (namesOf file nv nm) end nest) left p) ≡ found (list text (namesOf file nv nm) end nest at))
+check-list-Inv-loop text file at end shape nest left₀ p₀ left p = (at < p) × (found (statements text (namesOf file shape) end (one text (namesOf file shape) end nest) left p) ≡ found (list text (namesOf file shape) end nest at))
 
 abbrev check-list-μ-loop : check-list-lts.MeasureT-loop
-check-list-μ-loop text file at end nv nm nest left₀ p₀ left p = left
+check-list-μ-loop text file at end shape nest left₀ p₀ left p = left
 
 abbrev check-list-claims : ℕ → check-list-lts.Claims
 check-list-claims t = (check-stmt-below t, check-stmt.Post)

@@ -16,7 +16,7 @@ cast-v : tie.Need-cast-v
 cast-v c = omega (arith, c .shared-slice-known3 .given (c .before .before .before .before .args .at))
 
 returns-2 : tie.Need-returns-2
-returns-2 c = assign-nothing _ _ _ _ (c .before .before .if1 .left) (c .if2 .taken)
+returns-2 c = assign-nothing _ _ _ _ (c .before .before .before .if1 .left) (c .if2 .taken)
 
 mul-k : tie.Need-mul-k
 mul-k c = search needs
@@ -38,13 +38,13 @@ check-bool-requires c κs = search needs
 
 returns-3 : tie.Need-returns-3
 returns-3 c =
-    c .check-int .ensures ∙ assign-int _ _ _ _ (c .before .before .before .before .before .if1 .left) (c .before .before .before .if2 .left) (c .before
-    .if3 .taken)
+    c .check-int .ensures ∙ assign-int _ _ _ _ (c .before .before .before .before .before .before .if1 .left) (c .before .before .before .if2 .left) (c
+    .before .if3 .taken)
 
 returns-4 : tie.Need-returns-4
 returns-4 c =
-    c .check-bool .ensures ∙ assign-flag _ _ _ _ (c .before .before .before .before .before .if1 .left) (c .before .before .before .if2 .left) (c .before
-    .if3 .left)
+    c .check-bool .ensures ∙ assign-flag _ _ _ _ (c .before .before .before .before .before .before .if1 .left) (c .before .before .before .if2 .left) (c
+    .before .if3 .left)
 
 pub check-assign-spec : {M : Type 1} → statement M
 check-assign-spec =

@@ -35,9 +35,7 @@ fill-length-requires : tie.Need-fill-length-requires
 fill-length-requires c κs = omega arith
 
 returns : tie.Need-returns
-returns c =
-    action-read _ (c .before .before .before .before .before .before .args .end) _ _ _ _ (omega arith) (omega arith) _ _ (c .fill-length .ensures) (c
-    .before .check-list .ensures)
+returns c = λ end. action-read _ end _ _ _ _ (omega arith) (omega arith) _ _ (c .fill-length .ensures) (c .before .check-list .ensures)
 
 pub check-action-spec : {M : Type 1} → statement M
 check-action-spec =

@@ -79,7 +79,9 @@ returns-5 c =
     .before .before .before .before .before .before .before .before .before .fields-ok .ensures) (not-false _ (c .before .before .before .before
     .before .before .before .before .if2 .left)) (c .before .before .before .before .before .before .before .in-order .ensures) (not-false _ (c
     .before .before .before .before .before .before .if3 .left)) _ _ (c .before .before .before .before .if4 .left) (sym (c .before .enum-told
-    .given .1) ∙ c .before .before .before .check-guard .ensures) (c .check-action .ensures)
+    .given .1) ∙ c .before .before .before .check-guard .ensures (c .before .before .before .before .before .before .before .before .before
+    .before .before .before .before .before .before .args .end)) (c .check-action .ensures (c .before .before .before .before .before .before
+    .before .before .before .before .before .before .before .before .before .args .end))
 
 returns-6 : tie.Need-returns-6
 returns-6 c =
@@ -87,7 +89,8 @@ returns-6 c =
     .before .before .before .before .before .before .before .before .before .fields-ok .ensures) (not-false _ (c .before .before .before .before
     .before .before .before .before .if2 .left)) (c .before .before .before .before .before .before .before .in-order .ensures) (not-false _ (c
     .before .before .before .before .before .before .if3 .left)) _ _ (c .before .before .before .before .if4 .left) (sym (c .before .number .given
-    .1) ∙ c .before .before .before .check-guard .ensures)
+    .1) ∙ c .before .before .before .check-guard .ensures (c .before .before .before .before .before .before .before .before .before .before
+    .before .before .before .before .before .args .end))
 
 pub check-cell-spec : {M : Type 1} → statement M
 check-cell-spec =

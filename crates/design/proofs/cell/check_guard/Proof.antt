@@ -25,7 +25,7 @@ add-middle-2 c = omega arith
 returns : tie.Need-returns
 returns c =
     let entry = c .before .before .before in
-    guard-none (entry .args .file .now) (entry .args .end) _ (entry .args .at) _ (c .if1 .taken) _ refl
+    λ end. guard-none (entry .args .file .now) end _ (entry .args .at) _ (c .if1 .taken) _ refl
 
 add-check-bool : tie.Need-add-check-bool
 add-check-bool c = omega arith
@@ -38,9 +38,9 @@ fill-length-requires c κs = omega arith
 
 returns-2 : tie.Need-returns-2
 returns-2 c =
-    guard-read _ (c .before .before .before .before .before .args .end) _ _ _ (c .before .before .if1 .left) (c .before .before .before .before .before
-    .args .at + 8 + getD (c .before .before .before .before .before .args .file .now) (c .before .before .before .before .before .args .at + 5) 0)
-    (omega arith) _ _ (c .fill-length .ensures) (c .before .check-bool .ensures)
+    λ end. guard-read _ end _ _ _ (c .before .before .if1 .left) (c .before .before .before .before .before .args .at + 8 + getD (c .before .before
+    .before .before .before .args .file .now) (c .before .before .before .before .before .args .at + 5) 0) (omega arith) _ _ (c .fill-length
+    .ensures) (c .before .check-bool .ensures)
 
 pub check-guard-spec : {M : Type 1} → statement M
 check-guard-spec =

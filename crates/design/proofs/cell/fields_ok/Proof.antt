@@ -79,25 +79,25 @@ shared-slice-read-target c = search needs
 returns-4 : tie.Need-returns-4
 returns-4 c =
     let at-if1 = c .before .before .before .before .before .before .before .before .before in
-    let entry = at-if1 .before .before .before in
-    fields-ending (entry .args .file .now) (entry .args .mats) (entry .args .nm) (entry .args .at) 0 _ (c .if4 .taken) refl (at-if1 .if1 .left) (c .before
-    .before .before .before .before .before .if2 .left) (c .before .before .before .if3 .left)
+    let entry = at-if1 .before .before .before .before in
+    fields-ending (entry .args .file .now) (entry .args .mats) (entry .args .shape .matrices) (entry .args .at) 0 _ (c .if4 .taken) refl (at-if1 .if1
+    .left) (c .before .before .before .before .before .before .if2 .left) (c .before .before .before .if3 .left)
 
 returns-5 : tie.Need-returns-5
 returns-5 c =
     let at-if1 = c .before .before .before .before .before .before .before .before .before .before in
-    let entry = at-if1 .before .before .before in
-    fields-ending (entry .args .file .now) (entry .args .mats) (entry .args .nm) (entry .args .at) _ false refl (ending-other (entry .args .file .now)
-    (entry .args .mats) (entry .args .nm) (entry .args .at) _ (c .before .if4 .left) (c .if5 .taken)) (at-if1 .if1 .left) (c .before .before
-    .before .before .before .before .before .if2 .left) (c .before .before .before .before .if3 .left)
+    let entry = at-if1 .before .before .before .before in
+    fields-ending (entry .args .file .now) (entry .args .mats) (entry .args .shape .matrices) (entry .args .at) _ false refl (ending-other (entry .args
+    .file .now) (entry .args .mats) (entry .args .shape .matrices) (entry .args .at) _ (c .before .if4 .left) (c .if5 .taken)) (at-if1 .if1 .left)
+    (c .before .before .before .before .before .before .before .if2 .left) (c .before .before .before .before .if3 .left)
 
 returns-6 : tie.Need-returns-6
 returns-6 c =
     let at-if2 = c .before .before .before .before .before .before .before .before in
     let at-if1 = at-if2 .before .before .before in
-    let entry = at-if1 .before .before .before in
-    fields-ending (entry .args .file .now) (entry .args .mats) (entry .args .nm) (entry .args .at) 1 false (c .before .if5 .left) (simp (ne-eqb _ _ (c
-    .if6 .taken))) (at-if1 .if1 .left) (at-if2 .if2 .left) (c .before .before .before .before .before .if3 .left)
+    let entry = at-if1 .before .before .before .before in
+    fields-ending (entry .args .file .now) (entry .args .mats) (entry .args .shape .matrices) (entry .args .at) 1 false (c .before .if5 .left) (simp
+    (ne-eqb _ _ (c .if6 .taken))) (at-if1 .if1 .left) (at-if2 .if2 .left) (c .before .before .before .before .before .if3 .left)
 
 add-guard : tie.Need-add-guard
 add-guard c = search needs
@@ -109,10 +109,10 @@ returns-7 : tie.Need-returns-7
 returns-7 c =
     let at-if2 = c .before .before .before .before .before .before .before .before .before .before in
     let at-if1 = at-if2 .before .before .before in
-    let entry = at-if1 .before .before .before in
-    fields-ending (entry .args .file .now) (entry .args .mats) (entry .args .nm) (entry .args .at) 1 false (c .before .before .before .if5 .left) (simp
-    (eq-eqb _ _ (c .before .before .if6 .left), ne-eqb _ _ (c .if7 .taken))) (at-if1 .if1 .left) (at-if2 .if2 .left) (c .before .before .before
-    .before .before .before .before .if3 .left)
+    let entry = at-if1 .before .before .before .before in
+    fields-ending (entry .args .file .now) (entry .args .mats) (entry .args .shape .matrices) (entry .args .at) 1 false (c .before .before .before .if5
+    .left) (simp (eq-eqb _ _ (c .before .before .if6 .left), ne-eqb _ _ (c .if7 .taken))) (at-if1 .if1 .left) (at-if2 .if2 .left) (c .before
+    .before .before .before .before .before .before .if3 .left)
 
 add-word : tie.Need-add-word
 add-word c = search needs
@@ -125,10 +125,10 @@ returns-8 c =
     let at-if3 = c .before .before .before .before .before .before .before .before in
     let at-if2 = at-if3 .before .before .before in
     let at-if1 = at-if2 .before .before .before in
-    let entry = at-if1 .before .before .before in
-    fields-ending (entry .args .file .now) (entry .args .mats) (entry .args .nm) (entry .args .at) 1 _ (c .before .before .before .before .if5 .left)
-    (simp (eq-eqb _ _ (c .before .before .before .if6 .left), eq-eqb _ _ (c .before .if7 .left)) (ap (λ (x : ℕ). eqb x 0) (sym (c .word .ensures
-    .0)))) (at-if1 .if1 .left) (at-if2 .if2 .left) (at-if3 .if3 .left)
+    let entry = at-if1 .before .before .before .before in
+    fields-ending (entry .args .file .now) (entry .args .mats) (entry .args .shape .matrices) (entry .args .at) 1 _ (c .before .before .before .before
+    .if5 .left) (simp (eq-eqb _ _ (c .before .before .before .if6 .left), eq-eqb _ _ (c .before .if7 .left)) (ap (λ (x : ℕ). eqb x 0) (sym (c
+    .word .ensures .0)))) (at-if1 .if1 .left) (at-if2 .if2 .left) (at-if3 .if3 .left)
 
 pub fields-ok-spec : {M : Type 1} → statement M
 fields-ok-spec =

@@ -1,5 +1,6 @@
 -- `design::expression::check_bool` meets its contract. Assumes nothing.
 use native.Mathlib.Omega.{arith}
+use Rattle.design.specs.Check.{namesOf}
 use Rattle.design.proofs.Readers.{bool-zero, bool-past, bool-leaf, bool-not, bool-pair, bool-pair-bad, compare-pair, compare-bad, bool-none}
 use Rattle.design.specs.Expression.{boolOp}
 use mathlib.Core.Path.{refl, sym, ap, _∙_}
@@ -17,7 +18,7 @@ use Rattle.design.proofs.expression.+check_bool.{statement}
 use Rattle.design.proofs.expression.+check_bool.Tie.{close}
 
 abbrev μ-check-bool : Measures 2 check-bool-kinds.ps ℕ
-μ-check-bool κs a = a .1 .1 .1 .1 .1 .1 .0
+μ-check-bool κs a = a .1 .1 .1 .1 .1 .0
 
 abbrev check-bool-at : ℕ → In 2 check-bool-kinds.ps
 check-bool-at t =
@@ -105,8 +106,9 @@ check-bool-enum-told-2 t c = c .match3 .keys2
 check-bool-returns-3 : (t : ℕ) → check-bool-lts.Need-returns-3 (check-bool-claims t) (check-bool-at t) check-bool.Post
 unfolding boolOp
 check-bool-returns-3 t c =
+    let entry = c .before .before .before .before .before .before .before in
     bool-leaf _ _ _ _ _ (c .before .before .before .before .if1 .left) (c .before .before .before .if2 .left) _ _ (ap boolOp (c .before .match .keys1)) (c
-    .read-boolean-constant .ensures)
+    .read-boolean-constant .ensures (namesOf (entry .args .file .now) (entry .args .shape)))
 
 check-bool-returns-4 : (t : ℕ) → check-bool-lts.Need-returns-4 (check-bool-claims t) (check-bool-at t) check-bool.Post
 unfolding boolOp

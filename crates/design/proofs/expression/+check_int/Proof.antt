@@ -1,5 +1,6 @@
 -- `design::expression::check_int` meets its contract. Assumes nothing.
 use native.Mathlib.Omega.{arith}
+use Rattle.design.specs.Check.{namesOf}
 use Rattle.design.proofs.Readers.{int-zero, int-past, int-leaf, int-pair, int-pair-bad, int-none}
 use Rattle.design.specs.Expression.{intOp}
 use mathlib.Core.Path.{refl, sym, ap, _∙_}
@@ -17,7 +18,7 @@ use Rattle.design.proofs.expression.+check_int.{statement}
 use Rattle.design.proofs.expression.+check_int.Tie.{close}
 
 abbrev μ-check-int : Measures 2 check-int-kinds.ps ℕ
-μ-check-int κs a = a .1 .1 .1 .1 .1 .1 .0
+μ-check-int κs a = a .1 .1 .1 .1 .1 .0
 
 abbrev check-int-at : ℕ → In 2 check-int-kinds.ps
 check-int-at t = and 2 check-int-kinds.ps (is 2 check-int-kinds.ps μ-check-int t) check-int.Pre
@@ -80,8 +81,9 @@ check-int-enum-told t c = c .match2 .keys2
 check-int-returns-3 : (t : ℕ) → check-int-lts.Need-returns-3 (check-int-claims t) (check-int-at t) check-int.Post
 unfolding intOp
 check-int-returns-3 t c =
+    let entry = c .before .before .before .before .before .before .before in
     int-leaf _ _ _ _ _ (c .before .before .before .before .if1 .left) (c .before .before .before .if2 .left) _ _ (ap intOp (c .before .match .keys1)) (c
-    .read-integer-constant .ensures)
+    .read-integer-constant .ensures (entry .args .text .now) (namesOf (entry .args .file .now) (entry .args .shape)))
 
 check-int-returns-4 : (t : ℕ) → check-int-lts.Need-returns-4 (check-int-claims t) (check-int-at t) check-int.Post
 unfolding intOp
@@ -93,7 +95,7 @@ check-int-returns-5 : (t : ℕ) → check-int-lts.Need-returns-5 (check-int-clai
 unfolding intOp
 check-int-returns-5 t c =
     int-leaf _ _ _ _ _ (c .before .before .before .before .if1 .left) (c .before .before .before .if2 .left) _ _ (ap intOp (c .before .match .keys3)) (c
-    .read-status .ensures)
+    .read-status .ensures (c .before .before .before .before .before .before .before .args .file .now))
 
 check-int-returns-6 : (t : ℕ) → check-int-lts.Need-returns-6 (check-int-claims t) (check-int-at t) check-int.Post
 check-int-returns-6 t c =

@@ -6,7 +6,7 @@ use Rattle.design.proofs.expression.read_status.Statement.{statement}
 use Rattle.design.proofs.expression.read_status.Tie as tie
 
 returns : tie.Need-returns
-returns c = simp (le-ltb _ _ (c .if1 .taken))
+returns c = λ file. simp (le-ltb _ _ (c .if1 .taken))
 
 shared-slice-read-m : tie.Need-shared-slice-read-m
 shared-slice-read-m c = search needs
@@ -14,15 +14,15 @@ shared-slice-read-m c = search needs
 cast-m : tie.Need-cast-m
 cast-m c = omega (arith, c .shared-slice-known .given (c .before .before .args .at))
 
-add-t12 : tie.Need-add-t12
-add-t12 c = search needs
+add-t10 : tie.Need-add-t10
+add-t10 c = search needs
 
 returns-2 : tie.Need-returns-2
-returns-2 c = simp (lt-ltb _ _ (c .before .before .if1 .left), lt-ltb _ _ (c .if2 .taken))
+returns-2 c = λ file. simp (lt-ltb _ _ (c .before .before .before .if1 .left), lt-ltb _ _ (c .if2 .taken))
 
 returns-3 : tie.Need-returns-3
-returns-3 c = simp (lt-ltb _ _ (c .before .before .if1 .left), le-ltb _ _ (c .if2 .left))
+returns-3 c = λ file. simp (lt-ltb _ _ (c .before .before .before .if1 .left), le-ltb _ _ (c .if2 .left))
 
 pub read-status-spec : {M : Type 1} → statement M
 read-status-spec =
-    tie.close (tie.spec returns shared-slice-read-m cast-m add-t12 returns-2 returns-3)
+    tie.close (tie.spec returns shared-slice-read-m cast-m add-t10 returns-2 returns-3)

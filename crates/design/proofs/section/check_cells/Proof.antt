@@ -13,10 +13,10 @@ use Rattle.design.proofs.section.check_cells.Statement.{statement}
 use Rattle.design.proofs.section.check_cells.Tie as tie
 
 abbrev Inv-loop : tie.InvT-loop
-Inv-loop file end nv nm mats count at left₀ before₀ p₀ normals₀ left before p normals = (before ≤ end) × (p ≤ end) × (normals + left ≤ count) × ((f : ℕ → ℕ → BoolExpr) → counted moves normals (cellsFrom file end (namesOf file nv nm) mats f left before p) ≡ counted moves 0 (cellsFrom file end (namesOf file nv nm) mats f count at at))
+Inv-loop file end shape mats count at left₀ before₀ p₀ normals₀ left before p normals = (before ≤ end) × (p ≤ end) × (normals + left ≤ count) × ((f : ℕ → ℕ → BoolExpr) → counted moves normals (cellsFrom file end (namesOf file shape) mats f left before p) ≡ counted moves 0 (cellsFrom file end (namesOf file shape) mats f count at at))
 
 abbrev μ-loop : tie.MeasureT-loop
-μ-loop file end nv nm mats count at left₀ before₀ p₀ normals₀ left before p normals = left
+μ-loop file end shape mats count at left₀ before₀ p₀ normals₀ left before p normals = left
 
 loop-holds : tie.Need-loop-holds Inv-loop μ-loop
 loop-holds c = (omega arith, omega arith, omega arith, λ f. refl)

@@ -10,10 +10,10 @@ use Rattle.design.proofs.section.check_events.Statement.{statement}
 use Rattle.design.proofs.section.check_events.Tie as tie
 
 abbrev Inv-loop : tie.InvT-loop
-Inv-loop file end nv nm mats at left₀ m₀ p₀ left m p = (p ≤ end) × (m + left ≡ nm) × (walked (eventsFrom file end (namesOf file nv nm) mats m left p) ≡ walked (eventsFrom file end (namesOf file nv nm) mats 0 nm at))
+Inv-loop file end shape mats at left₀ m₀ p₀ left m p = (p ≤ end) × (m + left ≡ (shape .matrices)) × (walked (eventsFrom file end (namesOf file shape) mats m left p) ≡ walked (eventsFrom file end (namesOf file shape) mats 0 (shape .matrices) at))
 
 abbrev μ-loop : tie.MeasureT-loop
-μ-loop file end nv nm mats at left₀ m₀ p₀ left m p = left
+μ-loop file end shape mats at left₀ m₀ p₀ left m p = left
 
 loop-holds : tie.Need-loop-holds Inv-loop μ-loop
 loop-holds c = (omega arith, omega arith, refl)

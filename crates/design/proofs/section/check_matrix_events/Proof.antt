@@ -10,10 +10,10 @@ use Rattle.design.proofs.section.check_matrix_events.Statement.{stateme
 use Rattle.design.proofs.section.check_matrix_events.Tie as tie
 
 abbrev Inv-loop : tie.InvT-loop
-Inv-loop file end nv nm count at left₀ p₀ left p = (p ≤ end) × (walked (items (eventAt file end (namesOf file nv nm)) left p) ≡ walked (items (eventAt file end (namesOf file nv nm)) count at))
+Inv-loop file end shape count at left₀ p₀ left p = (p ≤ end) × (walked (items (eventAt file end (namesOf file shape)) left p) ≡ walked (items (eventAt file end (namesOf file shape)) count at))
 
 abbrev μ-loop : tie.MeasureT-loop
-μ-loop file end nv nm count at left₀ p₀ left p = left
+μ-loop file end shape count at left₀ p₀ left p = left
 
 loop-holds : tie.Need-loop-holds Inv-loop μ-loop
 loop-holds c = (omega arith, refl)

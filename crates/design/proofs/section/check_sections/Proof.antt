@@ -13,18 +13,16 @@ enum-known-p c = c .match .keys1
 
 returns : tie.Need-returns
 returns c =
-    let entry = c .before .before .before .before .before .before in
-    x-matrices (entry .args .file .now) (entry .args .end) (entry .args .nv) (entry .args .mats) (entry .args .nm) (entry .args .events) (entry .args
-    .cells) (entry .args .nc) (entry .args .invariant) _ _ (sym (c .before .before .p .given .1) ∙ c .before .before .before .before
-    .check-variables .ensures) (c .if1 .taken)
+    let entry = c .before .before .before .before .before .before .before in
+    x-matrices (entry .args .file .now) (entry .args .end) (entry .args .counts) (entry .args .offsets) _ _ (sym (c .before .before .before .p .given .1)
+    ∙ c .before .before .before .before .before .check-variables .ensures) (c .if1 .taken)
 
 check-from-matrices-requires : tie.Need-check-from-matrices-requires
 check-from-matrices-requires c κs =
-    let entry = c .before .before .before .before .before .before in (
+    let entry = c .before .before .before .before .before .before .before in (
       entry .pre .0,
       entry .pre .1,
-      entry .pre .2,
-      passed-at _ _ _ _ (c .if1 .left) (sym (c .before .before .p .given .1) ∙ c .before .before .before
+      passed-at _ _ _ _ (c .if1 .left) (sym (c .before .before .before .p .given .1) ∙ c .before .before .before .before
           .before .check-variables .ensures),
     )
 
@@ -37,9 +35,8 @@ returns-2 c = c .check-from-matrices .ensures
 returns-3 : tie.Need-returns-3
 returns-3 c =
     let entry = c .before .before .before .before .before in
-    x-variables (entry .args .file .now) (entry .args .end) (entry .args .nv) (entry .args .mats) (entry .args .nm) (entry .args .events) (entry .args
-    .cells) (entry .args .nc) (entry .args .invariant) _ _ (sym (c .before .number .given .1) ∙ c .before .before .before .check-variables
-    .ensures)
+    x-variables (entry .args .file .now) (entry .args .end) (entry .args .counts) (entry .args .offsets) _ _ (sym (c .before .number .given .1) ∙ c
+    .before .before .before .check-variables .ensures)
 
 pub check-sections-spec : {M : Type 1} → statement M
 check-sections-spec =

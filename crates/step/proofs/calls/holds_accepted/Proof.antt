@@ -1,23 +1,19 @@
 -- `step::calls::holds_accepted` meets its contract. Assumes nothing.
 use native.Mathlib.Omega.{arith}
 use mathlib.Core.Path.{_∙_}
-use Rattle.design.proofs.Places.{read}
-use Rattle.step.proofs.States.{holds-11, holds-13, holds-done}
 use borrow.Author.Needs.{needs}
+use Rattle.step.proofs.States.{holds-11, holds-13, holds-done}
 use Rattle.step.proofs.calls.holds_accepted.Statement.{statement}
 use Rattle.step.proofs.calls.holds_accepted.Tie as tie
 
-trailer-word-requires : tie.Need-trailer-word-requires
-trailer-word-requires c κs = omega (arith, read _ (c .before .pre) .all .long)
-
-trailer-word-requires-2 : tie.Need-trailer-word-requires-2
-trailer-word-requires-2 c κs = omega (arith, read _ (c .before .before .pre) .all .long)
+shape-requires : tie.Need-shape-requires
+shape-requires c κs = search needs
 
 patterns-requires : tie.Need-patterns-requires
 patterns-requires c κs = search needs
 
 wrong-entry-requires : tie.Need-wrong-entry-requires
-wrong-entry-requires c κs = search needs
+wrong-entry-requires c κs = (c .before .before .before .pre, c .before .shape .ensures .shaped)
 
 refuse-holds-requires : tie.Need-refuse-holds-requires
 refuse-holds-requires c κs = search needs
@@ -25,7 +21,7 @@ refuse-holds-requires c κs = search needs
 returns : tie.Need-returns
 returns c =
     let at-patterns = c .before .before .before in
-    let entry = at-patterns .before .before .before .before in
+    let entry = at-patterns .before .before .before in
     c .refuse-holds .ensures ∙ holds-11 (entry .args .file .now) (entry .args .values) (entry .args .statuses) (entry .args .property) (entry .pre)
     (at-patterns .patterns .result) (at-patterns .patterns .ensures) (entry .good .1 .0 .1 .0 .1) (entry .good .1 .1 .0 .1 .0 .1) _ (c .before
     .before .wrong-entry .ensures) (c .before .if1 .taken)
@@ -36,29 +32,29 @@ refuse-holds-requires-2 c κs = search needs
 returns-2 : tie.Need-returns-2
 returns-2 c =
     let at-patterns = c .before .before .before .before in
-    let entry = at-patterns .before .before .before .before in
+    let entry = at-patterns .before .before .before in
     c .refuse-holds2 .ensures ∙ holds-13 (entry .args .file .now) (entry .args .values) (entry .args .statuses) (entry .args .property) (entry .pre)
     (at-patterns .patterns .result) (at-patterns .patterns .ensures) (entry .good .1 .0 .1 .0 .1) (entry .good .1 .1 .0 .1 .0 .1) _ (c .before
     .before .before .wrong-entry .ensures) (c .before .before .if1 .left) (c .before .if2 .taken)
 
 holds-right-requires : tie.Need-holds-right-requires
-holds-right-requires c κs = search needs
+holds-right-requires c κs = (c .before .before .before .before .before .before .pre, c .before .before .before .before .shape .ensures .shaped)
 
 returns-3 : tie.Need-returns-3
 returns-3 c =
     let at-patterns = c .before .before .before .before in
-    let entry = at-patterns .before .before .before .before in
+    let at-shape = at-patterns .before in
+    let entry = at-shape .before .before in
     holds-done (entry .args .file .now) (entry .args .values) (entry .args .statuses) (entry .args .property) (entry .pre) (at-patterns .patterns .result)
     (at-patterns .patterns .ensures) (entry .good .1 .0 .1 .0 .1) (entry .good .1 .1 .0 .1 .0 .1) _ (c .before .before .before .wrong-entry
-    .ensures) (c .before .before .if1 .left) (c .before .if2 .left) _ _ (c .before .before .before .before .before .before .trailer-word .ensures
-    .0) (c .before .before .before .before .before .trailer-word2 .ensures .0) _ (c .holds-right .ensures)
+    .ensures) (c .before .before .if1 .left) (c .before .if2 .left) _ _ (at-shape .shape .ensures .shaped .variables) (at-shape .shape .ensures .shaped
+    .matrices) _ (c .holds-right .ensures)
 
 pub holds-accepted-spec : {M : Type 1} → statement M
 holds-accepted-spec =
     tie.close
     (tie.spec
-    trailer-word-requires
-    trailer-word-requires-2
+    shape-requires
     patterns-requires
     wrong-entry-requires
     refuse-holds-requires

@@ -1,6 +1,7 @@
 use native.Mathlib.Omega.{arith}
 use mathlib.Core.Path.{ap, _∙_}
-use Rattle.step.specs.OneStep.{property}
+use Rattle.step.specs.Property.{propertyOf}
+use Rattle.step.specs.OneStep.{holds}
 use Rattle.step.proofs.Cells.{sizes}
 use Rattle.step.proofs.Replays.{ready-same}
 use borrow.Author.Needs.{needs}
@@ -14,11 +15,11 @@ use Rattle.step.proofs.property.property_true.Reads as property-true-re
 load-entries-requires : tie.Need-load-entries-requires
 load-entries-requires c κs =
     let entry = c .before .before .before in
-    (sizes _ _ _ _ _ (entry .pre) .3, sizes _ _ _ _ _ (entry .pre) .2, entry .pre .size)
+    (sizes _ _ _ _ (entry .pre) .3, sizes _ _ _ _ (entry .pre) .2, entry .pre .size)
 
 property-true-requires : tie.Need-property-true-requires
 property-true-requires c κs =
-    ready-same _ _ _ _ _ _ (omega (arith, c .before .before .slots .given)) (c .before .before .before .before .before .before .before .pre)
+    ready-same _ _ _ _ _ (omega (arith, c .before .before .slots .given)) (c .before .before .before .before .before .before .before .pre)
 
 same-length : tie.Need-same-length
 same-length c = search needs
@@ -26,7 +27,7 @@ same-length c = search needs
 returns : tie.Need-returns
 returns c =
     let entry = c .before .before .before .before .before .before .before .before in
-    λ d w. c .property-true .ensures d w ∙ ap (property d (entry .args .property)) (c .before .before .before .before .load-entries .ensures)
+    λ d w. c .property-true .ensures d w ∙ ap (holds d (propertyOf d (entry .args .property))) (c .before .before .before .before .load-entries .ensures)
 
 pub holds-slots-spec : {M : Type 1} → statement M
 holds-slots-spec =

@@ -25,7 +25,7 @@ same-length c = search needs
 returns : tie.Need-returns
 returns c =
     let entry = c .before .before .before .before .before .before .before .before .before .before .before in
-    copied-both _ _ _ _ _ _ _ (entry .pre .2) (omega (arith, entry .good .1 .1 .0 .1 .0 .1)) (omega (arith, entry .good .1 .1 .1 .0 .1 .0 .1)) (c .before
+    copied-both _ _ _ _ _ _ _ (entry .pre .2) (omega (arith, entry .good .1 .0 .1 .0 .1)) (omega (arith, entry .good .1 .1 .0 .1 .0 .1)) (c .before
     .before .before .before .before .before .before .copy-slots .ensures) (c .before .before .copy-slots2 .ensures)
 
 pub load-entries-spec : {M : Type 1} → statement M

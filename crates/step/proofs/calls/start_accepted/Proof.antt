@@ -1,67 +1,39 @@
+-- `step::calls::start_accepted` meets its contract. Assumes nothing.
 use native.Mathlib.Omega.{arith}
-use mathlib.Core.Path.{sym}
-use Prim.Native.Nat.{_≤_, _+_}
-use lib.Seq.{length-take-le}
-use Rattle.design.proofs.Places.{read}
-use Rattle.step.proofs.Replays.{take-replicate}
+use mathlib.Core.Path.{sym, ap, _∙_}
+use Prim.Native.Nat.{ℕ}
+use lib.ListN.{replicate}
 use borrow.Author.Needs.{needs}
+use lib.Seq.{length-take-le}
+use Rattle.design.specs.Limits.{maxSlots}
+use Rattle.design.proofs.Indexed.{sized}
+use Rattle.step.proofs.Replays.{take-replicate}
 use Rattle.step.proofs.calls.start_accepted.Statement.{statement}
 use Rattle.step.proofs.calls.start_accepted.Tie as tie
-use Rattle.step.proofs.calls.start_accepted.Reads as reads
-use Rattle.step.proofs.calls.start_accepted.Lts as lts
-use Rattle.design.proofs.index.trailer_word.Reads as trailer-word-reads
-use Rattle.step.proofs.calls.start_slots.Reads as start-slots-reads
 
-trailer-word-requires : tie.Need-trailer-word-requires
-trailer-word-requires c κs = omega (arith, read _ (c .before .pre) .all .long)
+shape-requires : tie.Need-shape-requires
+shape-requires c κs = search needs
 
-trailer-word-requires-2 : tie.Need-trailer-word-requires-2
-trailer-word-requires-2 c κs = omega (arith, read _ (c .before .before .pre) .all .long)
-
-add-n : tie.Need-add-n
-add-n c = search needs
+slot-count-requires : tie.Need-slot-count-requires
+slot-count-requires c κs = (
+  sized (c .before .before .args .file .now) (c .before .before .pre) (c .shape .result) (c .shape .ensures .shaped) .0,
+  sized (c .before .before .args
+      .file .now) (c .before .before .pre) (c .shape .result) (c .shape .ensures .shaped) .1,
+)
 
 array-borrow-prefix-all : tie.Need-array-borrow-prefix-all
-array-borrow-prefix-all c =
-    let entry = c .before .before .before in
-    omega (
-      arith,
-      c .before .trailer-word .ensures .0,
-      c .trailer-word2 .ensures .0,
-      read _ (entry .pre) .all .variables,
-      read _ (entry .pre) .all
-          .matrices,
-    )
+array-borrow-prefix-all c = omega (arith, c .slot-count .ensures .1)
 
 slice-aggregate-start-slots : tie.Need-slice-aggregate-start-slots
-slice-aggregate-start-slots c =
-    let entry = c .before .before .before .before in
-    let b : c .before .before .trailer-word .result + c .before .trailer-word2 .result ≤ 40 = omega (
-      arith,
-      c .before .before .trailer-word .ensures .0,
-      c
-          .before .trailer-word2 .ensures .0,
-      read _ (entry .pre) .all .variables,
-      read _ (entry .pre) .all .matrices,
-    ) in sym (length-take-le _ _ b)
+slice-aggregate-start-slots c = sym (length-take-le _ _ (c .before .slot-count .ensures .1))
 
 start-slots-requires : tie.Need-start-slots-requires
-start-slots-requires c κs =
-    let entry = c .before .before .before .before in
-    let b : c .before .before .trailer-word .result + c .before .trailer-word2 .result ≤ 40 = omega (
-      arith,
-      c .before .before .trailer-word .ensures .0,
-      c
-          .before .trailer-word2 .ensures .0,
-      read _ (entry .pre) .all .variables,
-      read _ (entry .pre) .all .matrices,
-    ) in (
-      entry .pre,
-      c .before .before
-          .trailer-word .ensures .0,
-      c .before .trailer-word2 .ensures .0,
-      take-replicate _ 40 0 b,
-    )
+start-slots-requires c κs = (
+  c .before .before .before .before .pre,
+  c .before .before .shape .ensures .shaped,
+  take-replicate _ maxSlots 0 (c .before .slot-count .ensures .1) ∙ ap (λ
+      (n : ℕ). replicate n 0) (c .before .slot-count .ensures .0),
+)
 
 returns : tie.Need-returns
 returns c = search needs
@@ -70,9 +42,8 @@ pub start-accepted-spec : {M : Type 1} → statement M
 start-accepted-spec =
     tie.close
     (tie.spec
-    trailer-word-requires
-    trailer-word-requires-2
-    add-n
+    shape-requires
+    slot-count-requires
     array-borrow-prefix-all
     slice-aggregate-start-slots
     start-slots-requires

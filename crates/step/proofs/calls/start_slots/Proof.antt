@@ -19,24 +19,14 @@ load-start-requires c κs = search needs
 give-values-requires : tie.Need-give-values-requires
 give-values-requires c κs =
     let entry = c .before .before .before .before .before .before .before in
-    let n : length (entry .args .slots .now) ≡ entry .args .nv + entry .args .nm = ap length (entry .pre .3) ∙ length-replicate _ _ in omega (
-      arith,
-      c
-          .before .before .slots .given,
-      entry .pre .1,
-      read _ (entry .pre .0) .all .variables,
-    )
+    let n : length (entry .args .slots .now) ≡ entry .args .shape .variables + entry .args .shape .matrices = ap length (entry .pre .2) ∙ length-replicate
+    _ _ in omega (arith, c .before .before .slots .given, entry .pre .1 .variables, read _ (entry .pre .0) .all .variables)
 
 give-statuses-requires : tie.Need-give-statuses-requires
 give-statuses-requires c κs =
     let entry = c .before .before .before .before .before .before .before .before .before in
-    let n : length (entry .args .slots .now) ≡ entry .args .nv + entry .args .nm = ap length (entry .pre .3) ∙ length-replicate _ _ in omega (
-      arith,
-      c
-          .before .before .before .before .slots .given,
-      entry .pre .2,
-      read _ (entry .pre .0) .all .matrices,
-    )
+    let n : length (entry .args .slots .now) ≡ entry .args .shape .variables + entry .args .shape .matrices = ap length (entry .pre .2) ∙ length-replicate
+    _ _ in omega (arith, c .before .before .before .before .slots .given, entry .pre .1 .matrices, read _ (entry .pre .0) .all .matrices)
 
 same-length : tie.Need-same-length
 same-length c = search needs
@@ -44,9 +34,8 @@ same-length c = search needs
 returns : tie.Need-returns
 returns c =
     let entry = c .before .before .before .before .before .before .before .before .before .before in
-    let n : length (entry .args .slots .now) ≡ entry .args .nv + entry .args .nm = ap length (entry .pre .3) ∙ length-replicate _ _ in start-answer _
-    (entry .pre .0) _ _ (entry .pre .1) (entry .pre .2) _ _ _ (omega (arith, c .before .before .before .before .before .slots .given)) (c .before
-    .before .before .before .before .before .load-start .ensures) (c .before .before .give-values .ensures) (c .give-statuses .ensures)
+    start-answer _ (entry .pre .0) _ _ (entry .pre .1 .variables) (entry .pre .1 .matrices) _ _ _ (c .before .before .before .before .before .before
+    .load-start .ensures) (c .before .before .give-values .ensures) (c .give-statuses .ensures)
 
 pub start-slots-spec : {M : Type 1} → statement M
 start-slots-spec =

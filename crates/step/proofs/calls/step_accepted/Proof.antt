@@ -1,28 +1,25 @@
 -- `step::calls::step_accepted` meets its contract. Assumes nothing.
 use native.Mathlib.Omega.{arith}
-use mathlib.Core.Path.{refl, sym, _∙_}
-use Prim.Native.Nat.{_≤_, _+_}
-use lib.Seq.{length-take-le}
-use Rattle.design.proofs.Places.{read}
-use Rattle.design.proofs.Tables.{few-normals}
-use Rattle.step.proofs.Cells.{variables-inside}
-use Rattle.step.proofs.Answering.{count-movers}
-use Rattle.step.proofs.States.{step-11, step-12, step-done}
+use mathlib.Core.Path.{refl, sym, subst, _∙_}
 use borrow.Author.Needs.{needs}
+use lib.Seq.{length-take-le}
+use Rattle.design.specs.Places.{CellsIndexed}
+use Rattle.design.proofs.Indexed.{sized, count-movers, few-movers}
+use Rattle.step.proofs.States.{step-11, step-12, step-done}
 use Rattle.step.proofs.calls.step_accepted.Statement.{statement}
 use Rattle.step.proofs.calls.step_accepted.Tie as tie
 
-trailer-word-requires : tie.Need-trailer-word-requires
-trailer-word-requires c κs = omega (arith, read _ (c .before .pre) .all .long)
+index-cells-requires : tie.Need-index-cells-requires
+index-cells-requires c κs = search needs
 
-trailer-word-requires-2 : tie.Need-trailer-word-requires-2
-trailer-word-requires-2 c κs = omega (arith, read _ (c .before .before .pre) .all .long)
+shape-requires : tie.Need-shape-requires
+shape-requires c κs = search needs
 
 patterns-requires : tie.Need-patterns-requires
 patterns-requires c κs = search needs
 
 wrong-entry-requires : tie.Need-wrong-entry-requires
-wrong-entry-requires c κs = search needs
+wrong-entry-requires c κs = (c .before .before .before .before .before .pre, c .before .shape .ensures .shaped)
 
 refuse-step-requires : tie.Need-refuse-step-requires
 refuse-step-requires c κs = search needs
@@ -30,35 +27,22 @@ refuse-step-requires c κs = search needs
 returns : tie.Need-returns
 returns c =
     let at-patterns = c .before .before .before in
-    let entry = at-patterns .before .before .before .before in
+    let entry = at-patterns .before .before .before .before .before in
     c .refuse-step .ensures ∙ step-11 (entry .args .file .now) (entry .args .values) (entry .args .statuses) (entry .args .choice) (entry .pre)
     (at-patterns .patterns .result) (at-patterns .patterns .ensures) (entry .good .1 .0 .1 .0 .1) (entry .good .1 .1 .0 .1 .0 .1) _ (c .before
     .before .wrong-entry .ensures) (c .before .if1 .taken)
 
-index-cells-requires : tie.Need-index-cells-requires
-index-cells-requires c κs = search needs
-
-external-count-requires : tie.Need-external-count-requires
-external-count-requires c κs =
-    let entry = c .before .before .before .before .before .before .before .before in
-    omega (
-      arith,
-      read _ (entry .pre) .all .long,
-      variables-inside _ (entry .pre),
-      c .before .before .before .before .before .before .trailer-word
-          .ensures .0,
-    )
-
 add-if2 : tie.Need-add-if2
 add-if2 c =
-    let entry = c .before .before .before .before .before .before .before .before .before in
+    let at-shape = c .before .before .before .before in
+    let entry = at-shape .before .before .before .before in
     omega (
       arith,
-      few-normals _ (entry .pre),
-      c .before .index-cells .ensures .count,
-      c .external-count .ensures .1,
-      c .before .before .before .before
-          .before .before .before .trailer-word .ensures .1,
+      few-movers _ _ _ (at-shape .shape .ensures .shaped) (record {
+        normals = subst (CellsIndexed _ _) (sym (at-shape .shape .ensures .normals)) (c
+            .before .before .before .before .before .index-cells .ensures);
+        externals = at-shape .shape .ensures .externals;
+      }) (entry .pre),
     )
 
 refuse-step-requires-2 : tie.Need-refuse-step-requires-2
@@ -66,113 +50,90 @@ refuse-step-requires-2 c κs = search needs
 
 returns-2 : tie.Need-returns-2
 returns-2 c =
-    let at-patterns = c .before .before .before .before .before .before .before in
-    let at-trailer-word = at-patterns .before .before in
-    let entry = at-trailer-word .before .before in
+    let at-patterns = c .before .before .before .before .before in
+    let at-shape = at-patterns .before in
+    let entry = at-shape .before .before .before .before in
     c .refuse-step2 .ensures ∙ step-12 (entry .args .file .now) (entry .args .values) (entry .args .statuses) (entry .args .choice) (entry .pre)
     (at-patterns .patterns .result) (at-patterns .patterns .ensures) (entry .good .1 .0 .1 .0 .1) (entry .good .1 .1 .0 .1 .0 .1) _ (c .before
-    .before .before .before .before .before .wrong-entry .ensures) (c .before .before .before .before .before .if1 .left) _ (count-movers _ _ _ _
-    _ (entry .pre) (at-trailer-word .trailer-word .ensures .0) (c .before .before .before .index-cells .ensures) (c .before .before
-    .external-count .ensures .0)) (omega (arith, c .before .if2 .taken))
+    .before .before .before .wrong-entry .ensures) (c .before .before .before .if1 .left) _ (count-movers _ _ _ (at-shape .shape .ensures .shaped)
+    (record {
+      normals = subst (CellsIndexed _ _) (sym (at-shape .shape .ensures .normals)) (c .before .before .before .before .before .before .before
+          .index-cells .ensures);
+      externals = at-shape .shape .ensures .externals;
+    })) (omega (arith, c .before .if2 .taken))
 
 index-events-requires : tie.Need-index-events-requires
 index-events-requires c κs = search needs
 
-add-n : tie.Need-add-n
-add-n c = search needs
-
-array-borrow-prefix-all : tie.Need-array-borrow-prefix-all
-array-borrow-prefix-all c =
-    let at-trailer-word2 = c .before .before .before .before .before .before .before .before .before .before .before in
-    let at-trailer-word = at-trailer-word2 .before in
-    let entry = at-trailer-word .before .before in
-    omega (
-      arith,
-      at-trailer-word .trailer-word .ensures .0,
-      at-trailer-word2 .trailer-word2 .ensures .0,
-      read _ (entry .pre) .all .variables,
-      read _
-          (entry .pre) .all .matrices,
+slot-count-requires : tie.Need-slot-count-requires
+slot-count-requires c κs =
+    let at-shape = c .before .before .before .before .before .before .before in
+    let entry = at-shape .before .before .before .before in (
+      sized (entry .args .file .now) (entry .pre) (at-shape .shape .result) (at-shape .shape .ensures .shaped) .0,
+      sized (entry .args .file .now) (entry .pre)
+          (at-shape .shape .result) (at-shape .shape .ensures .shaped) .1,
     )
 
+array-borrow-prefix-all : tie.Need-array-borrow-prefix-all
+array-borrow-prefix-all c = omega (arith, c .before .before .slot-count .ensures .1)
+
 slice-aggregate-step-slots : tie.Need-slice-aggregate-step-slots
-slice-aggregate-step-slots c =
-    let at-trailer-word2 = c .before .before .before .before .before .before .before .before .before .before .before .before in
-    let at-trailer-word = at-trailer-word2 .before in
-    let entry = at-trailer-word .before .before in
-    let b : at-trailer-word .trailer-word .result + at-trailer-word2 .trailer-word2 .result ≤ 40 = omega (
-      arith,
-      at-trailer-word .trailer-word .ensures
-          .0,
-      at-trailer-word2 .trailer-word2 .ensures .0,
-      read _ (entry .pre) .all .variables,
-      read _ (entry .pre) .all .matrices,
-    ) in sym
-    (length-take-le _ _ b)
+slice-aggregate-step-slots c = sym (length-take-le _ _ (c .before .before .before .slot-count .ensures .1))
 
 step-slots-requires : tie.Need-step-slots-requires
 step-slots-requires c κs =
-    let at-trailer-word2 = c .before .before .before .before .before .before .before .before .before .before .before .before in
-    let at-trailer-word = at-trailer-word2 .before in
-    let entry = at-trailer-word .before .before in
-    let b : at-trailer-word .trailer-word .result + at-trailer-word2 .trailer-word2 .result ≤ 40 = omega (
-      arith,
-      at-trailer-word .trailer-word .ensures
-          .0,
-      at-trailer-word2 .trailer-word2 .ensures .0,
-      read _ (entry .pre) .all .variables,
-      read _ (entry .pre) .all .matrices,
-    ) in (
+    let at-slot-count = c .before .before .before in
+    let at-shape = at-slot-count .before .before .before .before .before .before .before .before in
+    let at-index-cells = at-shape .before in
+    let entry = at-index-cells .before .before .before in (
       record {
-        accepted = entry .pre;
-        events = c .before .before .before .index-events .ensures;
-        variables = at-trailer-word .trailer-word .ensures .0;
-        matrices = at-trailer-word2 .trailer-word2 .ensures .0;
-        size = length-take-le _ _ b;
+        indexed = record {
+          accepted = entry .pre;
+          events = c .before .before .before .before .index-events .ensures;
+          shaped = at-shape .shape .ensures .shaped;
+        };
+        size = length-take-le _ _ (at-slot-count .slot-count .ensures .1) ∙ at-slot-count .slot-count .ensures .0;
       },
-      c .before .before .before .before .before .before
-          .before .index-cells .ensures,
-      omega (
-        arith,
-        c .before .before .before .before .before .if2 .left,
-        c .before .before .before .before .before
-            .before .external-count .ensures .0,
-      ),
+      record {
+        normals =
+            subst (CellsIndexed _ _) (sym (at-shape .shape .ensures .normals)) (at-index-cells .index-cells .ensures);
+        externals = at-shape .shape .ensures .externals;
+      },
+      omega (arith, c .before .before .before .before .before .before .if2 .left),
     )
 
 returns-3 : tie.Need-returns-3
 returns-3 c =
-    let at-external-count = c .before .before .before .before .before .before .before .before in
-    let at-index-cells = at-external-count .before in
-    let at-if1 = at-index-cells .before .before in
+    let at-if2 = c .before .before .before .before .before .before .before .before in
+    let at-if1 = at-if2 .before .before in
     let at-wrong-entry = at-if1 .before in
     let at-patterns = at-wrong-entry .before in
-    let at-trailer-word2 = at-patterns .before in
-    let at-trailer-word = at-trailer-word2 .before in
-    let entry = at-trailer-word .before .before in
+    let at-shape = at-patterns .before in
+    let at-index-cells = at-shape .before in
+    let entry = at-index-cells .before .before .before in
     step-done (entry .args .file .now) (entry .args .values) (entry .args .statuses) (entry .args .choice) (entry .pre) (at-patterns .patterns .result)
     (at-patterns .patterns .ensures) (entry .good .1 .0 .1 .0 .1) (entry .good .1 .1 .0 .1 .0 .1) _ (at-wrong-entry .wrong-entry .ensures) (at-if1
-    .if1 .left) _ (count-movers _ _ _ _ _ (entry .pre) (at-trailer-word .trailer-word .ensures .0) (at-index-cells .index-cells .ensures)
-    (at-external-count .external-count .ensures .0)) (omega (arith, c .before .before .before .before .before .before .before .if2 .left)) _ _
-    (at-trailer-word .trailer-word .ensures .0) (at-trailer-word2 .trailer-word2 .ensures .0) _ refl _ (c .before .step-slots .ensures)
+    .if1 .left) _ (count-movers _ _ _ (at-shape .shape .ensures .shaped) (record {
+      normals = subst (CellsIndexed _ _) (sym (at-shape .shape .ensures .normals)) (at-index-cells .index-cells .ensures);
+      externals = at-shape .shape .ensures .externals;
+    })) (omega (arith, at-if2 .if2 .left)) _ _ (at-shape
+    .shape .ensures .shaped .variables) (at-shape .shape .ensures .shaped .matrices) _ refl _ (c .before .step-slots .ensures)
 
 pub step-accepted-spec : {M : Type 1} → statement M
 step-accepted-spec =
     tie.close
     (tie.spec
-    trailer-word-requires
-    trailer-word-requires-2
+    index-cells-requires
+    shape-requires
     patterns-requires
     wrong-entry-requires
     refuse-step-requires
     returns
-    index-cells-requires
-    external-count-requires
     add-if2
     refuse-step-requires-2
     returns-2
     index-events-requires
-    add-n
+    slot-count-requires
     array-borrow-prefix-all
     slice-aggregate-step-slots
     step-slots-requires

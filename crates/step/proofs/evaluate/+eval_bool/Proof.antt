@@ -22,7 +22,7 @@ use Rattle.step.proofs.evaluate.+eval_bool.{statement}
 use Rattle.step.proofs.evaluate.+eval_bool.Tie.{close}
 
 abbrev μ-eval-bool : Measures 3 eval-bool-kinds.ps ℕ
-μ-eval-bool κs a = a .1 .1 .1 .1 .1 .1 .0
+μ-eval-bool κs a = a .1 .1 .1 .1 .1 .0
 
 abbrev eval-bool-at : ℕ → In 3 eval-bool-kinds.ps
 eval-bool-at t = and 3 eval-bool-kinds.ps (is 3 eval-bool-kinds.ps μ-eval-bool t) eval-bool.Pre
@@ -81,8 +81,7 @@ eval-bool-eval-bool-requires : (t : ℕ) → eval-bool-lts.Need-eval-bool-requir
 eval-bool-eval-bool-requires t c κs = (
   omega (arith, bool-live _ _ _ _ _ (c .before .before .before .before .before .pre .1 .0) .deep),
   (
-    not-first _ _ _ _ _ (c .before .before .before
-        .before .before .pre .1 .0) (c .match .keys3),
+    not-first _ _ _ _ _ (c .before .before .before .before .before .pre .1 .0) (c .match .keys3),
     omega arith,
     omega arith,
   ),
@@ -98,8 +97,7 @@ eval-bool-eval-bool-requires-2 : (t : ℕ) → eval-bool-lts.Need-eval-bool-requ
 eval-bool-eval-bool-requires-2 t c κs = (
   omega (arith, bool-live _ _ _ _ _ (c .before .before .before .before .before .before .before .pre .1 .0) .deep),
   (
-    logic-first _ _ _ _ _ (c .before
-        .before .before .before .before .before .before .pre .1 .0) (omega arith) (c .if2 .taken),
+    logic-first _ _ _ _ _ (c .before .before .before .before .before .before .before .pre .1 .0) (omega arith) (c .if2 .taken),
     omega arith,
     omega arith,
   ),
@@ -114,9 +112,7 @@ eval-bool-eval-bool-requires-3 : (t : ℕ) → eval-bool-lts.Need-eval-bool-requ
 eval-bool-eval-bool-requires-3 t c κs = (
   omega (arith, bool-live _ _ _ _ _ (c .before .before .before .before .before .before .before .before .pre .1 .0) .deep),
   (
-    logic-second _ _ _ _ _ (c
-        .before .before .before .before .before .before .before .before .pre .1 .0) (omega arith) (c .before .if2 .taken) _ (c .eval-bool2 .ensures
-        .1),
+    logic-second _ _ _ _ _ (c .before .before .before .before .before .before .before .before .pre .1 .0) (omega arith) (c .before .if2 .taken) _ (c .eval-bool2 .ensures .1),
     omega arith,
     omega arith,
   ),

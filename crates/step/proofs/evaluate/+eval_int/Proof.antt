@@ -20,7 +20,7 @@ use Rattle.step.proofs.evaluate.+eval_int.{statement}
 use Rattle.step.proofs.evaluate.+eval_int.Tie.{close}
 
 abbrev μ-eval-int : Measures 3 eval-int-kinds.ps ℕ
-μ-eval-int κs a = a .1 .1 .1 .1 .1 .1 .0
+μ-eval-int κs a = a .1 .1 .1 .1 .1 .0
 
 abbrev eval-int-at : ℕ → In 3 eval-int-kinds.ps
 eval-int-at t = and 3 eval-int-kinds.ps (is 3 eval-int-kinds.ps μ-eval-int t) eval-int.Pre
@@ -83,31 +83,23 @@ eval-int-wide-requires-2 t c κs = tt
 
 eval-int-add-int-at-3 : (t : ℕ) → eval-int-lts.Need-add-int-at-3 (eval-int-claims t) (eval-int-at t) eval-int.Post
 eval-int-add-int-at-3 t c =
-    omega (
-      arith,
-      c .wide2 .ensures .0,
-      int-status _ _ _ _ _ (c .before .before .before .before .before .before .before .pre .1 .0) (c .before .before
-          .match .keys3) .1,
-    )
-
-eval-int-mul-int-at-2 : (t : ℕ) → eval-int-lts.Need-mul-int-at-2 (eval-int-claims t) (eval-int-at t) eval-int.Post
-eval-int-mul-int-at-2 t c =
-    omega (
-      arith,
-      c .wide2 .ensures .0,
-      int-status _ _ _ _ _ (c .before .before .before .before .before .before .before .pre .1 .0) (c .before .before
-          .match .keys3) .1,
-    )
-
-eval-int-shared-slice-read-int-at-2 : (t : ℕ) → eval-int-lts.Need-shared-slice-read-int-at-2 (eval-int-claims t) (eval-int-at t) eval-int.Post
-eval-int-shared-slice-read-int-at-2 t c =
     let entry = c .before .before .before .before .before .before .before .before in
     omega (arith, c .before .wide2 .ensures .0, int-status _ _ _ _ _ (entry .pre .1 .0) (c .before .before .before .match .keys3) .1)
 
+eval-int-mul-int-at-2 : (t : ℕ) → eval-int-lts.Need-mul-int-at-2 (eval-int-claims t) (eval-int-at t) eval-int.Post
+eval-int-mul-int-at-2 t c =
+    let entry = c .before .before .before .before .before .before .before .before in
+    omega (arith, c .before .wide2 .ensures .0, int-status _ _ _ _ _ (entry .pre .1 .0) (c .before .before .before .match .keys3) .1)
+
+eval-int-shared-slice-read-int-at-2 : (t : ℕ) → eval-int-lts.Need-shared-slice-read-int-at-2 (eval-int-claims t) (eval-int-at t) eval-int.Post
+eval-int-shared-slice-read-int-at-2 t c =
+    let entry = c .before .before .before .before .before .before .before .before .before in
+    omega (arith, c .before .before .wide2 .ensures .0, int-status _ _ _ _ _ (entry .pre .1 .0) (c .before .before .before .before .match .keys3) .1)
+
 eval-int-add-int-at-4 : (t : ℕ) → eval-int-lts.Need-add-int-at-4 (eval-int-claims t) (eval-int-at t) eval-int.Post
 eval-int-add-int-at-4 t c =
-    let entry = c .before .before .before .before .before .before .before .before in
-    omega (arith, int-status _ _ _ _ _ (entry .pre .1 .0) (c .before .before .before .match .keys3) .0)
+    let entry = c .before .before .before .before .before .before .before .before .before in
+    omega (arith, int-status _ _ _ _ _ (entry .pre .1 .0) (c .before .before .before .before .match .keys3) .0)
 
 eval-int-int-at-requires-3 : (t : ℕ) → eval-int-lts.Need-int-at-requires-3 (eval-int-claims t) (eval-int-at t) eval-int.Post
 eval-int-int-at-requires-3 t c κs = tt
@@ -174,12 +166,12 @@ eval-int-returns-2 t c =
 eval-int-returns-3 : (t : ℕ) → eval-int-lts.Need-returns-3 (eval-int-claims t) (eval-int-at t) eval-int.Post
 unfolding evalInt
 eval-int-returns-3 t c =
-    let entry = c .before .before .before .before .before .before .before .before .before in
-    let k = int-status _ _ _ _ _ (entry .pre .1 .0) (c .before .before .before .before .match .keys3) in (
-      c .int-at3 .ensures .0 ∙ ap (λ (v : ℕ). getD
-          (entry .args .slots .now) (entry .args .nv + v) 0) (c .before .before .wide2 .ensures .0) ∙ sym (ap (intValue _ _) (k .2)),
-      c .int-at3
-          .ensures .1 ∙ sym (ap past (k .2)),
+    let entry = c .before .before .before .before .before .before .before .before .before .before in
+    let k = int-status _ _ _ _ _ (entry .pre .1 .0) (c .before .before .before .before .before .match .keys3) in (
+      c .int-at3 .ensures .0 ∙ ap (λ (v : ℕ).
+          getD (entry .args .slots .now) (entry .args .shape .variables + v) 0) (c .before .before .before .wide2 .ensures .0) ∙ sym (ap (intValue _ _)
+          (k .2)),
+      c .int-at3 .ensures .1 ∙ sym (ap past (k .2)),
     )
 
 eval-int-returns-4 : (t : ℕ) → eval-int-lts.Need-returns-4 (eval-int-claims t) (eval-int-at t) eval-int.Post

@@ -2,7 +2,7 @@ use native.Mathlib.Omega.{arith}
 use mathlib.Core.Logic.{inl, inr}
 use Prim.Native.Nat.{ℕ, _<_, _-_}
 use Rattle.design.specs.Check.{namesOf}
-use Rattle.step.specs.Accepted.{layoutOf}
+use Rattle.design.specs.State.{layoutOf}
 use Rattle.step.proofs.Runs.{stmt-unknown, bool-forward, list-forward, list-live, seq-first, Going, going-start, going-on, going-end, stmt-live, assign-live, assign-runs, if-deep, if-test, if-then, if-else, runs-then, runs-else}
 use Prim.Native.Nat.{ℕ, _<_}
 use borrow.Fn.Kinds.{In}
@@ -41,10 +41,10 @@ run-stmt-below t =
     and 3 run-stmt-kinds.ps (falls 3 run-stmt-kinds.ps _<_ μ-run-stmt t) run-stmt.Pre
 
 abbrev run-list-Inv-loop : run-list-lts.InvT-loop
-run-list-Inv-loop text file at end nv nm nest slots₀ left₀ p₀ slots left p = Going text (namesOf file nv nm) end (layoutOf nv) nest at slots₀ left p slots
+run-list-Inv-loop text file at end shape nest slots₀ left₀ p₀ slots left p = Going text (namesOf file shape) end (layoutOf shape) nest at slots₀ left p slots
 
 abbrev run-list-μ-loop : run-list-lts.MeasureT-loop
-run-list-μ-loop text file at end nv nm nest slots₀ left₀ p₀ slots left p = left
+run-list-μ-loop text file at end shape nest slots₀ left₀ p₀ slots left p = left
 
 abbrev run-list-claims : ℕ → run-list-lts.Claims
 run-list-claims t = (wide-reads.Asked, wide-reads.Learnt, run-stmt-below t, run-stmt.Post)

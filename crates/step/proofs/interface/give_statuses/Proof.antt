@@ -1,23 +1,20 @@
 use native.Mathlib.Omega.{arith}
-use Prim.Native.Nat.{ℕ, _-_, _≤_, _+_}
+use Prim.Native.Nat.{ℕ, _-_, _≤_}
 use mathlib.Core.List.{_++_}
-use mathlib.Core.Path.{refl, ap, _∙_}
-use lib.ListN.{replicate, drop, length}
-use Rattle.step.proofs.Entries.{Copying, copying-start, copying-from, copied-rest, rest-length}
+use mathlib.Core.Path.{_≡_, refl, ap, _∙_}
+use lib.ListN.{replicate, take, drop}
+use Rattle.step.proofs.Entries.{Copying, copying-start, copying-from, copied}
 use Rattle.step.proofs.interface.give_statuses.Statement.{statement}
 use Rattle.step.proofs.interface.give_statuses.Tie as tie
 
 abbrev Inv-loop : tie.InvT-loop
-Inv-loop n slots out₀ i₀ out i = (n + i ≤ length slots) × Copying (replicate 8 0) 0 (drop n slots) i out
+Inv-loop n k slots out₀ i₀ out i = (i ≤ k) × Copying (replicate 8 0) 0 (drop n slots) i out
 
 abbrev μ-loop : tie.MeasureT-loop
-μ-loop n slots out₀ i₀ out i = length slots - i
+μ-loop n k slots out₀ i₀ out i = k - i
 
 loop-holds : tie.Need-loop-holds Inv-loop μ-loop
 loop-holds c = (omega arith, copying-start _ _ _)
-
-sub-loop : tie.Need-sub-loop Inv-loop μ-loop
-sub-loop c = omega arith
 
 add-out : tie.Need-add-out Inv-loop μ-loop
 add-out c = omega arith
@@ -49,12 +46,9 @@ loop-again c = (
 
 returns : tie.Need-returns Inv-loop μ-loop
 returns c =
-    copied-rest 8 0 _ (drop (c .before .before .args .n) (c .before .before .args .slots .now)) _ (omega (
-      arith,
-      rest-length (c .before .before .args .n)
-          (c .before .before .args .slots .now),
-    )) (omega arith) (c .before .loop .inv .1) ∙ ap (λ (k : ℕ). drop (c .before .before .args .n) (c .before
-    .before .args .slots .now) ++ replicate (8 - k) 0) (rest-length (c .before .before .args .n) (c .before .before .args .slots .now))
+    let args = c .before .before .args in
+    copied 8 _ 0 (drop (args .n) (args .slots .now)) _ (omega arith) (c .before .loop .inv .1)
+    ∙ ap (λ (k : ℕ). take k (drop (args .n) (args .slots .now)) ++ replicate (8 - k) 0) (let z : c .before .loop .i ≡ args .k = omega arith in z)
 
 pub give-statuses-spec : {M : Type 1} → statement M
 give-statuses-spec =
@@ -63,7 +57,6 @@ give-statuses-spec =
     Inv-loop
     μ-loop
     loop-holds
-    sub-loop
     add-out
     mul-out
     shared-slice-read-out

@@ -9,8 +9,8 @@ wrong-value-requires c κs = search needs
 returns : tie.Need-returns
 returns c =
     let entry = c .before .before .before in
-    λ d e. first-entry (d .variables) (d .statuses) (entry .args .ps) (entry .args .ss) (entry .good .1 .1 .1 .0 .1 .0 .1) _ (c .before .wrong-value
-    .ensures d e) (c .if1 .taken)
+    λ d e. first-entry (d .variables) (d .statuses) (entry .args .ps) (entry .args .ss) (entry .good .1 .1 .0 .1 .0 .1) _ (c .before .wrong-value .ensures
+    d e) (c .if1 .taken)
 
 wrong-status-requires : tie.Need-wrong-status-requires
 wrong-status-requires c κs = search needs
@@ -21,15 +21,14 @@ add-result c = search needs
 returns-2 : tie.Need-returns-2
 returns-2 c =
     let entry = c .before .before .before .before .before in
-    λ d e. status-entry (d .variables) (d .statuses) (entry .args .ps) (entry .args .ss) (entry .good .1 .1 .1 .0 .1 .0 .1) _ _ (c .before .before .before
+    λ d e. status-entry (d .variables) (d .statuses) (entry .args .ps) (entry .args .ss) (entry .good .1 .1 .0 .1 .0 .1) _ _ (c .before .before .before
     .wrong-value .ensures d e) (c .before .before .if1 .left) (c .before .wrong-status .ensures d e)
 
 returns-3 : tie.Need-returns-3
 returns-3 c =
     let entry = c .before .before .before .before .before in
-    λ d e. no-entry (d .variables) (d .statuses) (entry .args .ps) (entry .args .ss) (entry .good .1 .1 .1 .0 .1 .0 .1) (entry .good .1 .1 .1 .1 .0 .1 .0
-    .1) _ _ (c .before .before .before .wrong-value .ensures d e) (c .before .before .if1 .left) (c .before .wrong-status .ensures d e) (c .if2
-    .left)
+    λ d e. no-entry (d .variables) (d .statuses) (entry .args .ps) (entry .args .ss) (entry .good .1 .1 .0 .1 .0 .1) (entry .good .1 .1 .1 .0 .1 .0 .1) _
+    _ (c .before .before .before .wrong-value .ensures d e) (c .before .before .if1 .left) (c .before .wrong-status .ensures d e) (c .if2 .left)
 
 pub wrong-entry-spec : {M : Type 1} → statement M
 wrong-entry-spec =

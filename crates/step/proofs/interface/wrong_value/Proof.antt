@@ -4,7 +4,7 @@ use borrow.Author.Tests.{not-true, not-false}
 use Rattle.design.specs.Tree.{Design}
 use Rattle.design.proofs.Places.{read}
 use Rattle.step.specs.Interface.{valuesRight}
-use Rattle.step.proofs.Cells.{variables-inside}
+use Rattle.design.proofs.Indexed.{variables-inside}
 use Rattle.step.proofs.Entries.{LookingAt, values-start, values-wrong, values-right, values-end}
 use Rattle.step.proofs.interface.wrong_value.Statement.{statement}
 use Rattle.step.proofs.interface.wrong_value.Tie as tie

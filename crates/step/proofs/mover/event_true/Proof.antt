@@ -2,37 +2,39 @@ use native.Mathlib.Omega.{arith}
 use Prim.Native.Nat.{ℕ, _+_, _*_}
 use mathlib.Core.Path.{refl, ap}
 use lib.ListN.{getD}
-use Rattle.step.proofs.Cells.{sizes, event-slot, event-inside, event-reads, event-value}
+use Rattle.step.proofs.Cells.{sizes, event-reads, event-value}
+use Rattle.design.proofs.Indexed.{event-slot, event-inside}
 use borrow.Author.Needs.{needs}
 use Rattle.step.proofs.mover.event_true.Statement.{statement}
 use Rattle.step.proofs.mover.event_true.Tie as tie
 
 mul-at : tie.Need-mul-at
-mul-at c = omega (arith, event-slot _ _ _ _ _ (c .before .before .pre .0) _ _ (c .before .before .pre .1) (c .before .before .pre .2))
+mul-at c = omega (arith, event-slot _ _ _ (c .before .before .pre .0 .indexed) _ _ (c .before .before .pre .1) (c .before .before .pre .2))
 
 add-at : tie.Need-add-at
-add-at c = omega (arith, event-slot _ _ _ _ _ (c .before .before .pre .0) _ _ (c .before .before .pre .1) (c .before .before .pre .2))
+add-at c = omega (arith, event-slot _ _ _ (c .before .before .pre .0 .indexed) _ _ (c .before .before .pre .1) (c .before .before .pre .2))
 
 mul-at-2 : tie.Need-mul-at-2
-mul-at-2 c = omega (arith, event-slot _ _ _ _ _ (c .before .before .pre .0) _ _ (c .before .before .pre .1) (c .before .before .pre .2))
+mul-at-2 c = omega (arith, event-slot _ _ _ (c .before .before .pre .0 .indexed) _ _ (c .before .before .pre .1) (c .before .before .pre .2))
 
 element-copy-out-at : tie.Need-element-copy-out-at
-element-copy-out-at c = omega (arith, event-slot _ _ _ _ _ (c .before .before .pre .0) _ _ (c .before .before .pre .1) (c .before .before .pre .2))
+element-copy-out-at c =
+    omega (arith, event-slot _ _ _ (c .before .before .pre .0 .indexed) _ _ (c .before .before .pre .1) (c .before .before .pre .2))
 
 cast-at : tie.Need-cast-at
 cast-at c =
     let entry = c .before .before .before in
-    omega (arith, event-inside _ _ _ _ _ (entry .pre .0) _ _ (entry .pre .1) (entry .pre .2), sizes _ _ _ _ _ (entry .pre .0))
+    omega (arith, event-inside _ _ _ (entry .pre .0 .indexed) _ _ (entry .pre .1) (entry .pre .2), sizes _ _ _ _ (entry .pre .0))
 
 add-past : tie.Need-add-past
 add-past c =
     let entry = c .before .before .before in
-    omega (arith, event-inside _ _ _ _ _ (entry .pre .0) _ _ (entry .pre .1) (entry .pre .2), sizes _ _ _ _ _ (entry .pre .0))
+    omega (arith, event-inside _ _ _ (entry .pre .0 .indexed) _ _ (entry .pre .1) (entry .pre .2), sizes _ _ _ _ (entry .pre .0))
 
 shared-slice-read-wide : tie.Need-shared-slice-read-wide
 shared-slice-read-wide c =
     let entry = c .before .before .before .before in
-    omega (arith, event-inside _ _ _ _ _ (entry .pre .0) _ _ (entry .pre .1) (entry .pre .2), sizes _ _ _ _ _ (entry .pre .0))
+    omega (arith, event-inside _ _ _ (entry .pre .0 .indexed) _ _ (entry .pre .1) (entry .pre .2), sizes _ _ _ _ (entry .pre .0))
 
 wide-requires : tie.Need-wide-requires
 wide-requires c κs = search needs
@@ -40,24 +42,24 @@ wide-requires c κs = search needs
 add-past-2 : tie.Need-add-past-2
 add-past-2 c =
     let entry = c .before .before .before .before .before in
-    omega (arith, c .wide .ensures .0, event-inside _ _ _ _ _ (entry .pre .0) _ _ (entry .pre .1) (entry .pre .2), sizes _ _ _ _ _ (entry .pre .0))
+    omega (arith, c .wide .ensures .0, event-inside _ _ _ (entry .pre .0 .indexed) _ _ (entry .pre .1) (entry .pre .2), sizes _ _ _ _ (entry .pre .0))
 
 add-eval-bool : tie.Need-add-eval-bool
 add-eval-bool c =
     let entry = c .before .before .before .before .before in
-    omega (arith, event-inside _ _ _ _ _ (entry .pre .0) _ _ (entry .pre .1) (entry .pre .2), sizes _ _ _ _ _ (entry .pre .0))
+    omega (arith, event-inside _ _ _ (entry .pre .0 .indexed) _ _ (entry .pre .1) (entry .pre .2), sizes _ _ _ _ (entry .pre .0))
 
 eval-bool-requires : tie.Need-eval-bool-requires
 eval-bool-requires c κs =
     let entry = c .before .before .before .before .before in (
-      event-reads _ _ _ _ _ (entry .pre .0) _ _ (entry .pre .1) (entry .pre .2) _ _ (ap (λ (x : ℕ). getD (entry .args .events .now) (16 * entry .args .m +
+      event-reads _ _ _ _ (entry .pre .0) _ _ (entry .pre .1) (entry .pre .2) _ _ (ap (λ (x : ℕ). getD (entry .args .events .now) (16 * entry .args .m +
           entry .args .e) 0 + 1 + x) (c .wide .ensures .0)) refl,
       omega (
         arith,
         c .wide .ensures .0,
-        event-inside _ _ _ _ _ (entry .pre .0) _ _ (entry
-            .pre .1) (entry .pre .2),
-        sizes _ _ _ _ _ (entry .pre .0),
+        event-inside _ _ _ (entry .pre .0 .indexed) _ _
+            (entry .pre .1) (entry .pre .2),
+        sizes _ _ _ _ (entry .pre .0),
       ),
       omega (arith, entry .pre .0 .size),
     )
@@ -65,7 +67,7 @@ eval-bool-requires c κs =
 returns : tie.Need-returns
 returns c =
     let entry = c .before .before .before .before .before .before in
-    event-value _ _ _ _ _ (entry .pre .0) _ _ (entry .pre .1) (entry .pre .2) _ _ (ap (λ (x : ℕ). getD (entry .args .events .now) (16 * entry .args .m +
+    event-value _ _ _ _ (entry .pre .0) _ _ (entry .pre .1) (entry .pre .2) _ _ (ap (λ (x : ℕ). getD (entry .args .events .now) (16 * entry .args .m +
     entry .args .e) 0 + 1 + x) (c .before .wide .ensures .0)) refl _ (c .eval-bool .ensures .0)
 
 pub event-true-spec : {M : Type 1} → statement M

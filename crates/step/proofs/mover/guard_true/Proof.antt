@@ -1,6 +1,7 @@
 use native.Mathlib.Omega.{arith}
 use mathlib.Core.Path.{sym, _∙_}
-use Rattle.step.proofs.Cells.{sizes, normal-fields, guard-empty, guard-reads, guard-value}
+use Rattle.design.proofs.Indexed.{normal-fields}
+use Rattle.step.proofs.Cells.{sizes, guard-empty, guard-reads, guard-value}
 use borrow.Author.Needs.{needs}
 use Rattle.step.proofs.mover.guard_true.Statement.{statement}
 use Rattle.step.proofs.mover.guard_true.Tie as tie
@@ -15,7 +16,7 @@ wide-requires : tie.Need-wide-requires
 wide-requires c κs = search needs
 
 returns : tie.Need-returns
-returns c = λ x. guard-empty _ _ _ _ _ (c .before .before .before .before .before .pre .0) _ x (sym (c .before .wide .ensures .0) ∙ c .if1 .taken)
+returns c = λ x. guard-empty _ _ _ _ (c .before .before .before .before .before .pre .0) _ x (sym (c .before .wide .ensures .0) ∙ c .if1 .taken)
 
 add-eval-bool : tie.Need-add-eval-bool
 add-eval-bool c = search needs
@@ -29,19 +30,19 @@ add-eval-bool-3 c = search needs
 eval-bool-requires : tie.Need-eval-bool-requires
 eval-bool-requires c κs =
     let entry = c .before .before .before .before .before in (
-      guard-reads _ _ _ _ _ (entry .pre .0) _ (entry .pre .1) _ (c .before .wide .ensures .0) (c .if1 .left),
+      guard-reads _ _ _ _ (entry .pre .0) _ (entry .pre .1) _ (c .before .wide .ensures .0) (c .if1 .left),
       omega (
         arith,
         c .before .wide .ensures .0,
-        normal-fields _ _ _ _ _ (entry .pre .0) _ (entry .pre .1) .past,
-        sizes _ _ _ _ _ (entry .pre .0),
+        normal-fields _ _ _ (entry .pre .0 .indexed) _ (entry .pre .1) .past,
+        sizes _ _ _ _ (entry .pre .0),
       ),
       omega (arith, entry .pre .0 .size),
     )
 
 returns-2 : tie.Need-returns-2
 returns-2 c =
-    λ x. guard-value _ _ _ _ _ (c .before .before .before .before .before .before .pre .0) _ x _ (c .before .before .wide .ensures .0) (c .before .if1
+    λ x. guard-value _ _ _ _ (c .before .before .before .before .before .before .pre .0) _ x _ (c .before .before .wide .ensures .0) (c .before .if1
     .left) _ (c .eval-bool .ensures .0)
 
 pub guard-true-spec : {M : Type 1} → statement M

@@ -2,7 +2,8 @@ use native.Mathlib.Omega.{arith}
 use Prim.Native.Nat.{ℕ, _+_}
 use mathlib.Core.Path.{refl, ap, ap₂}
 use borrow.Author.Tests.{not-true, not-false}
-use Rattle.step.proofs.Cells.{sizes, kinds, in-range, normal-fields, idle-event, idle-guard, action-reads, moved-cell}
+use Rattle.design.proofs.Indexed.{normal-fields}
+use Rattle.step.proofs.Cells.{sizes, kinds, in-range, idle-event, idle-guard, action-reads, moved-cell}
 use borrow.Author.Needs.{needs}
 use Rattle.step.proofs.mover.move_cell.Statement.{statement}
 use Rattle.step.proofs.mover.move_cell.Tie as tie
@@ -10,15 +11,14 @@ use Rattle.step.proofs.mover.move_cell.Tie as tie
 status-and-event-requires : tie.Need-status-and-event-requires
 status-and-event-requires c κs =
     let entry = c .before .before .before in
-    (entry .pre .0, normal-fields _ _ _ _ _ (entry .pre .0) _ (entry .pre .1))
+    (entry .pre .0, normal-fields _ _ _ (entry .pre .0 .indexed) _ (entry .pre .1))
 
 same-length : tie.Need-same-length
 same-length c = search needs
 
 returns : tie.Need-returns
 returns c =
-    λ x. idle-event _ _ _ _ _ (c .before .before .before .before .before .pre .0) _ x _ (c .before .status-and-event .ensures) (not-true _ (c .if1
-    .taken))
+    λ x. idle-event _ _ _ _ (c .before .before .before .before .before .pre .0) _ x _ (c .before .status-and-event .ensures) (not-true _ (c .if1 .taken))
 
 guard-true-requires : tie.Need-guard-true-requires
 guard-true-requires c κs = search needs
@@ -29,8 +29,8 @@ same-length-2 c = search needs
 returns-2 : tie.Need-returns-2
 returns-2 c =
     let entry = c .before .before .before .before .before .before .before .before in
-    λ x. idle-guard _ _ _ _ _ (entry .pre .0) _ x _ _ (c .before .before .before .before .status-and-event .ensures) (not-false _ (c .before .before
-    .before .if1 .left)) (c .before .guard-true .ensures x) (not-true _ (c .if2 .taken))
+    λ x. idle-guard _ _ _ _ (entry .pre .0) _ x _ _ (c .before .before .before .before .status-and-event .ensures) (not-false _ (c .before .before .before
+    .if1 .left)) (c .before .guard-true .ensures x) (not-true _ (c .if2 .taken))
 
 add-middle : tie.Need-add-middle
 add-middle c = search needs
@@ -59,18 +59,18 @@ add-past c = search needs
 run-list-requires : tie.Need-run-list-requires
 run-list-requires c κs =
     let entry = c .before .before .before .before .before .before .before .before .before .before .before .before in (
-      action-reads _ _ _ _ _ (entry .pre .0) _ (entry .pre .1) _ _ (ap (λ (k : ℕ). entry .args .p + 8 + k) (c .before .before .wide .ensures .0)) (ap₂ (λ
-          (k j : ℕ). entry .args .p + 8 + k + j) (c .before .before .wide .ensures .0) (c .before .word .ensures .0)),
+      action-reads _ _ _ _ (entry .pre .0) _ (entry .pre .1) _ _ (ap (λ (k : ℕ). entry .args .p + 8 + k) (c .before .before .wide .ensures .0)) (ap₂ (λ (k
+          j : ℕ). entry .args .p + 8 + k + j) (c .before .before .wide .ensures .0) (c .before .word .ensures .0)),
       omega (
         arith,
         c .before .before
             .wide .ensures .0,
         c .before .word .ensures .0,
-        normal-fields _ _ _ _ _ (entry .pre .0) _ (entry .pre .1) .past,
-        sizes _ _ _ _ _ (entry .pre
-            .0),
+        normal-fields _ _ _ (entry .pre .0 .indexed) _ (entry .pre .1) .past,
+        sizes _ _ _ _ (entry
+            .pre .0),
       ),
-      kinds _ _ _ _ _ (entry .pre .0),
+      kinds _ _ _ _ (entry .pre .0),
       omega (arith, entry .pre .0 .size),
     )
 
@@ -93,37 +93,37 @@ cast-slots c =
 
 add-slots-2 : tie.Need-add-slots-2
 add-slots-2 c =
-    let entry = c .before .before .before .before .before .before .before .before .before .before .before .before .before .before .before .before .before .before in
+    let entry = c .before .before .before .before .before .before .before .before .before .before .before .before .before .before .before .before .before .before .before in
     omega (
       arith,
-      in-range _ _ _ _ _ (entry .pre .0) _ _ _ _ (c .before .wide2 .ensures .0) refl refl (normal-fields _ _ _ _ _ (entry .pre .0) _ (entry
-          .pre .1)) .0,
-      sizes _ _ _ _ _ (entry .pre .0),
+      in-range _ _ _ _ (entry .pre .0) _ _ _ _ (c .before .before .wide2 .ensures .0) refl refl (normal-fields _ _ _ (entry .pre .0 .indexed)
+          _ (entry .pre .1)) .0,
+      sizes _ _ _ _ (entry .pre .0),
       entry .pre .0 .size,
     )
 
 mul-slots : tie.Need-mul-slots
 mul-slots c =
-    let entry = c .before .before .before .before .before .before .before .before .before .before .before .before .before .before .before .before .before .before in
+    let entry = c .before .before .before .before .before .before .before .before .before .before .before .before .before .before .before .before .before .before .before in
     omega (
       arith,
-      in-range _ _ _ _ _ (entry .pre .0) _ _ _ _ (c .before .wide2 .ensures .0) refl refl (normal-fields _ _ _ _ _ (entry .pre .0) _ (entry
-          .pre .1)) .0,
-      sizes _ _ _ _ _ (entry .pre .0),
+      in-range _ _ _ _ (entry .pre .0) _ _ _ _ (c .before .before .wide2 .ensures .0) refl refl (normal-fields _ _ _ (entry .pre .0 .indexed)
+          _ (entry .pre .1)) .0,
+      sizes _ _ _ _ (entry .pre .0),
       entry .pre .0 .size,
-      c .before .before .before .before .slots .given,
+      c .before .before .before .before .before .slots .given,
     )
 
 slice-write-slots : tie.Need-slice-write-slots
 slice-write-slots c =
-    let entry = c .before .before .before .before .before .before .before .before .before .before .before .before .before .before .before .before .before .before in
+    let entry = c .before .before .before .before .before .before .before .before .before .before .before .before .before .before .before .before .before .before .before in
     omega (
       arith,
-      in-range _ _ _ _ _ (entry .pre .0) _ _ _ _ (c .before .wide2 .ensures .0) refl refl (normal-fields _ _ _ _ _ (entry .pre .0) _ (entry
-          .pre .1)) .0,
-      sizes _ _ _ _ _ (entry .pre .0),
+      in-range _ _ _ _ (entry .pre .0) _ _ _ _ (c .before .before .wide2 .ensures .0) refl refl (normal-fields _ _ _ (entry .pre .0 .indexed)
+          _ (entry .pre .1)) .0,
+      sizes _ _ _ _ (entry .pre .0),
       entry .pre .0 .size,
-      c .before .before .before .before .slots .given,
+      c .before .before .before .before .before .slots .given,
     )
 
 same-length-3 : tie.Need-same-length-3
@@ -131,16 +131,17 @@ same-length-3 c = search needs
 
 returns-3 : tie.Need-returns-3
 returns-3 c =
-    let at-wide = c .before .before .before .before .before .before .before .before in
+    let at-word = c .before .before .before .before .before .before .before .before in
+    let at-wide = at-word .before in
     let at-if2 = at-wide .before .before in
     let at-guard-true = at-if2 .before in
     let at-if1 = at-guard-true .before .before in
     let at-status-and-event = at-if1 .before in
     let entry = at-status-and-event .before .before .before .before in
-    λ x. moved-cell _ _ _ _ _ (entry .pre .0) _ x _ _ (at-status-and-event .status-and-event .ensures) (not-false _ (at-if1 .if1 .left)) (at-guard-true
+    λ x. moved-cell _ _ _ _ (entry .pre .0) _ x _ _ (at-status-and-event .status-and-event .ensures) (not-false _ (at-if1 .if1 .left)) (at-guard-true
     .guard-true .ensures x) (not-false _ (at-if2 .if2 .left)) _ _ (ap (λ (k : ℕ). entry .args .p + 8 + k) (at-wide .wide .ensures .0)) (ap₂ (λ (k
-    j : ℕ). entry .args .p + 8 + k + j) (at-wide .wide .ensures .0) (c .before .before .before .before .before .before .before .word .ensures .0))
-    _ (c .before .before .before .before .before .run-list .ensures .0) _ _ (c .before .wide2 .ensures .0) refl
+    j : ℕ). entry .args .p + 8 + k + j) (at-wide .wide .ensures .0) (at-word .word .ensures .0)) _ (c .before .before .before .before .before
+    .before .run-list .ensures .0) _ _ (c .before .before .wide2 .ensures .0) refl
 
 pub move-cell-spec : {M : Type 1} → statement M
 move-cell-spec =

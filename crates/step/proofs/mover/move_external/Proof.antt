@@ -10,7 +10,7 @@ slice-read-if1 : tie.Need-slice-read-if1
 slice-read-if1 c = search needs
 
 returns : tie.Need-returns
-returns c = raised-idle _ _ _ (c .if1 .taken)
+returns c = λ l. raised-idle l _ _ (c .if1 .taken)
 
 mul-slots : tie.Need-mul-slots
 mul-slots c = search needs
@@ -22,7 +22,7 @@ same-length : tie.Need-same-length
 same-length c = search needs
 
 returns-2 : tie.Need-returns-2
-returns-2 c = raised _ _ _ (c .if1 .left)
+returns-2 c = λ l. raised l _ _ (c .if1 .left)
 
 pub move-external-spec : {M : Type 1} → statement M
 move-external-spec =

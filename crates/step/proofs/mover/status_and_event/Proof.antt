@@ -34,15 +34,15 @@ cast-current : tie.Need-cast-current
 cast-current c =
     omega (
       arith,
-      c .shared-slice-known5 .given (c .before .before .before .before .before .before .before .args .nv + c .before .before .before .wide
+      c .shared-slice-known5 .given (c .before .before .before .before .before .before .before .before .args .shape .variables + c .before .before .before .before .wide
           .result),
     )
 
 returns : tie.Need-returns
 returns c =
-    let entry = c .before .before .before .before .before .before .before .before in
-    other-status _ _ _ _ _ (entry .pre .0) _ _ _ _ (c .before .before .before .before .wide .ensures .0) (c .before .before .wide2 .ensures .0) refl (c
-    .if1 .taken)
+    let entry = c .before .before .before .before .before .before .before .before .before in
+    other-status _ _ _ _ (entry .pre .0) _ _ _ _ (c .before .before .before .before .before .wide .ensures .0) (c .before .before .before .wide2 .ensures
+    .0) refl (c .if1 .taken)
 
 add-wide-2 : tie.Need-add-wide-2
 add-wide-2 c = search needs
@@ -55,15 +55,16 @@ wide-requires-3 c κs = search needs
 
 event-true-requires : tie.Need-event-true-requires
 event-true-requires c κs =
-    let entry = c .before .before .before .before .before .before .before .before .before .before in
-    let k = in-range _ _ _ _ _ (entry .pre .0) _ _ _ _ (c .before .before .before .before .before .before .wide .ensures .0) (c .before .before .before
-    .before .wide2 .ensures .0) (c .wide3 .ensures .0) (entry .pre .1) in (entry .pre .0, k .0, k .1)
+    let entry = c .before .before .before .before .before .before .before .before .before .before .before in
+    let k = in-range _ _ _ _ (entry .pre .0) _ _ _ _ (c .before .before .before .before .before .before .before .wide .ensures .0) (c .before .before
+    .before .before .before .wide2 .ensures .0) (c .wide3 .ensures .0) (entry .pre .1) in (entry .pre .0, k .0, k .1)
 
 returns-2 : tie.Need-returns-2
 returns-2 c =
-    let entry = c .before .before .before .before .before .before .before .before .before .before .before in
-    same-status _ _ _ _ _ (entry .pre .0) _ _ _ _ (c .before .before .before .before .before .before .before .wide .ensures .0) (c .before .before .before
-    .before .before .wide2 .ensures .0) (c .before .wide3 .ensures .0) (c .before .before .before .if1 .left) _ (c .event-true .ensures)
+    let at-wide = c .before .before .before .before .before .before .before .before in
+    let entry = at-wide .before .before .before .before in
+    same-status _ _ _ _ (entry .pre .0) _ _ _ _ (at-wide .wide .ensures .0) (c .before .before .before .before .before .before .wide2 .ensures .0) (c
+    .before .wide3 .ensures .0) (c .before .before .before .if1 .left) _ (c .event-true .ensures)
 
 pub status-and-event-spec : {M : Type 1} → statement M
 status-and-event-spec =

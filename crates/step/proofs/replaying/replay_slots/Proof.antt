@@ -1,8 +1,10 @@
 use native.Mathlib.Omega.{arith}
 use mathlib.Core.Path.{ap, _∙_}
 use Rattle.design.specs.State.{State}
-use Rattle.step.specs.Operations.{firstBreak, breaksAnswer}
-use Rattle.step.proofs.Replays.{ready-same}
+use Rattle.design.specs.Answer.{answer}
+use Rattle.step.specs.Property.{propertyOf}
+use Rattle.step.specs.Operations.{firstBreak, replayed}
+use Rattle.step.proofs.Replays.{replayable-same}
 use borrow.Author.Needs.{needs}
 use Rattle.step.proofs.replaying.replay_slots.Statement.{statement}
 use Rattle.step.proofs.replaying.replay_slots.Tie as tie
@@ -13,7 +15,7 @@ load-start-requires c κs = search needs
 first-break-requires : tie.Need-first-break-requires
 first-break-requires c κs =
     let entry = c .before .before .before .before .before .before .before .before in
-    (ready-same _ _ _ _ _ _ (omega (arith, c .before .before .slots .given)) (entry .pre .0), entry .pre .1, entry .pre .2, entry .pre .3)
+    replayable-same _ _ _ _ _ _ _ (omega (arith, c .before .before .slots .given)) (entry .pre .0)
 
 same-length : tie.Need-same-length
 same-length c = search needs
@@ -21,8 +23,8 @@ same-length c = search needs
 returns : tie.Need-returns
 returns c =
     let entry = c .before .before .before .before .before .before .before .before .before .before .before in
-    λ d e. c .before .before .first-break .ensures d e ∙ ap (λ (s : State). breaksAnswer (firstBreak d (entry .args .property) s (entry .args .choices
-    .now) 0)) (c .before .before .before .before .before .before .load-start .ensures d e)
+    λ d e. c .before .before .first-break .ensures d e ∙ ap (λ (s : State). replayed (answer (firstBreak d (propertyOf d (entry .args .property)) s (entry
+    .args .choices .now) 0))) (c .before .before .before .before .before .before .load-start .ensures d e)
 
 pub replay-slots-spec : {M : Type 1} → statement M
 replay-slots-spec =

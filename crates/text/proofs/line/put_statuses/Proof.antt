@@ -3,22 +3,19 @@ use Prim.Native.Nat.{_≤_, _-_, _+_}
 use mathlib.Core.List.{map}
 use native.Mathlib.Omega.{arith}
 use lib.IntN.{pos}
-use lib.ListN.{length, drop}
+use lib.ListN.{take, drop}
 use Rattle.text.proofs.Putting.{written-length, Left, left-start, statuses-next, statuses-end}
 use Rattle.text.proofs.line.put_statuses.Statement.{statement}
 use Rattle.text.proofs.line.put_statuses.Tie as tie
 
 abbrev Inv-loop : tie.InvT-loop
-Inv-loop out₀ at n slots p₀ i₀ out p i = Left (map pos (drop n slots)) i out₀ out at p × (i ≤ length slots - n)
+Inv-loop out₀ at n k slots p₀ i₀ out p i = Left (map pos (take k (drop n slots))) i out₀ out at p × (i ≤ k)
 
 abbrev μ-loop : tie.MeasureT-loop
-μ-loop out₀ at n slots p₀ i₀ out p i = length slots - n - i
+μ-loop out₀ at n k slots p₀ i₀ out p i = k - i
 
 loop-holds : tie.Need-loop-holds Inv-loop μ-loop
 loop-holds c = (left-start _ _ _, omega arith)
-
-sub-loop : tie.Need-sub-loop Inv-loop μ-loop
-sub-loop c = omega arith
 
 put-byte-requires : tie.Need-put-byte-requires Inv-loop μ-loop
 put-byte-requires c κs = omega (arith, c .before .before .loop .inv .0 .near, c .before .before .loop .inv .0 .rest .size)
@@ -58,24 +55,25 @@ loop-less : tie.Need-loop-less Inv-loop μ-loop
 loop-less c = omega arith
 
 loop-again : tie.Need-loop-again Inv-loop μ-loop
-loop-again c = (
-  statuses-next (c .before .before .before .before .before .before .before .before .before .before .before .before .before .args .n) (c .before .before
-      .before .before .before .before .before .before .before .before .before .before .before .args .slots .now) (c .before .before .before .before
-      .before .before .before .before .before .before .before .before .before .pre .0) _ (c .before .before .before .before .before .before .before
-      .before .before .loop-test .taken) (c .before .before .before .before .before .before .before .before .before .before .loop .inv .0) (c
-      .before .before .before .before .before .before .before .put-byte .ensures) (c .before .before .put-decimal .ensures .0),
-  omega arith,
-)
+loop-again c =
+    let at-put-byte = c .before .before .before .before .before .before .before in
+    let at-loop = at-put-byte .before .before .before in
+    let entry = at-loop .before .before .before in (
+      statuses-next (entry .args .n) (entry .args .k) (entry .args .slots .now) (entry .pre .0) _ (at-put-byte .before .before .loop-test .taken)
+          (at-loop .loop .inv .0) (at-put-byte .put-byte .ensures) (c .before .before .put-decimal .ensures .0),
+      omega arith,
+    )
 
 same-length : tie.Need-same-length Inv-loop μ-loop
 same-length c = c .before .loop .inv .0 .rest .size
 
 returns : tie.Need-returns Inv-loop μ-loop
-returns c = (
-  statuses-end (c .before .before .before .before .args .n) (c .before .before .before .before .args .slots .now) (c .before .before .before .before
-      .pre .0) (c .before .loop .i) (omega arith) (c .before .loop .inv .0),
-  omega (arith, c .before .loop .inv .0 .near),
-)
+returns c =
+    let entry = c .before .before .before .before in (
+      statuses-end (entry .args .n) (entry .args .k) (entry .args .slots .now) (entry .pre .0) (c .before .loop .i) (omega arith)
+          (c .before .loop .inv .0),
+      omega (arith, c .before .loop .inv .0 .near),
+    )
 
 pub put-statuses-spec : {M : Type 1} → statement M
 put-statuses-spec =
@@ -84,7 +82,6 @@ put-statuses-spec =
     Inv-loop
     μ-loop
     loop-holds
-    sub-loop
     put-byte-requires
     add-put-decimal
     mul-put-decimal

@@ -8,10 +8,10 @@ use Rattle.text.proofs.trace.put_next.Statement.{statement}
 use Rattle.text.proofs.trace.put_next.Tie as tie
 
 abbrev Inv-loop : tie.InvT-loop
-Inv-loop file events cells normals nv nm property choices slots₀ out₀ at p₀ i₀ slots out p i = Printing file property choices slots₀ out₀ at i slots out p
+Inv-loop file events cells shape property choices slots₀ out₀ at p₀ i₀ slots out p i = Printing file property choices slots₀ out₀ at i slots out p
 
 abbrev μ-loop : tie.MeasureT-loop
-μ-loop file events cells normals nv nm property choices slots₀ out₀ at p₀ i₀ slots out p i = length choices - i
+μ-loop file events cells shape property choices slots₀ out₀ at p₀ i₀ slots out p i = length choices - i
 
 loop-holds : tie.Need-loop-holds Inv-loop μ-loop
 loop-holds c = printing-start _ _ _ _ _ _
@@ -26,7 +26,7 @@ move-chosen-requires : tie.Need-move-chosen-requires Inv-loop μ-loop
 move-chosen-requires c κs =
     let at-loop = c .before .before .before .before in
     let entry = at-loop .before .before .before .before .before in (
-      ready-same _ _ _ _ _ _ (at-loop .loop .inv .state) (entry .pre .0),
+      ready-same _ _ _ _ _ (at-loop .loop .inv .state) (entry .pre .0),
       entry .pre .1,
       omega (
         arith,
@@ -43,12 +43,13 @@ put-state-requires : tie.Need-put-state-requires Inv-loop μ-loop
 put-state-requires c κs =
     let at-loop = c .before .before .before .before .before .before .before .before .before in
     let entry = at-loop .before .before .before .before .before in (
-      ready-same _ _ _ _ _ _ (omega (arith, c .before .before .before .slots .given, at-loop .loop .inv .state)) (entry .pre .0),
+      ready-same _ _ _ _ _ (omega (arith, c .before .before .before .slots .given, at-loop .loop .inv .state)) (entry .pre .0),
       omega (
         arith,
-        at-loop
-            .loop .inv .near,
+        at-loop .loop .inv .near,
         at-loop .loop .inv .size,
+        entry .pre .2,
+        c .before .before .before .before .before .before .before .before .loop-test .taken,
       ),
     )
 

@@ -1,85 +1,69 @@
 -- `text::trace::put_run` meets its contract. Assumes nothing.
 use native.Mathlib.Omega.{arith}
-use mathlib.Core.Path.{sym}
-use Prim.Native.Nat.{_≤_, _+_}
+use mathlib.Core.Path.{sym, ap, subst, _∙_}
+use Prim.Native.Nat.{ℕ}
+use lib.ListN.{replicate}
 use lib.Seq.{length-take-le}
-use Rattle.design.proofs.Places.{read}
+use Rattle.design.specs.Limits.{maxSlots}
+use Rattle.design.specs.Places.{CellsIndexed}
+use Rattle.design.proofs.Indexed.{sized}
 use Rattle.step.proofs.Replays.{take-replicate}
 use Rattle.text.proofs.Tracing.{choices-below}
 use borrow.Author.Needs.{needs}
 use Rattle.text.proofs.trace.put_run.Statement.{statement}
 use Rattle.text.proofs.trace.put_run.Tie as tie
 
-trailer-word-requires : tie.Need-trailer-word-requires
-trailer-word-requires c κs = omega (arith, read _ (c .before .before .before .pre .0 .design) .all .long)
-
-trailer-word-requires-2 : tie.Need-trailer-word-requires-2
-trailer-word-requires-2 c κs = omega (arith, read _ (c .before .before .before .before .pre .0 .design) .all .long)
-
 index-cells-requires : tie.Need-index-cells-requires
 index-cells-requires c κs = search needs
+
+shape-requires : tie.Need-shape-requires
+shape-requires c κs = search needs
 
 index-events-requires : tie.Need-index-events-requires
 index-events-requires c κs = search needs
 
-add-n : tie.Need-add-n
-add-n c = search needs
-
-array-borrow-prefix-all : tie.Need-array-borrow-prefix-all
-array-borrow-prefix-all c =
-    let entry = c .before .before .before .before .before .before .before .before .before .before .before in
-    omega (
-      arith,
-      c .before .before .before .before .before .before .before .trailer-word .ensures .0,
-      c .before .before .before .before .before .before
-          .trailer-word2 .ensures .0,
-      read _ (entry .pre .0 .design) .all .variables,
-      read _ (entry .pre .0 .design) .all .matrices,
+slot-count-requires : tie.Need-slot-count-requires
+slot-count-requires c κs =
+    let entry = c .before .before .before .before .before .before .before .before in (
+      sized (entry .args .file .now) (entry .pre .0 .design) (c .before .before .shape .result) (c .before .before .shape .ensures .shaped) .0,
+      sized
+          (entry .args .file .now) (entry .pre .0 .design) (c .before .before .shape .result) (c .before .before .shape .ensures .shaped) .1,
     )
 
+array-borrow-prefix-all : tie.Need-array-borrow-prefix-all
+array-borrow-prefix-all c = omega (arith, c .before .before .slot-count .ensures .1)
+
 slice-aggregate-put-states : tie.Need-slice-aggregate-put-states
-slice-aggregate-put-states c =
-    let at-trailer-word2 = c .before .before .before .before .before .before .before in
-    let at-trailer-word = at-trailer-word2 .before in
-    let entry = at-trailer-word .before .before .before .before in
-    let b : at-trailer-word .trailer-word .result + at-trailer-word2 .trailer-word2 .result ≤ 40 = omega (
-      arith,
-      at-trailer-word .trailer-word .ensures
-          .0,
-      at-trailer-word2 .trailer-word2 .ensures .0,
-      read _ (entry .pre .0 .design) .all .variables,
-      read _ (entry .pre .0 .design) .all
-          .matrices,
-    ) in sym (length-take-le _ _ b)
+slice-aggregate-put-states c = sym (length-take-le _ _ (c .before .before .before .slot-count .ensures .1))
 
 put-states-requires : tie.Need-put-states-requires
 put-states-requires c κs =
-    let at-index-cells = c .before .before .before .before .before .before in
-    let at-trailer-word2 = at-index-cells .before .before in
-    let at-trailer-word = at-trailer-word2 .before in
-    let entry = at-trailer-word .before .before .before .before in
-    let b : at-trailer-word .trailer-word .result + at-trailer-word2 .trailer-word2 .result ≤ 40 = omega (
-      arith,
-      at-trailer-word .trailer-word .ensures
-          .0,
-      at-trailer-word2 .trailer-word2 .ensures .0,
-      read _ (entry .pre .0 .design) .all .variables,
-      read _ (entry .pre .0 .design) .all
-          .matrices,
-    ) in (
+    let at-slot-count = c .before .before .before .before in
+    let at-shape = at-slot-count .before .before .before in
+    let at-index-cells = at-shape .before in
+    let entry = at-index-cells .before .before .before .before .before in (
       record {
-        accepted = entry .pre .0 .design;
-        events = c .before .before .before .before .index-events .ensures;
-        variables =
-            at-trailer-word .trailer-word .ensures .0;
-        matrices = at-trailer-word2 .trailer-word2 .ensures .0;
-        size = length-take-le _ _ b;
+        indexed = record {
+          accepted = entry .pre .0 .design;
+          events = c .before .before .before .before .before .index-events .ensures;
+          shaped =
+              at-shape .shape .ensures .shaped;
+        };
+        size = length-take-le _ _ (at-slot-count .slot-count .ensures .1) ∙ at-slot-count .slot-count .ensures .0;
       },
-      at-index-cells .index-cells .ensures,
+      record {
+        normals = subst (CellsIndexed _ _) (sym (at-shape .shape .ensures .normals)) (at-index-cells .index-cells .ensures);
+        externals =
+            at-shape .shape .ensures .externals;
+      },
       entry .pre .1,
-      choices-below _ _ (entry .pre .0) _ _ _ (at-trailer-word .trailer-word .ensures .0)
-          (at-index-cells .index-cells .ensures),
-      take-replicate _ 40 0 b,
+      choices-below _ _ (entry .pre .0) _ _ (at-shape .shape .ensures .shaped) (record {
+        normals = subst (CellsIndexed _ _) (sym (at-shape .shape .ensures .normals)) (at-index-cells .index-cells .ensures);
+        externals = at-shape
+            .shape .ensures .externals;
+      }),
+      take-replicate _ maxSlots 0 (at-slot-count .slot-count .ensures .1) ∙ ap (λ (n : ℕ). replicate n 0)
+          (at-slot-count .slot-count .ensures .0),
     )
 
 same-length : tie.Need-same-length
@@ -92,11 +76,10 @@ pub put-run-spec : {M : Type 1} → statement M
 put-run-spec =
     tie.close
     (tie.spec
-    trailer-word-requires
-    trailer-word-requires-2
     index-cells-requires
+    shape-requires
     index-events-requires
-    add-n
+    slot-count-requires
     array-borrow-prefix-all
     slice-aggregate-put-states
     put-states-requires

@@ -13,14 +13,14 @@ load-start-requires c κs = search needs
 put-state-requires : tie.Need-put-state-requires
 put-state-requires c κs =
     let entry = c .before .before .before .before .before .before .before .before .before .before in
-    (ready-same _ _ _ _ _ _ (omega (arith, c .before .before .before .slots .given)) (entry .pre .0), omega (arith, entry .pre .2))
+    (ready-same _ _ _ _ _ (omega (arith, c .before .before .before .slots .given)) (entry .pre .0), omega (arith, entry .pre .2))
 
 put-next-requires : tie.Need-put-next-requires
 put-next-requires c κs =
     let at-put-state = c .before .before .before .before in
     let at-slots = at-put-state .before .before .before .before in
     let entry = at-slots .before .before .before .before .before .before .before in (
-      ready-same _ _ _ _ _ _ (omega (arith, at-slots .slots .given)) (entry .pre .0),
+      ready-same _ _ _ _ _ (omega (arith, at-slots .slots .given)) (entry .pre .0),
       entry .pre .1,
       omega (
         arith,

@@ -1,0 +1,136 @@
+-- What a call answers: CHECK's refusal, then 13 and 14, then what the call itself says of the design. Assumes nothing.
+use mathlib.Core.Path.{_≡_, refl, sym, ap, ap₂, _∙_}
+use mathlib.Core.Bool.{Bool, true, false}
+use mathlib.Core.List.{List}
+use Prim.Native.Nat.{ℕ, _<_, _≤_}
+use native.Mathlib.Omega.{arith}
+use lib.Dec.{leb}
+use borrow.Author.Tests.{le-leb, lt-leb, leb-true}
+use Rattle.design.specs.Tree.{Design}
+use Rattle.design.specs.Check.{Checked, check}
+use Rattle.design.specs.Answer.{Answer, refused, answer, need, ofChecked, onDesign}
+use Rattle.design.specs.Answers.{refusal}
+use Rattle.design.specs.Places.{Accepted}
+use Rattle.design.specs.declared.Refusal.{Refusal}
+use Rattle.design.proofs.Places.{read}
+use Rattle.step.specs.Limits.{lastProperty, maxBound}
+use Rattle.step.specs.Property.{Property, propertyOf}
+use Rattle.step.specs.Gate.{gate, refusalOf, gateRefusal}
+
+-- a test
+module _ {A : Type 0} (t : Bool) (number place : ℕ) (r : Answer A) where
+  pub need-no : t ≡ false → need t number place r ≡ refused number place
+  need-no e = ap (λ (b : Bool). need b number place r) e
+
+  pub need-yes : t ≡ true → need t number place r ≡ r
+  need-yes e = ap (λ (b : Bool). need b number place r) e
+
+-- CHECK
+pub accepted-zero : (file : List ℕ) (r : Refusal) → r ≡ refusal (check file) → r .number ≡ 0 → Accepted file
+accepted-zero file r e z = sym (ap (λ (y : Refusal). y .number) e) ∙ z
+
+module _ {A : Type 0} (file : List ℕ) (call : Design → Answer A) where
+  pub on-refused : (r : Refusal) → r ≡ refusal (check file) → (r .number ≡ 0 → ⊥) → onDesign file call ≡ refused (r .number) (r .place)
+  unfolding onDesign
+  on-refused r e z = go (check file) e
+    where
+      go : (x : Checked) → r ≡ refusal x → ofChecked x call ≡ refused (r .number) (r .place)
+      go (Checked.refused i p) q = ap₂ (λ (a b : ℕ). refused a b) (sym (ap (λ (y : Refusal). y .number) q)) (sym (ap (λ (y : Refusal). y .place) q))
+      go (Checked.accepted d) q = absurd (z (ap (λ (y : Refusal). y .number) q))
+
+  pub on-accepted : (h : Accepted file) → onDesign file call ≡ call (read file h .tree)
+  unfolding onDesign
+  on-accepted h = ap (λ (x : Checked). ofChecked x call) (read file h .is)
+
+-- a call that the gate lets pass
+pub record Passed (file : List ℕ) (p k : ℕ) : Type 0 where
+  pub accepted : Accepted file
+  pub property : p ≤ lastProperty
+  pub bound : k ≤ maxBound
+
+-- CHECK, 13 and 14
+module _ (file : List ℕ) (p k : ℕ) where
+  module _ {A : Type 0} (call : Design → Property → Answer A) where
+    abbrev called : Design → Answer A
+    called d = call d (propertyOf d p)
+
+    tested : (h : Accepted file) → gate file p k call ≡ need (leb p lastProperty) 13 0 (need (leb k maxBound) 14 0 (called (read file h .tree)))
+    unfolding gate
+    tested h = on-accepted file (λ d. need (leb p lastProperty) 13 0 (need (leb k maxBound) 14 0 (called d))) h
+
+    over-property : Accepted file → lastProperty < p → gate file p k call ≡ refused 13 0
+    over-property h l = tested h ∙ need-no (leb p lastProperty) 13 0 (need (leb k maxBound) 14 0 (called (read file h .tree))) (lt-leb p lastProperty l)
+
+    past-property : (h : Accepted file) → p ≤ lastProperty → gate file p k call ≡ need (leb k maxBound) 14 0 (called (read file h .tree))
+    past-property h l = tested h ∙ need-yes (leb p lastProperty) 13 0 (need (leb k maxBound) 14 0 (called (read file h .tree))) (le-leb p lastProperty l)
+
+    over-bound : Accepted file → p ≤ lastProperty → maxBound < k → gate file p k call ≡ refused 14 0
+    over-bound h a l = past-property h a ∙ need-no (leb k maxBound) 14 0 (called (read file h .tree)) (lt-leb k maxBound l)
+
+    -- past the gate, the answer is the call's
+    pub in-range : (h : Accepted file) → p ≤ lastProperty → k ≤ maxBound → gate file p k call ≡ called (read file h .tree)
+    in-range h a b = past-property h a ∙ need-yes (leb k maxBound) 14 0 (called (read file h .tree)) (le-leb k maxBound b)
+
+    -- what the gate refuses, the call refuses
+    pub gate-refuses : (r : Refusal) → r ≡ gateRefusal file p k → (r .number ≡ 0 → ⊥) → gate file p k call ≡ refused (r .number) (r .place)
+    unfolding gate onDesign
+    gate-refuses r e z = go (check file) (leb p lastProperty) (leb k maxBound) e
+      where
+        same : (number place : ℕ) → r ≡ record { number = number; place = place } → _≡_ {A = Answer A} (refused number place) (refused (r .number) (r .place))
+        same number place q = ap₂ (λ (a b : ℕ). refused a b) (sym (ap (λ (y : Refusal). y .number) q)) (sym (ap (λ (y : Refusal). y .place) q))
+
+        go : (x : Checked) (t u : Bool) → r ≡ refusalOf (ofChecked {A = Unit {0}} x (λ d. need t 13 0 (need u 14 0 (answer tt))))
+            → ofChecked x (λ d. need t 13 0 (need u 14 0 (called d))) ≡ refused (r .number) (r .place)
+        go (Checked.refused i j) t u q = same i j q
+        go (Checked.accepted d) false u q = same 13 0 q
+        go (Checked.accepted d) true false q = same 14 0 q
+        go (Checked.accepted d) true true q = absurd (z (ap (λ (y : Refusal). y .number) q))
+
+  abbrev unitCall : Design → Property → Answer (Unit {0})
+  unitCall d q = answer tt
+
+  -- what the code of the gate answers
+  module _ (r : Refusal) (e : r ≡ refusal (check file)) where
+    pub gate-check : (r .number ≡ 0 → ⊥) → r ≡ gateRefusal file p k
+    unfolding gate onDesign
+    gate-check z = go (check file) e
+      where
+        go : (x : Checked) → r ≡ refusal x → r ≡ refusalOf (ofChecked {A = Unit {0}} x (λ d. need (leb p lastProperty) 13 0 (need (leb k maxBound) 14 0 (answer tt))))
+        go (Checked.refused i j) q = q
+        go (Checked.accepted d) q = absurd (z (ap (λ (y : Refusal). y .number) q))
+
+    module _ (z : r .number ≡ 0) where
+      pub gate-13 : lastProperty < p → record { number = 13; place = 0 } ≡ gateRefusal file p k
+      gate-13 l = sym (ap refusalOf (over-property unitCall (accepted-zero file r e z) l))
+
+      pub gate-14 : p ≤ lastProperty → maxBound < k → record { number = 14; place = 0 } ≡ gateRefusal file p k
+      gate-14 a l = sym (ap refusalOf (over-bound unitCall (accepted-zero file r e z) a l))
+
+      pub gate-none : p ≤ lastProperty → k ≤ maxBound → r ≡ gateRefusal file p k
+      gate-none a b =
+          let h = accepted-zero file r e z in
+          e ∙ ap refusal (read file h .is) ∙ sym (ap refusalOf (in-range unitCall h a b))
+
+  -- where a call is not refused, all tests hold
+  module _ {A : Type 0} (call : Design → Property → Answer A) where
+    tests : (t u : Bool) (x : Answer A) → refusalOf (need t 13 0 (need u 14 0 x)) .number ≡ 0 → (t ≡ true) × (u ≡ true)
+    tests true true x q = (refl, refl)
+    tests true false x q = absurd (let y : 14 ≡ 0 = q in omega arith)
+    tests false u x q = absurd (let y : 13 ≡ 0 = q in omega arith)
+
+    zero-accepted : refusalOf (gate file p k call) .number ≡ 0 → Accepted file
+    unfolding gate onDesign
+    zero-accepted = go (check file)
+      where
+        go : (x : Checked) → refusalOf (ofChecked x (λ d. need (leb p lastProperty) 13 0 (need (leb k maxBound) 14 0 (called call d)))) .number ≡ 0 → refusal x .number ≡ 0
+        go (Checked.refused i j) q = q
+        go (Checked.accepted d) q = refl
+
+    pub zero-passed : refusalOf (gate file p k call) .number ≡ 0 → Passed file p k
+    zero-passed z =
+        let h = zero-accepted z in
+        let s = tests (leb p lastProperty) (leb k maxBound) (called call (read file h .tree)) (ap (λ (a : Answer A). refusalOf a .number) (sym (tested call h)) ∙ z) in
+        record { accepted = h; property = leb-true p lastProperty (s .0); bound = leb-true k maxBound (s .1) }
+
+  pub gate-passed : (r : Refusal) → r ≡ gateRefusal file p k → r .number ≡ 0 → Passed file p k
+  gate-passed r e z = zero-passed unitCall (sym (ap (λ (y : Refusal). y .number) e) ∙ z)

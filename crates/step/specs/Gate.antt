@@ -1,0 +1,28 @@
+-- What every call with a property and a bound refuses first (document 01, "Turned-back calls").
+use mathlib.Core.List.{List}
+use Prim.Native.Nat.{ℕ}
+use lib.Dec.{leb}
+use Rattle.design.specs.Tree.{Design}
+use Rattle.design.specs.Answer.{Answer, refused, answer, need, onDesign}
+use Rattle.design.specs.declared.Refusal.{Refusal}
+use Rattle.step.specs.Limits.{lastProperty, maxBound}
+use Rattle.step.specs.Property.{Property, propertyOf}
+
+module _ {A : Type 0} where
+  -- CHECK's refusal; "13 property over 1; 14 over 100 choices", or "14 bound over 100"; "Places not named are 0." Then what the call answers of the
+  -- design and the property. `k` is the bound; of REPLAY it is the number of choices.
+  unfoldable pub gate : List ℕ → ℕ → ℕ → (Design → Property → Answer A) → Answer A
+  gate file p k call =
+      onDesign file λ d.
+      need (leb p lastProperty) 13 0
+      (need (leb k maxBound) 14 0
+      (call d (propertyOf d p)))
+
+  -- the refusal as the code has it: number 0 means not refused
+  abbrev pub refusalOf : Answer A → Refusal
+  refusalOf (refused number place) = record { number = number; place = place }
+  refusalOf (answer a) = record { number = 0; place = 0 }
+
+-- what is refused before the call itself is looked at
+abbrev pub gateRefusal : List ℕ → ℕ → ℕ → Refusal
+gateRefusal file p k = refusalOf (gate {A = Unit {0}} file p k (λ d q. answer tt))
