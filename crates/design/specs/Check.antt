@@ -109,6 +109,10 @@ module _ (file : List ℕ) where
       cond (moversRight (length (movers d))) (accepted d) (Checked.refused 10 (length file))
   last (Item.refused number place) = Checked.refused number place
 
+  -- "1 length under 16 or over 16,384 (place: length); 2 version, 3 a count (place of both: trailer). Then items in file order, place the item's first
+  -- byte, the lower number first within an item: 4 a section not starting at its offset (place: the end of the one before), or an item passing the
+  -- trailer; 5 variable; 6 matrix; 7 cell fields or order; 8 expression (unknown, ill-typed, naming nothing, too deep, not filling its length);
+  -- 9 action, likewise. Last, 10: w is 0 or over 64 (place: length)." Numbers 4 to 9 stand in DesignFile, 10 in `last`.
   unfoldable pub check : Checked
   check = last (
       need (lengthRight (length file)) 1 (length file)

@@ -2,12 +2,12 @@
 pub mod action;
 pub mod bits;
 pub mod bytes;
-pub mod cell;
+mod cell;
 pub mod expression;
 pub mod index;
-pub mod item;
+mod item;
 pub mod limits;
-pub mod section;
+mod section;
 pub mod shape;
 
 ghost use mathlib.Core.Path.{_≡_};

@@ -1,12 +1,12 @@
 // The step rule: START, STEP, HOLDS, REPLAY.
-pub mod calls;
-pub mod evaluate;
-pub mod execute;
+mod calls;
+mod evaluate;
+mod execute;
 pub mod gate;
-pub mod interface;
+mod interface;
 pub mod limits;
 pub mod mover;
-pub mod number;
+mod number;
 pub mod property;
 pub mod replaying;
 

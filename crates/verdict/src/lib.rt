@@ -1,6 +1,6 @@
 // VERDICT.
 pub mod answer;
-pub mod bounds;
+mod bounds;
 
 ghost use mathlib.Core.Path.{_≡_};
 ghost use Rattle.verdict.specs.Verdict.{verdict as verdictOf};
