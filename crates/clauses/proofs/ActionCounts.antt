@@ -17,7 +17,7 @@ use Rattle.clauses.specs.Cost.{cost, addCosts, intCost, boolCost, statem
 use Rattle.clauses.specs.FrameSizes.{noGates, gatesAt, both, stmtGates, listGates, FewGates}
 use Rattle.clauses.specs.Limits.{textGates}
 use Rattle.clauses.specs.declared.cost.GatesAt.{GatesAt}
-use Rattle.clauses.proofs.Inside.{list-few}
+use Rattle.clauses.proofs.TextGates.{list-few}
 use Rattle.clauses.proofs.GateCounts.{gates, gates-past, one-gates, two-gates, three-gates}
 
 if-cost : (bits : ℕ) (c : BoolExpr) (a b : Stmts) → statementCost (ifElse c a b) bits ≡ addCosts (addCosts (addCosts (boolCost c) (statementsCost a bits)) (statementsCost b bits)) (cost 0 bits)

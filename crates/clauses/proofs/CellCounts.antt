@@ -26,7 +26,7 @@ use Rattle.clauses.specs.Limits.{textGates, mostGates}
 use Rattle.clauses.specs.declared.cost.GatesAt.{GatesAt}
 use Rattle.clauses.proofs.Bounds.{bounded}
 use Rattle.clauses.proofs.FrameCounts.{entries-few, property-cells, property-invariant}
-use Rattle.clauses.proofs.Inside.{Few, bool-few}
+use Rattle.clauses.proofs.TextGates.{Few, bool-few}
 
 -- the gates of what is known to be read
 known-gates : {A : Type 0} (f : A → Cost) (x : Read A) (a : A) (n : ℕ) (r : GatesAt) → x ≡ got a n → r ≡ gatesAt f x → HasGates r (f a)

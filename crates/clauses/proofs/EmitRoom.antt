@@ -20,7 +20,7 @@ use Rattle.clauses.specs.Writing.{gateWords, variableLimit, wordLimit, P
 use Rattle.clauses.proofs.Costs.{gates-counted}
 use Rattle.clauses.proofs.Frames.{property-costs-at, step-costs-at, property-next, P-is, G-is}
 use Rattle.clauses.proofs.Runs.{state-variables}
-use Rattle.clauses.proofs.Sizes.{words-append as words-length}
+use Rattle.clauses.proofs.SizeNumbers.{words-append as words-length}
 use Rattle.clauses.proofs.Within.{frame-suc, last-past}
 use Rattle.clauses.proofs.EmitBuilds.{emits-same}
 use Rattle.clauses.proofs.EmitWords.{puts-then, puts-same, words-append}

@@ -19,7 +19,7 @@ use Rattle.clauses.specs.FrameSizes.{costIn, frameSizes, SmallFrame, fra
 use Rattle.clauses.specs.declared.frame.FrameSizes.{FrameSizes}
 use Rattle.clauses.specs.declared.frame.FormulaSizes.{FormulaSizes}
 use Rattle.clauses.proofs.Frames.{P-is, G-is}
-use Rattle.clauses.proofs.Sizes as sizes
+use Rattle.clauses.proofs.SizeNumbers as sizes
 use Rattle.clauses.proofs.Limits.{pairs-twice}
 
 pub product-small : (k x : ℕ) → k ≤ countLimit → x ≤ sizeLimit → k * x ≤ countLimit * sizeLimit

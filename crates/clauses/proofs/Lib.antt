@@ -1,10 +1,11 @@
--- Laws of the definitions, in the order of reading. Theorem has the whole claim; the layers above cite it, and the code Costs, Sizes, Bytes, Bounds, Limits and Results.
+-- Laws of the definitions, in the order of reading. Theorem has the whole claim, which the layers above cite.
+-- circuits equal arithmetic and evaluation
 pub mod Gates
 pub mod Correct
 pub mod Arithmetic
 pub mod Expressions
 pub mod Actions
-pub mod Costs
+-- models and runs match one to one
 pub mod Definitions
 pub mod StateBits
 pub mod Flags
@@ -17,25 +18,32 @@ pub mod Longer
 pub mod Theorem
 pub mod Lists
 pub mod Counting
-pub mod Sizes
+-- numbers of gates, clauses and words, and their limits
+pub mod Costs
+pub mod SizeNumbers
 pub mod Bytes
 pub mod Bounds
 pub mod Limits
 pub mod Results
+-- Design A
 pub mod DesignA
-pub mod Inside
+-- the code of SIZE
+pub mod TextGates
 pub mod GateCounts
 pub mod ActionCounts
 pub mod CellCounts
 pub mod FrameCounts
 pub mod FrameNumbers
-pub mod Sizing
-pub mod Choosing
-pub mod Decodes
+pub mod SizeCall
+-- the code of DECODE
+pub mod FlagChoices
+pub mod DecodeCall
+-- the code of ENCODE: words, builders, circuits
 pub mod EmitWords
 pub mod EmitBuilds
 pub mod EmitLists
 pub mod EmitCircuits
+-- expressions, statements, cells and movers
 pub mod EmitSlots
 pub mod EmitReads
 pub mod EmitExpressions
@@ -43,9 +51,10 @@ pub mod EmitStates
 pub mod EmitActions
 pub mod EmitCells
 pub mod EmitSteps
+-- clauses, frames, parts, the whole formula
 pub mod EmitClauses
 pub mod EmitFrames
 pub mod EmitParts
 pub mod EmitRoom
 pub mod EmitFormula
-pub mod Encodes
+pub mod EncodeCall

@@ -21,7 +21,7 @@ use Rattle.clauses.specs.Size.{sizesOf}
 use Rattle.step.specs.Limits.{maxBound}
 use Rattle.clauses.specs.Limits.{frameLimit}
 use Rattle.clauses.proofs.Frames.{P-is, G-is}
-use Rattle.clauses.proofs.Sizes.{formula-counts, part-words}
+use Rattle.clauses.proofs.SizeNumbers.{formula-counts, part-words}
 use Rattle.clauses.proofs.Bounds.{Bounded, bounded}
 
 -- SIZE's answer, computed from the tree

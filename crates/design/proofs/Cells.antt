@@ -14,7 +14,7 @@ use Rattle.design.specs.Reading.{Read, got, bad}
 use Rattle.design.specs.Expression.{Names, boolExpr}
 use Rattle.design.specs.Action.{list}
 use Rattle.design.specs.DesignFile.{Entry, normal, events, statuses, ending, fields, ordered, guard, action, entry, c-matrix, c-status, c-event, c-target, c-middle, c-past, c-guard, c-kind, cellAt, cellsFrom, Item, item, refused, need, filling, after}
-use Rattle.design.specs.Answers.{found, walked, filled, counted, moves}
+use Rattle.design.specs.Answers.{found, walked, lengthFilled, counted, moves}
 use Rattle.design.proofs.Sections.{after-inv, need-inv, item-past, item-same}
 use Rattle.design.specs.declared.expression.Found.{Found}
 use Rattle.design.specs.declared.item.Walked.{Walked}
@@ -57,13 +57,13 @@ module _ (file : List ℕ) (end : ℕ) (names : Names) (at : ℕ) where
   guard-none zero e m h = ap Past h
   guard-none (suc k) e m h = absurd (omega arith)
 
-  pub guard-read : (k : ℕ) → (k ≡ 0 → ⊥) → (m : ℕ) → m ≡ c-middle file at → (f : Found) (r : Walked) → r ≡ filled 8 at m f → f ≡ found (boolExpr file names m maxDepth (at + 8)) → r ≡ walked (guard file end names at k)
+  pub guard-read : (k : ℕ) → (k ≡ 0 → ⊥) → (m : ℕ) → m ≡ c-middle file at → (f : Found) (r : Walked) → r ≡ lengthFilled 8 at m f → f ≡ found (boolExpr file names m maxDepth (at + 8)) → r ≡ walked (guard file end names at k)
   guard-read zero h m p f r e q = absurd (h refl)
   guard-read (suc k) h m p f r e q =
       filled-read 8 at m (boolExpr file names m maxDepth (at + 8)) f r e q
       ∙ ap (λ (j : ℕ). walked (filling 8 at j (boolExpr file names j maxDepth (at + 8)))) p
 
-  pub action-read : (m past : ℕ) → m ≡ c-middle file at → past ≡ c-past file at → (f : Found) (r : Walked) → r ≡ filled 9 at past f → f ≡ found (list file names past maxNest m) → r ≡ walked (action file end names at)
+  pub action-read : (m past : ℕ) → m ≡ c-middle file at → past ≡ c-past file at → (f : Found) (r : Walked) → r ≡ lengthFilled 9 at past f → f ≡ found (list file names past maxNest m) → r ≡ walked (action file end names at)
   action-read m past p s f r e q =
       filled-read 9 at past (list file names past maxNest m) f r e q
       ∙ ap (λ (j : ℕ). walked (filling 9 at past (list file names past maxNest j))) p

@@ -16,7 +16,7 @@ use Rattle.design.specs.Check.{eventIn, normals, invalids, sections, tra
 use Rattle.design.specs.declared.shape.Shape.{Shape}
 use Rattle.design.specs.declared.shape.Counts.{Counts}
 use Rattle.design.specs.declared.shape.Offsets.{Offsets}
-use Rattle.design.specs.Answers.{walked, total, counted, raises, moves, bodied, VariablesRight, MatricesRight, EventsRight, refusal, shapeOf}
+use Rattle.design.specs.Answers.{walked, sumOf, counted, raises, moves, bodied, VariablesRight, MatricesRight, EventsRight, refusal, shapeOf}
 use Rattle.design.specs.declared.item.Walked.{Walked}
 use Rattle.design.specs.declared.item.Walked.the-variants.{Past, Refused}
 use Rattle.design.specs.declared.item.Counted.{Counted}
@@ -44,7 +44,7 @@ items-fixed one end k h (suc n) at m xs l e =
     (rw (mul-suc k n) (omega arith), omega arith)
 
 -- counts of ones and zeros
-total-bound : {A : Type 0} (f : A → ℕ) → ((x : A) → f x ≤ 1) → (xs : List A) → total f xs ≤ length xs
+total-bound : {A : Type 0} (f : A → ℕ) → ((x : A) → f x ≤ 1) → (xs : List A) → sumOf f xs ≤ length xs
 total-bound f h [] = omega arith
 total-bound f h (x ∷ xs) = let a = h x in let b = total-bound f h xs in omega arith
 
@@ -60,16 +60,16 @@ moves-bound : (x : Entry) → moves x ≤ 1
 moves-bound (normal c) = omega arith
 moves-bound (invalid p) = omega arith
 
-normals-length : (es : List Entry) → length (normals es) ≡ total moves es
+normals-length : (es : List Entry) → length (normals es) ≡ sumOf moves es
 normals-length [] = refl
 normals-length (normal c ∷ es) = let h = normals-length es in omega arith
 normals-length (invalid p ∷ es) = let h = normals-length es in omega arith
 
-externals-length : (vs : List Variable) (v : ℕ) → length (externals v vs) ≡ total raises vs
+externals-length : (vs : List Variable) (v : ℕ) → length (externals v vs) ≡ sumOf raises vs
 externals-length [] v = refl
 externals-length (x ∷ xs) v = go (x .kind) (externals-length xs (suc v))
   where
-    go : (k : Kind) → length (externals (suc v) xs) ≡ total raises xs → length (ifExternal k (raise v ∷ externals (suc v) xs) (externals (suc v) xs)) ≡ ifExternal k 1 0 + total raises xs
+    go : (k : Kind) → length (externals (suc v) xs) ≡ sumOf raises xs → length (ifExternal k (raise v ∷ externals (suc v) xs) (externals (suc v) xs)) ≡ ifExternal k 1 0 + sumOf raises xs
     go boolean h = omega arith
     go integer h = omega arith
     go external h = omega arith
@@ -197,13 +197,13 @@ module _ (file : List ℕ) (end : ℕ) (cs : Counts) (os : Offsets) where
   module _ (ext : ℕ) (e : VariablesRight file end cs os ext) where
     pub record S1 : Type 0 where
       pub vs : List Variable
-      pub counts : ext ≡ total raises vs
+      pub counts : ext ≡ sumOf raises vs
       pub is : D ≡ after (items MA nm mo) (W3 vs)
 
     s1 : S1
     s1 =
         let (vs, r, c) = counted-passed raises 0 (items VA nv 0) mo ext e in
-        record { vs = vs; counts = c ∙ (let q : 0 + total raises vs ≡ total raises vs = omega arith in q); is = begin ∙ ap (λ (x : Item (List Variable)). after x W2) r ∙ go-on mo (λ n. after (items MA nm n) (W3 vs)) }
+        record { vs = vs; counts = c ∙ (let q : 0 + sumOf raises vs ≡ sumOf raises vs = omega arith in q); is = begin ∙ ap (λ (x : Item (List Variable)). after x W2) r ∙ go-on mo (λ n. after (items MA nm n) (W3 vs)) }
 
     pub x-matrix : (i q : ℕ) → Refused i q ≡ walked (items MA nm mo) → Stopped i q ≡ bodied D
     x-matrix i q r = sym (ap bodied (s1 .is ∙ ap (λ (x : Item (List Matrix)). after x (W3 (s1 .vs))) (stopped (items MA nm mo) i q r)))
@@ -221,7 +221,7 @@ module _ (file : List ℕ) (end : ℕ) (cs : Counts) (os : Offsets) where
       pub record S2 : Type 0 where
         pub vs : List Variable
         pub ms : List Matrix
-        pub counts : ext ≡ total raises vs
+        pub counts : ext ≡ sumOf raises vs
         pub is : D ≡ after (eventsFrom file end N mo 0 nm eo) (W4 vs ms)
 
       s2 : S2
@@ -246,7 +246,7 @@ module _ (file : List ℕ) (end : ℕ) (cs : Counts) (os : Offsets) where
           pub vs : List Variable
           pub ms : List Matrix
           pub rows : List (List BoolExpr)
-          pub counts : ext ≡ total raises vs
+          pub counts : ext ≡ sumOf raises vs
           pub is : D ≡ after (cellsFrom file end N mo (eventIn rows) nc co co) (W5 vs ms)
 
         s3 : S3
@@ -274,19 +274,19 @@ module _ (file : List ℕ) (end : ℕ) (cs : Counts) (os : Offsets) where
             pub vs : List Variable
             pub ms : List Matrix
             pub es : List Entry
-            pub counts : ext ≡ total raises vs
-            pub normal : w ≡ total moves es
+            pub counts : ext ≡ sumOf raises vs
+            pub normal : w ≡ sumOf moves es
             pub is : D ≡ after (invariantAt file end N io) (W6 vs ms es)
 
           s4 : S4
           s4 =
               let (es, r, c) = counted-passed moves 0 (CF (eventIn (s3 .rows))) io w (e₄ (eventIn (s3 .rows))) in
-              record { vs = s3 .vs; ms = s3 .ms; es = es; counts = s3 .counts; normal = c ∙ (let q : 0 + total moves es ≡ total moves es = omega arith in q); is = s3 .is ∙ ap (λ (x : Item (List Entry)). after x (W5 (s3 .vs) (s3 .ms))) r ∙ go-on io (λ n. after (invariantAt file end N n) (W6 (s3 .vs) (s3 .ms) es)) }
+              record { vs = s3 .vs; ms = s3 .ms; es = es; counts = s3 .counts; normal = c ∙ (let q : 0 + sumOf moves es ≡ sumOf moves es = omega arith in q); is = s3 .is ∙ ap (λ (x : Item (List Entry)). after x (W5 (s3 .vs) (s3 .ms))) r ∙ go-on io (λ n. after (invariantAt file end N n) (W6 (s3 .vs) (s3 .ms) es)) }
 
           pub x-invariant : (i j : ℕ) → Refused i j ≡ walked (invariantAt file end N io) → Stopped i j ≡ bodied D
           x-invariant i j r = sym (ap bodied (s4 .is ∙ ap (λ (x : Item BoolExpr). after x (W6 (s4 .vs) (s4 .ms) (s4 .es))) (stopped (invariantAt file end N io) i j r)))
 
-          movers-length : (vs : List Variable) (ms : List Matrix) (es : List Entry) (inv : BoolExpr) → length (movers (tree vs ms es inv)) ≡ total moves es + total raises vs
+          movers-length : (vs : List Variable) (ms : List Matrix) (es : List Entry) (inv : BoolExpr) → length (movers (tree vs ms es inv)) ≡ sumOf moves es + sumOf raises vs
           unfolding movers
           movers-length vs ms es inv =
               length-append (map cell (normals es)) (externals 0 vs)

@@ -14,7 +14,7 @@ use Rattle.design.specs.Limits.{maxDepth, maxStatuses, maxEvents}
 use Rattle.design.specs.Reading.{Read, got, bad}
 use Rattle.design.specs.Expression.{Names, boolExpr}
 use Rattle.design.specs.DesignFile.{events, eventsFrom, Item, item, refused, Walk, need, filling, after, items, kind, at8, at16, variableAt, matrixAt, eventAt, invariantAt}
-use Rattle.design.specs.Answers.{found, walked, filled, total, counted, raises}
+use Rattle.design.specs.Answers.{found, walked, lengthFilled, sumOf, counted, raises}
 use Rattle.design.proofs.Sections.{after-inv, need-inv, and-inv, item-past, item-same}
 use Rattle.design.specs.declared.expression.Found.{Found}
 use Rattle.design.specs.declared.expression.Found.the-variants.{At, Bad}
@@ -22,7 +22,7 @@ use Rattle.design.specs.declared.item.Walked.{Walked}
 use Rattle.design.specs.declared.item.Walked.the-variants.{Past, Refused}
 use Rattle.design.specs.declared.item.Counted.the-variants.{Passed, Stopped}
 
-pub filled-filling : {A : Type 0} (number place past : ℕ) (r : Read A) → filled number place past (found r) ≡ walked (filling number place past r)
+pub filled-filling : {A : Type 0} (number place past : ℕ) (r : Read A) → lengthFilled number place past (found r) ≡ walked (filling number place past r)
 filled-filling {A} number place past (got a n) = go (eqb n past)
   where
     go : (t : Bool) → cond t (Past past) (Refused number place) ≡ walked {A = A} (need t number place (item a past))
@@ -81,15 +81,15 @@ module _ {A : Type 0} (one : Walk A) where
     count-refused k n at i p h e = sym (ap (counted f k) (items-step n at h ∙ ap (λ (x : Item A). after x (λ x m. after (items one (n - 1) m) (λ xs p. item (x ∷ xs) p))) (stopped (one at) i p e)))
 
     pub count-cons : (k : ℕ) (x : A) (r : Item (List A)) → counted f (k + f x) r ≡ counted f k (after r (λ xs p. item (x ∷ xs) p))
-    count-cons k x (item xs p) = ap (Passed p) (let q : k + f x + total f xs ≡ k + (f x + total f xs) = omega arith in q)
+    count-cons k x (item xs p) = ap (Passed p) (let q : k + f x + sumOf f xs ≡ k + (f x + sumOf f xs) = omega arith in q)
     count-cons k x (refused i p) = refl
 
     pub count-more : (k n at m : ℕ) (x : A) → 0 < n → one at ≡ item x m → counted f (k + f x) (items one (n - 1) m) ≡ counted f k (items one n at)
     count-more k n at m x h q =
         count-cons k x (items one (n - 1) m) ∙ sym (ap (counted f k) (items-step n at h ∙ ap (λ (y : Item A). after y (λ x m. after (items one (n - 1) m) (λ xs p. item (x ∷ xs) p))) q))
 
-pub counted-passed : {A : Type 0} (f : A → ℕ) (k : ℕ) (x : Item (List A)) (n w : ℕ) → Passed n w ≡ counted f k x → (xs : List A) × (x ≡ item xs n) × (w ≡ k + total f xs)
-counted-passed f k (item xs m) n w e = (xs, (let q : m ≡ n = cc in ap (item xs) q), (let q : w ≡ k + total f xs = cc in q))
+pub counted-passed : {A : Type 0} (f : A → ℕ) (k : ℕ) (x : Item (List A)) (n w : ℕ) → Passed n w ≡ counted f k x → (xs : List A) × (x ≡ item xs n) × (w ≡ k + sumOf f xs)
+counted-passed f k (item xs m) n w e = (xs, (let q : m ≡ n = cc in ap (item xs) q), (let q : w ≡ k + sumOf f xs = cc in q))
 counted-passed f k (refused i p) n w e = let z : _≡_ {A = ℕ} 0 1 = cc in absurd (omega arith)
 
 pub counted-stopped : {A : Type 0} (f : A → ℕ) (k : ℕ) (x : Item (List A)) (i p : ℕ) → Stopped i p ≡ counted f k x → x ≡ refused i p
@@ -103,25 +103,25 @@ pub le-leb-of : (v w k : ℕ) → v ≡ w → v ≤ k → leb w k ≡ true
 le-leb-of v w k e h = le-leb w k (omega arith)
 
 module _ (number place past : ℕ) (f : Found) where
-  pub filled-at : (q : ℕ) → f ≡ At q → q ≡ past → Past past ≡ filled number place past f
+  pub filled-at : (q : ℕ) → f ≡ At q → q ≡ past → Past past ≡ lengthFilled number place past f
   filled-at q e h = rw (e, eq-eqb q past h)
 
-  pub filled-else : (q : ℕ) → f ≡ At q → (q ≡ past → ⊥) → Refused number place ≡ filled number place past f
+  pub filled-else : (q : ℕ) → f ≡ At q → (q ≡ past → ⊥) → Refused number place ≡ lengthFilled number place past f
   filled-else q e h = rw (e, ne-eqb q past h)
 
-  pub filled-bad : f ≡ Bad → Refused number place ≡ filled number place past f
+  pub filled-bad : f ≡ Bad → Refused number place ≡ lengthFilled number place past f
   filled-bad e = rw e
 
 -- what fills its length by what was found
-pub filled-read : {A : Type 0} (number place past : ℕ) (x : Read A) (f : Found) (r : Walked) → r ≡ filled number place past f → f ≡ found x → r ≡ walked (filling number place past x)
-filled-read number place past x f r e h = e ∙ ap (filled number place past) h ∙ filled-filling number place past x
+pub filled-read : {A : Type 0} (number place past : ℕ) (x : Read A) (f : Found) (r : Walked) → r ≡ lengthFilled number place past f → f ≡ found x → r ≡ walked (filling number place past x)
+filled-read number place past x f r e h = e ∙ ap (lengthFilled number place past) h ∙ filled-filling number place past x
 
 module _ (file : List ℕ) (end : ℕ) (names : Names) (at past : ℕ) (p : past ≡ at + 1 + getD file at 0) where
   pub event-passes : end < past → Refused 4 at ≡ walked (eventAt file end names at)
   unfolding eventAt
   event-passes h = simp (lt-leb (at + 1 + getD file at 0) end (omega arith))
 
-  pub event-read : past ≤ end → (f : Found) (r : Walked) → r ≡ filled 8 at past f → f ≡ found (boolExpr file names past maxDepth (at + 1)) → r ≡ walked (eventAt file end names at)
+  pub event-read : past ≤ end → (f : Found) (r : Walked) → r ≡ lengthFilled 8 at past f → f ≡ found (boolExpr file names past maxDepth (at + 1)) → r ≡ walked (eventAt file end names at)
   unfolding eventAt
   event-read h f r e q =
       filled-read 8 at past (boolExpr file names past maxDepth (at + 1)) f r e q
@@ -129,7 +129,7 @@ module _ (file : List ℕ) (end : ℕ) (names : Names) (at past : ℕ) (p : past
       ∙ sym (ap walked (met (leb (at + 1 + getD file at 0) end) 4 at _ (le-leb (at + 1 + getD file at 0) end (omega arith))))
 
 module _ (file : List ℕ) (end : ℕ) (names : Names) where
-  pub invariant-read : (at : ℕ) (f : Found) (r : Walked) → r ≡ filled 8 at end f → f ≡ found (boolExpr file names end maxDepth at) → r ≡ walked (invariantAt file end names at)
+  pub invariant-read : (at : ℕ) (f : Found) (r : Walked) → r ≡ lengthFilled 8 at end f → f ≡ found (boolExpr file names end maxDepth at) → r ≡ walked (invariantAt file end names at)
   unfolding invariantAt
   invariant-read at f r e q = filled-read 8 at end (boolExpr file names end maxDepth at) f r e q
 

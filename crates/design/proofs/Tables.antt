@@ -16,6 +16,7 @@ use Rattle.design.specs.DesignFile.{events, at8, c-kind, c-past}
 use Rattle.design.specs.Check.{trailer, matricesOffset, matrixCount, eventsOffset, cellsOffset, cellCount}
 use Rattle.design.specs.Places.{Accepted, pastEvents, pastCells, eventsStart, eventPlace, normalsFrom, normalPlaces, EventsIndexed, CellsIndexed}
 use Rattle.design.proofs.Places.{read, event-stands, matrix-inside, events-few, normal-stands, cell-inside}
+use Rattle.design.specs.Limits.{maxMatrices, maxMovers, eventPlaces, maxEvents, trailerBytes}
 
 less-or-same : (k i : ℕ) → k < i + 1 → (P : ℕ → Type 0) → (k < i → P k) → P i → P k
 less-or-same k i l P f p = ⊎-elim (λ e. subst P (sym e) p) f (eq-or-lt-of-le (let z : k ≤ i = omega arith in z))
@@ -23,14 +24,14 @@ less-or-same k i l P f p = ⊎-elim (λ e. subst P (sym e) p) f (eq-or-lt-of-le 
 -- what is known of an accepted file
 module _ (file : List ℕ) (h : Accepted file) where
   pub record Bounds : Type 0 where
-    pub long : 16 ≤ length file
+    pub long : trailerBytes ≤ length file
     pub short : length file ≤ 16384
-    pub matrices : matrixCount file ≤ 8
+    pub matrices : matrixCount file ≤ maxMatrices
 
   pub bounds : Bounds
   bounds = let w = read file h .all in record { long = w .long; short = w .short; matrices = w .matrices }
 
-  pub few-events : (m : ℕ) → m < matrixCount file → events file (matricesOffset file) m ≤ 16
+  pub few-events : (m : ℕ) → m < matrixCount file → events file (matricesOffset file) m ≤ maxEvents
   few-events m l = let r = read file h in events-few file (r .tree) (r .all .parts) m l
 
   pub matrix-in : (m : ℕ) → m < matrixCount file → matricesOffset file + 2 * m + 2 ≤ trailer file
@@ -47,7 +48,7 @@ module _ (file : List ℕ) (h : Accepted file) where
   pub cell-in : (i : ℕ) → i < cellCount file → (pastCells file i (cellsOffset file) + 8 ≤ trailer file) × (pastCells file (suc i) (cellsOffset file) ≤ trailer file)
   cell-in i l = let r = read file h in cell-inside file (r .tree) (r .all .parts) i l
 
-  pub few-normals : length (normalPlaces file) ≤ 64
+  pub few-normals : length (normalPlaces file) ≤ maxMovers
   unfolding movers
   few-normals =
       let r = read file h in
@@ -61,27 +62,27 @@ module _ (file : List ℕ) (h : Accepted file) where
 module _ (file : List ℕ) (at m : ℕ) (table₀ : List ℕ) where
   pub record RowGoing (p i : ℕ) (table : List ℕ) : Type 0 where
     pub here : p ≡ pastEvents file i at
-    pub filled : (j : ℕ) → j < i → getD table (16 * m + j) 0 ≡ pastEvents file j at
-    pub kept : (j : ℕ) → j < 16 * m → getD table j 0 ≡ getD table₀ j 0
-    pub size : length table ≡ 128
+    pub filled : (j : ℕ) → j < i → getD table (maxEvents * m + j) 0 ≡ pastEvents file j at
+    pub kept : (j : ℕ) → j < maxEvents * m → getD table j 0 ≡ getD table₀ j 0
+    pub size : length table ≡ eventPlaces
 
-  pub row-start : length table₀ ≡ 128 → RowGoing at 0 table₀
+  pub row-start : length table₀ ≡ eventPlaces → RowGoing at 0 table₀
   unfolding pastEvents
   row-start s = record { here = refl; filled = λ j l. absurd (omega arith); kept = λ j l. refl; size = s }
 
-  pub row-on : (p i w : ℕ) (table : List ℕ) → RowGoing p i table → 16 * m + i < 128 → w ≡ getD file p 0 → RowGoing (p + 1 + w) (i + 1) (set table (16 * m + i) p)
+  pub row-on : (p i w : ℕ) (table : List ℕ) → RowGoing p i table → maxEvents * m + i < eventPlaces → w ≡ getD file p 0 → RowGoing (p + 1 + w) (i + 1) (set table (maxEvents * m + i) p)
   unfolding pastEvents
   row-on p i w table g l q = record {
     here = ap (λ (x : ℕ). p + 1 + x) q ∙ ap (λ (x : ℕ). x + 1 + at8 file x) (g .here) ∙ sym (ap (λ (n : ℕ). pastEvents file n at) (add-one i));
-    filled = λ j k. less-or-same j i k (λ (n : ℕ). getD (set table (16 * m + i) p) (16 * m + n) 0 ≡ pastEvents file n at) (λ k′. getD-set-other table (16 * m + i) (16 * m + j) p 0 (λ e. omega arith) ∙ g .filled j k′) (getD-set-same table (16 * m + i) p 0 (omega (arith, g .size)) ∙ g .here);
-    kept = λ j k. getD-set-other table (16 * m + i) j p 0 (λ e. omega arith) ∙ g .kept j k;
-    size = length-set table (16 * m + i) p ∙ g .size;
+    filled = λ j k. less-or-same j i k (λ (n : ℕ). getD (set table (maxEvents * m + i) p) (maxEvents * m + n) 0 ≡ pastEvents file n at) (λ k′. getD-set-other table (maxEvents * m + i) (maxEvents * m + j) p 0 (λ e. omega arith) ∙ g .filled j k′) (getD-set-same table (maxEvents * m + i) p 0 (omega (arith, g .size)) ∙ g .here);
+    kept = λ j k. getD-set-other table (maxEvents * m + i) j p 0 (λ e. omega arith) ∙ g .kept j k;
+    size = length-set table (maxEvents * m + i) p ∙ g .size;
   }
 
 -- the rows of all matrices
 pub record EventsGoing (file : List ℕ) (p m : ℕ) (table : List ℕ) : Type 0 where
   pub here : p ≡ eventsStart file m
-  pub filled : (k e : ℕ) → k < m → e < events file (matricesOffset file) k → getD table (16 * k + e) 0 ≡ eventPlace file k e
+  pub filled : (k e : ℕ) → k < m → e < events file (matricesOffset file) k → getD table (maxEvents * k + e) 0 ≡ eventPlace file k e
   pub inside : m ≤ matrixCount file
 
 pub events-start : (file : List ℕ) (p : ℕ) (table : List ℕ) → p ≡ eventsOffset file → EventsGoing file p 0 table
@@ -97,12 +98,12 @@ module _ (file : List ℕ) (h : Accepted file) where
       omega arith
 
   pub events-on : (p q m c : ℕ) (table₀ table : List ℕ) → EventsGoing file p m table₀ → m < matrixCount file → c ≡ events file (matricesOffset file) m
-      → (q ≡ pastEvents file c p) × ((i : ℕ) → i < c → getD table (16 * m + i) 0 ≡ pastEvents file i p) × ((i : ℕ) → i < 16 * m → getD table i 0 ≡ getD table₀ i 0) → EventsGoing file q (m + 1) table
+      → (q ≡ pastEvents file c p) × ((i : ℕ) → i < c → getD table (maxEvents * m + i) 0 ≡ pastEvents file i p) × ((i : ℕ) → i < maxEvents * m → getD table i 0 ≡ getD table₀ i 0) → EventsGoing file q (m + 1) table
   unfolding eventsStart
   events-on p q m c table₀ table g l e r = record {
     here = r .0 ∙ ap (λ (n : ℕ). pastEvents file n p) e ∙ ap (pastEvents file (events file (matricesOffset file) m)) (g .here) ∙ sym (ap (eventsStart file) (add-one m));
-    filled = λ k i t u. less-or-same k m t (λ (n : ℕ). i < events file (matricesOffset file) n → getD table (16 * n + i) 0 ≡ eventPlace file n i)
-        (λ t′ u′. r .2 (16 * k + i) (omega (arith, few-events file h k (omega arith))) ∙ g .filled k i t′ u′)
+    filled = λ k i t u. less-or-same k m t (λ (n : ℕ). i < events file (matricesOffset file) n → getD table (maxEvents * n + i) 0 ≡ eventPlace file n i)
+        (λ t′ u′. r .2 (maxEvents * k + i) (omega (arith, few-events file h k (omega arith))) ∙ g .filled k i t′ u′)
         (λ u′. r .1 i (omega arith) ∙ ap (pastEvents file i) (g .here)) u;
     inside = omega arith;
   }
@@ -115,10 +116,10 @@ pub record CellsGoing (file : List ℕ) (p i n : ℕ) (table : List ℕ) : Type 
   pub here : p ≡ pastCells file i (cellsOffset file)
   pub inside : i ≤ cellCount file
   pub same : take n table ++ normalsFrom file (cellCount file - i) p ≡ normalPlaces file
-  pub size : length table ≡ 64
-  pub few : n ≤ 64
+  pub size : length table ≡ maxMovers
+  pub few : n ≤ maxMovers
 
-pub cells-start : (file : List ℕ) (p : ℕ) (table : List ℕ) → p ≡ cellsOffset file → length table ≡ 64 → CellsGoing file p 0 0 table
+pub cells-start : (file : List ℕ) (p : ℕ) (table : List ℕ) → p ≡ cellsOffset file → length table ≡ maxMovers → CellsGoing file p 0 0 table
 unfolding pastCells
 cells-start file p table e s = record { here = e; inside = omega arith; same = ap (λ (k : ℕ). normalsFrom file k p) (let z : cellCount file - 0 ≡ cellCount file = omega arith in z) ∙ ap (normalsFrom file (cellCount file)) e; size = s; few = omega arith }
 
@@ -142,7 +143,7 @@ module _ (file : List ℕ) (h : Accepted file) where
       front : normalsFrom file (cellCount file - i) p ≡ p ∷ normalsFrom file (cellCount file - (i + 1)) (c-past file p)
       front = step ∙ (rw (eq-eqb _ _ e))
 
-      pub cells-room : n < 64
+      pub cells-room : n < maxMovers
       cells-room =
           let a = ap length (sym (g .same) ∙ refl) in
           let b = length-append (take n table) (normalsFrom file (cellCount file - i) p) in

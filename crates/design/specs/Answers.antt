@@ -31,17 +31,17 @@ walked (item a n) = Past n
 walked (refused number place) = Refused number place
 
 -- the same, of what is to fill its length up to `past`
-abbrev pub filled : ℕ → ℕ → ℕ → Found → Walked
-filled number place past (At n) = cond (eqb n past) (Past past) (Refused number place)
-filled number place past Bad = Refused number place
+abbrev pub lengthFilled : ℕ → ℕ → ℕ → Found → Walked
+lengthFilled number place past (At n) = cond (eqb n past) (Past past) (Refused number place)
+lengthFilled number place past Bad = Refused number place
 
-abbrev pub total : {A : Type 0} → (A → ℕ) → List A → ℕ
-total f [] = 0
-total f (x ∷ xs) = f x + total f xs
+abbrev pub sumOf : {A : Type 0} → (A → ℕ) → List A → ℕ
+sumOf f [] = 0
+sumOf f (x ∷ xs) = f x + sumOf f xs
 
 -- of a section, the position past it and how many movers it has, on top of k
 abbrev pub counted : {A : Type 0} → (A → ℕ) → ℕ → Item (List A) → Counted
-counted f k (item xs n) = Passed n (k + total f xs)
+counted f k (item xs n) = Passed n (k + sumOf f xs)
 counted f k (refused number place) = Stopped number place
 
 abbrev pub raises : Variable → ℕ

@@ -1,4 +1,5 @@
--- In the order of reading.
+-- What must be believed, in the order of reading; then what other layers and inner functions rely on.
+-- the design file (document 01, "The design file")
 pub mod Limits
 pub mod Tree
 pub mod State
@@ -6,11 +7,14 @@ pub mod Reading
 pub mod Expression
 pub mod Action
 pub mod DesignFile
+-- CHECK, and how calls answer (document 01, "Turned-back calls")
 pub mod Check
 pub mod Answer
+-- what an accepted file is made of
 pub mod Sections
 pub mod WellFormed
-pub mod Answers
 pub mod Places
+pub mod Answers
+-- given designs
 pub mod DesignA
 pub mod AllOperators

@@ -90,8 +90,11 @@ pub fn index_row(
     m: usize,
     table: &mut [u16; EVENT_PLACES],
 ) -> usize
-    requires { ⌜ (count ≤ maxEvents) × (m < maxMatrices) × (length (now file) ≤ maxBytes) × (length (now table) ≡ eventPlaces) × ((i : ℕ) → i < count → pastEvents (now file) i at < length (now file)) ⌝ }
-    ensures { λ r. ⌜ (r ≡ pastEvents (now (file .entry)) count at) × ((i : ℕ) → i < count → getD (now (table .exit)) (maxEvents * m + i) 0 ≡ pastEvents (now (file .entry)) i at) × ((i : ℕ) → i < maxEvents * m → getD (now (table .exit)) i 0 ≡ getD (now (table .entry)) i 0) × (length (now (table .exit)) ≡ eventPlaces) ⌝ }
+    requires { ⌜ (count ≤ maxEvents) × (m < maxMatrices) × (length (now file) ≤ maxBytes) × (length (now table) ≡ eventPlaces) × ((i : ℕ) → i < count
+        → pastEvents (now file) i at < length (now file)) ⌝ }
+    ensures { λ r. ⌜ (r ≡ pastEvents (now (file .entry)) count at) × ((i : ℕ) → i < count → getD (now (table .exit)) (maxEvents * m + i) 0
+        ≡ pastEvents (now (file .entry)) i at) × ((i : ℕ) → i < maxEvents * m → getD (now (table .exit)) i 0 ≡ getD (now (table .entry)) i 0)
+        × (length (now (table .exit)) ≡ eventPlaces) ⌝ }
 {
     let mut p = at;
     let mut i = 0;

@@ -5,7 +5,7 @@ ghost use Prim.Native.Nat.{_+_, _*_, _≤_};
 ghost use lib.ListN.{length};
 ghost use Rattle.design.specs.DesignFile.{variableAt, matrixAt, eventAt, invariantAt};
 ghost use Rattle.design.specs.Check.{namesOf};
-ghost use Rattle.design.specs.Answers.{walked, filled};
+ghost use Rattle.design.specs.Answers.{walked, lengthFilled};
 use super::bytes::wide;
 use super::bytes::word;
 use super::expression::Found;
@@ -29,7 +29,7 @@ pub enum Counted {
 
 // What was read must fill its length up to `past`.
 pub fn fill_length(f: Found, number: u8, place: usize, past: usize) -> Walked
-    ensures { λ r. ⌜ r ≡ filled number place past f ⌝ }
+    ensures { λ r. ⌜ r ≡ lengthFilled number place past f ⌝ }
 {
     match f {
         Found::At(n) => {

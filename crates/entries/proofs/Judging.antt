@@ -8,20 +8,20 @@ use Rattle.verdict.specs.declared.answer.Judged.{Judged}
 use Rattle.verdict.specs.declared.answer.Reply.{Reply}
 use Rattle.verdict.specs.declared.answer.Reply.the-variants.{Refused, Done}
 use Rattle.entries.specs.Code.{code}
-use Rattle.entries.specs.Verdict.{verdictNumber, verdictStep, verdictCode, verdictWords, VerdictExit}
+use Rattle.entries.specs.Verdict.{verdictNumber, verdictStep, verdictCode, verdictWords, VerdictReturn}
 
 module _ (after : Exit) (reply : Reply) (memory : Memory) (says : record { reply = reply; memory = memory } ≡ after) (answer : List ℕ) where
-  abbrev exit : Exit → VerdictExit
+  abbrev exit : Exit → VerdictReturn
   exit x = record { code = verdictCode (x .reply); memory = x .memory; answer = verdictWords (x .reply) answer }
 
-  abbrev replied : Reply → VerdictExit
+  abbrev replied : Reply → VerdictReturn
   replied y = exit (record { reply = y; memory = memory })
 
   pub refused-exit : (number place r : ℕ) → reply ≡ Refused number place → r ≡ code number place → record { code = r; memory = memory; answer = answer } ≡ exit after
   refused-exit number place r e q =
-      ap {B = VerdictExit} (λ (k : ℕ). record { code = k; memory = memory; answer = answer }) q ∙ ap replied (sym e) ∙ ap exit says
+      ap {B = VerdictReturn} (λ (k : ℕ). record { code = k; memory = memory; answer = answer }) q ∙ ap replied (sym e) ∙ ap exit says
 
   pub done-exit : (j : Judged) (told at : ℕ) → reply ≡ Done j → told ≡ verdictNumber (j .verdict) → at ≡ verdictStep (j .verdict)
       → record { code = 0; memory = memory; answer = told ∷ at ∷ j .tries ∷ [] } ≡ exit after
   done-exit j told at e q s =
-      ap₂ {C = VerdictExit} (λ (k i : ℕ). record { code = 0; memory = memory; answer = k ∷ i ∷ j .tries ∷ [] }) q s ∙ ap replied (sym e) ∙ ap exit says
+      ap₂ {C = VerdictReturn} (λ (k i : ℕ). record { code = 0; memory = memory; answer = k ∷ i ∷ j .tries ∷ [] }) q s ∙ ap replied (sym e) ∙ ap exit says

@@ -15,40 +15,40 @@ use Rattle.clauses.specs.declared.decode.DecodeReply.{DecodeReply}
 use Rattle.clauses.specs.declared.decode.DecodeReply.the-variants.{Done}
 use Rattle.clauses.specs.declared.decode.DecodeReply.the-variants as decode-reply
 use Rattle.entries.specs.Code.{code}
-use Rattle.entries.specs.Clauses.{sizeWords, SizeExit, sizeExit, encodeCode, encodeWords, EncodeExit, decodeCode, DecodeExit}
+use Rattle.entries.specs.Clauses.{sizeWords, SizeReturn, sizeExit, encodeCode, encodeWords, EncodeReturn, decodeCode, DecodeReturn}
 
 module _ (reply after : SizeReply) (says : reply ≡ after) (answer : List ℕ) where
   pub size-refused : (number place r : ℕ) → reply ≡ size-reply.Refused number place → r ≡ code number place → record { code = r; answer = answer } ≡ sizeExit after answer
   size-refused number place r e q =
-      ap {B = SizeExit} (λ (k : ℕ). record { code = k; answer = answer }) q ∙ ap (λ (x : SizeReply). sizeExit x answer) (sym e ∙ says)
+      ap {B = SizeReturn} (λ (k : ℕ). record { code = k; answer = answer }) q ∙ ap (λ (x : SizeReply). sizeExit x answer) (sym e ∙ says)
 
   pub size-told : (s : FormulaSizes) → reply ≡ Sized s → record { code = 0; answer = sizeWords s } ≡ sizeExit after answer
   size-told s e = ap (λ (x : SizeReply). sizeExit x answer) (sym e ∙ says)
 
 module _ (after : replies.EncodeExit) (reply : EncodeReply) (buffer : List ℤ) (says : record { reply = reply; buffer = buffer } ≡ after) (answer : List ℕ) where
-  abbrev encodeExit : replies.EncodeExit → EncodeExit
+  abbrev encodeExit : replies.EncodeExit → EncodeReturn
   encodeExit x = record { code = encodeCode (x .reply); clauses = x .buffer; answer = encodeWords (x .reply) answer }
 
-  abbrev encodeReplied : EncodeReply → EncodeExit
+  abbrev encodeReplied : EncodeReply → EncodeReturn
   encodeReplied y = encodeExit (record { reply = y; buffer = buffer })
 
   pub encode-refused : (number place r : ℕ) → reply ≡ encode-reply.Refused number place → r ≡ code number place → record { code = r; clauses = buffer; answer = answer } ≡ encodeExit after
   encode-refused number place r e q =
-      ap {B = EncodeExit} (λ (k : ℕ). record { code = k; clauses = buffer; answer = answer }) q ∙ ap encodeReplied (sym e) ∙ ap encodeExit says
+      ap {B = EncodeReturn} (λ (k : ℕ). record { code = k; clauses = buffer; answer = answer }) q ∙ ap encodeReplied (sym e) ∙ ap encodeExit says
 
   pub encode-told : (count : ℕ) → reply ≡ Encoded count → record { code = 0; clauses = buffer; answer = count ∷ [] } ≡ encodeExit after
   encode-told count e = ap encodeReplied (sym e) ∙ ap encodeExit says
 
 module _ (after : replies.DecodeExit) (reply : DecodeReply) (choices : List ℕ) (says : record { reply = reply; choices = choices } ≡ after) where
-  abbrev decodeExit : replies.DecodeExit → DecodeExit
+  abbrev decodeExit : replies.DecodeExit → DecodeReturn
   decodeExit x = record { code = decodeCode (x .reply); choices = x .choices }
 
-  abbrev decodeReplied : DecodeReply → DecodeExit
+  abbrev decodeReplied : DecodeReply → DecodeReturn
   decodeReplied y = decodeExit (record { reply = y; choices = choices })
 
   pub decode-refused : (number place r : ℕ) → reply ≡ decode-reply.Refused number place → r ≡ code number place → record { code = r; choices = choices } ≡ decodeExit after
   decode-refused number place r e q =
-      ap {B = DecodeExit} (λ (k : ℕ). record { code = k; choices = choices }) q ∙ ap decodeReplied (sym e) ∙ ap decodeExit says
+      ap {B = DecodeReturn} (λ (k : ℕ). record { code = k; choices = choices }) q ∙ ap decodeReplied (sym e) ∙ ap decodeExit says
 
   pub decode-done : reply ≡ Done → record { code = 0; choices = choices } ≡ decodeExit after
   decode-done e = ap decodeReplied (sym e) ∙ ap decodeExit says

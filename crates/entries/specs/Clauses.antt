@@ -20,15 +20,15 @@ use Rattle.entries.specs.Code.{code}
 abbrev pub sizeWords : FormulaSizes → List ℕ
 sizeWords s = s .bits ∷ s .property ∷ s .movers ∷ s .step ∷ s .variables ∷ s .clauses ∷ s .words ∷ []
 
-pub record SizeExit : Type 0 where
+pub record SizeReturn : Type 0 where
   pub code : ℕ
   pub answer : List ℕ
 
-abbrev pub sizeExit : SizeReply → List ℕ → SizeExit
+abbrev pub sizeExit : SizeReply → List ℕ → SizeReturn
 sizeExit (size-reply.Refused number place) answer = record { code = code number place; answer = answer }
 sizeExit (Sized s) answer = record { code = 0; answer = sizeWords s }
 
-unfoldable pub sizeEntry : List ℕ → ℕ → ℕ → List ℕ → SizeExit
+unfoldable pub sizeEntry : List ℕ → ℕ → ℕ → List ℕ → SizeReturn
 sizeEntry file p k answer = sizeExit (sizeReply (size file p k)) answer
 
 -- ENCODE tells the number of words, and leaves the buffer
@@ -40,12 +40,12 @@ abbrev pub encodeWords : EncodeReply → List ℕ → List ℕ
 encodeWords (encode-reply.Refused number place) old = old
 encodeWords (Encoded count) old = count ∷ []
 
-pub record EncodeExit : Type 0 where
+pub record EncodeReturn : Type 0 where
   pub code : ℕ
   pub clauses : List ℤ
   pub answer : List ℕ
 
-unfoldable pub encodeEntry : List ℕ → ℕ → ℕ → ℕ → List ℤ → List ℕ → EncodeExit
+unfoldable pub encodeEntry : List ℕ → ℕ → ℕ → ℕ → List ℤ → List ℕ → EncodeReturn
 encodeEntry file p k part clauses answer =
     let after = ENCODE file p k part clauses in
     record { code = encodeCode (after .reply); clauses = after .buffer; answer = encodeWords (after .reply) answer }
@@ -55,11 +55,11 @@ abbrev pub decodeCode : DecodeReply → ℕ
 decodeCode (decode-reply.Refused number place) = code number place
 decodeCode Done = 0
 
-pub record DecodeExit : Type 0 where
+pub record DecodeReturn : Type 0 where
   pub code : ℕ
   pub choices : List ℕ
 
-unfoldable pub decodeEntry : List ℕ → ℕ → ℕ → List ℕ → List ℕ → DecodeExit
+unfoldable pub decodeEntry : List ℕ → ℕ → ℕ → List ℕ → List ℕ → DecodeReturn
 decodeEntry file p k values choices =
     let after = DECODE file p k values choices in
     record { code = decodeCode (after .reply); choices = after .choices }

@@ -15,22 +15,22 @@ answerNumber Sat = 0
 answerNumber Unsat = 1
 answerNumber Spent = 2
 
-abbrev pub replyCode : Reply → ℕ
-replyCode (Refused number place) = code number place
-replyCode (Done s) = 0
+abbrev pub solveCode : Reply → ℕ
+solveCode (Refused number place) = code number place
+solveCode (Done s) = 0
 
 -- which answer, and the tries
 abbrev pub replyWords : Reply → List ℕ → List ℕ
 replyWords (Refused number place) old = old
 replyWords (Done s) old = answerNumber (s .answer) ∷ s .tries ∷ []
 
-pub record SolveExit : Type 0 where
+pub record SolveReturn : Type 0 where
   pub code : ℕ
   pub values : List ℕ
   pub trail : List ℕ
   pub answer : List ℕ
 
-unfoldable pub solveEntry : ℕ → List ℤ → List ℕ → List ℕ → ℕ → List ℕ → SolveExit
+unfoldable pub solveEntry : ℕ → List ℤ → List ℕ → List ℕ → ℕ → List ℕ → SolveReturn
 solveEntry n words values trail budget answer =
     let after = solve n words values trail budget in
-    record { code = replyCode (after .reply); values = after .values; trail = after .trail; answer = replyWords (after .reply) answer }
+    record { code = solveCode (after .reply); values = after .values; trail = after .trail; answer = replyWords (after .reply) answer }

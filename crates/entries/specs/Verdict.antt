@@ -30,12 +30,12 @@ abbrev pub verdictWords : Reply → List ℕ → List ℕ
 verdictWords (Refused number place) old = old
 verdictWords (Done j) old = verdictNumber (j .verdict) ∷ verdictStep (j .verdict) ∷ j .tries ∷ []
 
-pub record VerdictExit : Type 0 where
+pub record VerdictReturn : Type 0 where
   pub code : ℕ
   pub memory : Memory
   pub answer : List ℕ
 
-unfoldable pub verdictEntry : List ℕ → ℕ → ℕ → ℕ → Memory → List ℕ → VerdictExit
+unfoldable pub verdictEntry : List ℕ → ℕ → ℕ → ℕ → Memory → List ℕ → VerdictReturn
 verdictEntry file p k budget lent answer =
     let after = exit (verdict file p k budget lent) in
     record { code = verdictCode (after .reply); memory = after .memory; answer = verdictWords (after .reply) answer }

@@ -39,7 +39,8 @@ pub extern "C" fn stm_encode(
     clauses: &mut [i32],
     answer: &mut [u64; 1],
 ) -> u64
-    ensures { λ r. ⌜ record { code = r; clauses = now (clauses .exit); answer = now (answer .exit) } ≡ encodeEntry (now (file .entry)) property bound part (now (clauses .entry)) (now (answer .entry)) ⌝ }
+    ensures { λ r. ⌜ record { code = r; clauses = now (clauses .exit); answer = now (answer .exit) }
+        ≡ encodeEntry (now (file .entry)) property bound part (now (clauses .entry)) (now (answer .entry)) ⌝ }
 {
     match encode(file, property, bound, part, clauses) {
         EncodeReply::Refused { number, place } => code_of(number, place),

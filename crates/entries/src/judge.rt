@@ -38,7 +38,13 @@ pub extern "C" fn stm_verdict(
     choices: &mut [u8],
     answer: &mut [u64; 3],
 ) -> u64
-    ensures { λ r. ⌜ record { code = r; memory = record { clauses = now (clauses .exit); values = now (values .exit); trail = now (trail .exit); choices = now (choices .exit) }; answer = now (answer .exit) } ≡ verdictEntry (now (file .entry)) property bound budget (record { clauses = now (clauses .entry); values = now (values .entry); trail = now (trail .entry); choices = now (choices .entry) }) (now (answer .entry)) ⌝ }
+    ensures { λ r. ⌜ record {
+      code = r;
+      memory = record { clauses = now (clauses .exit); values = now (values .exit); trail = now (trail .exit); choices = now (choices .exit) };
+      answer = now (answer .exit);
+    }
+        ≡ verdictEntry (now (file .entry)) property bound budget
+        (record { clauses = now (clauses .entry); values = now (values .entry); trail = now (trail .entry); choices = now (choices .entry) }) (now (answer .entry)) ⌝ }
 {
     match verdict(
         file,

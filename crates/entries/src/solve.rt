@@ -24,7 +24,8 @@ pub extern "C" fn stm_solve(
     budget: u64,
     answer: &mut [u64; 2],
 ) -> u64
-    ensures { λ r. ⌜ record { code = r; values = now (values .exit); trail = now (trail .exit); answer = now (answer .exit) } ≡ solveEntry n (now (words .entry)) (now (values .entry)) (now (trail .entry)) budget (now (answer .entry)) ⌝ }
+    ensures { λ r. ⌜ record { code = r; values = now (values .exit); trail = now (trail .exit); answer = now (answer .exit) }
+        ≡ solveEntry n (now (words .entry)) (now (values .entry)) (now (trail .entry)) budget (now (answer .entry)) ⌝ }
 {
     match search::solve(n, words, values, trail, budget) {
         Reply::Refused { number, place } => code_of(number, place),

@@ -3,6 +3,8 @@ ghost use mathlib.Core.Path.{_≡_};
 ghost use Rattle.design.specs.Tree.{bit};
 ghost use Rattle.entries.specs.Step.{startEntry, stepEntry, holdsEntry, replayEntry};
 use super::code::code_of;
+use design::limits::MAX_MATRICES;
+use design::limits::MAX_VARIABLES;
 
 fn flag(b: bool) -> u8
     ensures { λ r. ⌜ r ≡ bit b ⌝ }
@@ -17,7 +19,7 @@ fn long_flag(b: bool) -> u64
 }
 
 #[no_mangle]
-pub extern "C" fn stm_start(file: &[u8], values: &mut [i16; 32], statuses: &mut [u16; 8]) -> u64
+pub extern "C" fn stm_start(file: &[u8], values: &mut [i16; MAX_VARIABLES], statuses: &mut [u16; MAX_MATRICES]) -> u64
     ensures { λ r. ⌜ record { code = r; values = now (values .exit); statuses = now (statuses .exit) } ≡ startEntry (now (file .entry)) (now (values .entry)) (now (statuses .entry)) ⌝ }
 {
     let told = step::start(file);
@@ -35,12 +37,13 @@ pub extern "C" fn stm_start(file: &[u8], values: &mut [i16; 32], statuses: &mut 
 #[no_mangle]
 pub extern "C" fn stm_step(
     file: &[u8],
-    values: &mut [i16; 32],
-    statuses: &mut [u16; 8],
+    values: &mut [i16; MAX_VARIABLES],
+    statuses: &mut [u16; MAX_MATRICES],
     choice: u64,
     idle: &mut [u8; 1],
 ) -> u64
-    ensures { λ r. ⌜ record { code = r; values = now (values .exit); statuses = now (statuses .exit); idle = now (idle .exit) } ≡ stepEntry (now (file .entry)) (now (values .entry)) (now (statuses .entry)) choice (now (idle .entry)) ⌝ }
+    ensures { λ r. ⌜ record { code = r; values = now (values .exit); statuses = now (statuses .exit); idle = now (idle .exit) }
+        ≡ stepEntry (now (file .entry)) (now (values .entry)) (now (statuses .entry)) choice (now (idle .entry)) ⌝ }
 {
     let told = step::step(file, *values, *statuses, choice);
     let refusal = told.refusal;
@@ -59,8 +62,8 @@ pub extern "C" fn stm_step(
 #[no_mangle]
 pub extern "C" fn stm_holds(
     file: &[u8],
-    values: &[i16; 32],
-    statuses: &[u16; 8],
+    values: &[i16; MAX_VARIABLES],
+    statuses: &[u16; MAX_MATRICES],
     property: u64,
     holds: &mut [u8; 1],
 ) -> u64

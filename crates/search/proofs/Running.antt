@@ -14,7 +14,7 @@ use Rattle.search.specs.Search.{Turn, upTo, Answer, SAT, UNSAT, SPENT, O
 use Rattle.search.specs.Answers.{answerCode, solvedCode}
 use Rattle.search.specs.Solve.{bitOf, valuesFrom, valuesLeft}
 use Rattle.search.specs.AnyOrder.{Move}
-use Rattle.search.specs.Memory.{valueOfByte, settingsOf, unsetCount, Starts, Shaped, Ready, Stepped, Fresh, AllUnset, Kept, Ran}
+use Rattle.search.specs.Memory.{valueOfByte, settingsOf, unsetCount, Starts, Shaped, ReadyTrail, Stepped, Fresh, AllUnset, Kept, Ran}
 use Rattle.search.proofs.Scans.{AllSet}
 use Rattle.search.proofs.Counting.{count-none, ahead}
 use Rattle.search.proofs.Sound.{Good, Ok, move-ok}
@@ -43,7 +43,7 @@ values-are n vs tr t h a =
 
 -- the loop, after u tries
 pub record Searching (n : ℕ) (ws : List ℤ) (b : ℕ) (vs tr : List ℕ) (t from low u : ℕ) : Type 0 where
-  pub ready : Ready n ws vs tr t from low
+  pub ready : ReadyTrail n ws vs tr t from low
   pub low-set : AllSet low (settingsOf vs tr t)
   pub good : Good n (clausesOf ws) (settingsOf vs tr t)
   pub within : u ≤ b
@@ -91,8 +91,8 @@ module _ {n : ℕ} {ws : List ℤ} {b : ℕ} {vs tr : List ℕ} {t from low u : 
     pub less : ahead n (settingsOf vs′ tr′ k) < ahead n (settingsOf vs tr t)
 
   -- the values have n entries
-  pub ready-here : Ready (length vs) ws vs tr t from low
-  ready-here = subst (λ (k : ℕ). Ready k ws vs tr t from low) (sym (h .ready .shaped .values)) (h .ready)
+  pub ready-here : ReadyTrail (length vs) ws vs tr t from low
+  ready-here = subst (λ (k : ℕ). ReadyTrail k ws vs tr t from low) (sym (h .ready .shaped .values)) (h .ready)
 
   -- after a turn that came to r and left vs′ and tr′
   module _ (r : Step) (vs′ tr′ : List ℕ) (s : Stepped (length vs) ws (settingsOf vs tr t) r vs vs′ tr′) where
@@ -102,7 +102,7 @@ module _ {n : ℕ} {ws : List ℤ} {b : ℕ} {vs tr : List ℕ} {t from low u : 
         (subst (λ (x : Step). Stepped (length vs) ws (settingsOf vs tr t) x vs vs′ tr′) e s)
 
     -- the loop's facts after it, where the scan reads on at next and 1, 2, .., low′ are set
-    on : {k next low′ : ℕ} → Starts ws next → Shaped n vs′ tr′ k → low′ ≤ n → AllSet low′ (settingsOf vs′ tr′ k) → Ready n ws vs′ tr′ k next low′
+    on : {k next low′ : ℕ} → Starts ws next → Shaped n vs′ tr′ k → low′ ≤ n → AllSet low′ (settingsOf vs′ tr′ k) → ReadyTrail n ws vs′ tr′ k next low′
     on {k} {next} {low′} s p l a = record {
       small = h .ready .small;
       inside = h .ready .inside;

@@ -16,7 +16,7 @@ use Rattle.clauses.specs.Words.{clausesOf}
 use Rattle.search.specs.Search.{Value, unset, Setting, Values, valueOf, opposite, literalValue, Scan, scanOne, join, scan, isFalse, conflict, orElse, firstUnit, Place, none, at, isUnset, lowestUnset, sets, takes, forced, branchTrue, undo, branch}
 use Rattle.search.specs.Answers.{spotCode}
 use Rattle.search.specs.AnyOrder.{IsUnit, Quiet, Move, by-conflict, by-unit, by-branch}
-use Rattle.search.specs.Memory.{valueAt, literalFrom, Finds, settingsOf, Settable, Assigned, Undone, Ready, Stepped}
+use Rattle.search.specs.Memory.{valueAt, literalFrom, Finds, settingsOf, Settable, Assigned, Undone, ReadyTrail, Stepped}
 use Rattle.search.proofs.Scans.{Free, unit-forced, LowestAt, LowestRight, lowest-right}
 use Rattle.search.proofs.Counting.{count-set}
 use Rattle.search.proofs.Reading.{within-words}
@@ -73,7 +73,7 @@ forced-is v b = go (eqb b 1)
     go true = refl
     go false = refl
 
-module _ {n : ℕ} {ws : List ℤ} {vs tr : List ℕ} {t from low : ℕ} (h : Ready n ws vs tr t from low) where
+module _ {n : ℕ} {ws : List ℤ} {vs tr : List ℕ} {t from low : ℕ} (h : ReadyTrail n ws vs tr t from low) where
   w : Within n (clausesOf ws)
   w = within-words n ws (h .inside)
 

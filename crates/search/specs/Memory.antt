@@ -151,7 +151,7 @@ pub record SetTo (low : ℕ) (vs : List ℕ) : Type 0 where
   pub bits : (i : ℕ) → i < low → getD vs i 0 ≤ 1
 
 -- what a turn needs
-pub record Ready (n : ℕ) (ws : List ℤ) (vs tr : List ℕ) (t from low : ℕ) : Type 0 where
+pub record ReadyTrail (n : ℕ) (ws : List ℤ) (vs tr : List ℕ) (t from low : ℕ) : Type 0 where
   pub small : n < 2 ^ 31
   pub inside : AllIn n ws
   pub closes : closed ws ≡ true

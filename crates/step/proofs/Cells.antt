@@ -22,9 +22,9 @@ use Rattle.design.proofs.Indexed as indexed
 use Rattle.step.specs.Evaluation.{evalBool}
 use Rattle.step.specs.OneStep.{executeAll, statusAndEvent, enabled, effect, move}
 use Rattle.step.specs.Accepted.{isRead, past, boolValue, afterList}
-use Rattle.step.specs.Ready.{Ready}
+use Rattle.step.specs.Ready.{ReadyState}
 
-module _ (file events′ : List ℕ) (h : Shape) (slots : State) (ready : Ready file events′ h slots) where
+module _ (file events′ : List ℕ) (h : Shape) (slots : State) (ready : ReadyState file events′ h slots) where
   abbrev E : ℕ
   E = trailer file
 

@@ -20,6 +20,7 @@ use Rattle.step.specs.OneStep.{enabled, move, moved, idles, step, idle}
 use Rattle.design.specs.declared.shape.Shape.{Shape}
 use Rattle.design.proofs.Externals.{cell-mover, raise-mover}
 use Rattle.step.proofs.Scanning.{same-layout}
+use Rattle.design.specs.Limits.{maxMovers}
 
 -- stands in where there is no cell
 no-cell : Cell
@@ -41,7 +42,7 @@ module _ (file cells : List ℕ) (normals : ℕ) (h : CellsIndexed file cells no
   pub chosen : Accepted file → NormalCell file (getD cells j 0)
   chosen a = let t = read file a in named (t .tree) (t .all .parts)
 
-  pub slot : Accepted file → j < 64
+  pub slot : Accepted file → j < maxMovers
   slot a = omega (arith, h .count, few-normals file a)
 
   pub place-small : Accepted file → getD cells j 0 < 65536

@@ -11,7 +11,7 @@ use lib.Dec.{ltb, leb, eqb}
 use borrow.Author.Tests.{lt-ltb, le-ltb, ltb-true, ltb-false, ne-eqb}
 use Rattle.design.specs.Tree.{Kind, boolean, Variable, Design}
 use Rattle.design.specs.DesignFile.{Item, item, need, Matrix, kind, at8, matrixAt}
-use Rattle.design.specs.Limits.{maxStatuses, maxEvents}
+use Rattle.design.specs.Limits.{maxStatuses, maxEvents, maxVariables, maxMatrices, maxSlots}
 use Rattle.design.specs.Check.{check, accepted, trailer, variableCount, matrixCount, matricesOffset}
 use Rattle.design.specs.Places.{Accepted}
 use Rattle.design.specs.Sections.{Parts}
@@ -121,38 +121,38 @@ matrices-inside file a = go (matrixCount file) refl
 pub record LookingAt (file : List ℕ) (ts : Design → List Bool) (i : ℕ) : Type 0 where
   pub of : (d : Design) → check file ≡ accepted d → Looking (ts d) i
 
-module _ (file : List ℕ) (nv : ℕ) (e : nv ≡ variableCount file) (ps : List ℕ) (n : length ps ≡ 32) where
+module _ (file : List ℕ) (nv : ℕ) (e : nv ≡ variableCount file) (ps : List ℕ) (n : length ps ≡ maxVariables) where
   abbrev ValuesAt : ℕ → Type 0
   ValuesAt i = LookingAt file (λ d. valuesRight (d .variables) ps) i
 
   pub values-start : ValuesAt 0
   values-start = record { of = λ d c. looking-start (valuesRight (d .variables) ps) }
 
-  module _ (i : ℕ) (g : ValuesAt i) (l : i < 32) (r : Bool) (h : r ≡ valueRight file nv i (getD ps i 0)) where
+  module _ (i : ℕ) (g : ValuesAt i) (l : i < maxVariables) (r : Bool) (h : r ≡ valueRight file nv i (getD ps i 0)) where
     pub values-wrong : r ≡ false → (d : Design) → check file ≡ accepted d → i ≡ firstWrong (valuesRight (d .variables) ps)
     values-wrong f d c = looking-wrong (valuesRight (d .variables) ps) i true (g .of d c) (omega (arith, values-length (d .variables) ps)) (value-at file d c nv e ps i (omega arith) true ∙ sym h ∙ f)
 
     pub values-right : r ≡ true → ValuesAt (i + 1)
     values-right t = record { of = λ d c. looking-right (valuesRight (d .variables) ps) i true (g .of d c) (omega (arith, values-length (d .variables) ps)) (value-at file d c nv e ps i (omega arith) true ∙ sym h ∙ t) }
 
-  pub values-end : (i : ℕ) → 32 ≤ i → ValuesAt i → (d : Design) → check file ≡ accepted d → i ≡ firstWrong (valuesRight (d .variables) ps)
+  pub values-end : (i : ℕ) → maxVariables ≤ i → ValuesAt i → (d : Design) → check file ≡ accepted d → i ≡ firstWrong (valuesRight (d .variables) ps)
   values-end i l g d c = looking-end (valuesRight (d .variables) ps) i (omega (arith, values-length (d .variables) ps)) (g .of d c)
 
-module _ (file : List ℕ) (mats nm : ℕ) (q : mats ≡ matricesOffset file) (e : nm ≡ matrixCount file) (ss : List ℕ) (n : length ss ≡ 8) where
+module _ (file : List ℕ) (mats nm : ℕ) (q : mats ≡ matricesOffset file) (e : nm ≡ matrixCount file) (ss : List ℕ) (n : length ss ≡ maxMatrices) where
   abbrev StatusesAt : ℕ → Type 0
   StatusesAt i = LookingAt file (λ d. statusesRight (d .statuses) ss) i
 
   pub statuses-start : StatusesAt 0
   statuses-start = record { of = λ d c. looking-start (statusesRight (d .statuses) ss) }
 
-  module _ (i : ℕ) (g : StatusesAt i) (l : i < 8) (r : Bool) (h : r ≡ statusRight file mats nm i (getD ss i 0)) where
+  module _ (i : ℕ) (g : StatusesAt i) (l : i < maxMatrices) (r : Bool) (h : r ≡ statusRight file mats nm i (getD ss i 0)) where
     pub statuses-wrong : r ≡ false → (d : Design) → check file ≡ accepted d → i ≡ firstWrong (statusesRight (d .statuses) ss)
     statuses-wrong f d c = looking-wrong (statusesRight (d .statuses) ss) i true (g .of d c) (omega (arith, statuses-length (d .statuses) ss)) (status-at file d c mats nm q e ss i (omega arith) true ∙ sym h ∙ f)
 
     pub statuses-right : r ≡ true → StatusesAt (i + 1)
     statuses-right t = record { of = λ d c. looking-right (statusesRight (d .statuses) ss) i true (g .of d c) (omega (arith, statuses-length (d .statuses) ss)) (status-at file d c mats nm q e ss i (omega arith) true ∙ sym h ∙ t) }
 
-  pub statuses-end : (i : ℕ) → 8 ≤ i → StatusesAt i → (d : Design) → check file ≡ accepted d → i ≡ firstWrong (statusesRight (d .statuses) ss)
+  pub statuses-end : (i : ℕ) → maxMatrices ≤ i → StatusesAt i → (d : Design) → check file ≡ accepted d → i ≡ firstWrong (statusesRight (d .statuses) ss)
   statuses-end i l g d c = looking-end (statusesRight (d .statuses) ss) i (omega (arith, statuses-length (d .statuses) ss)) (g .of d c)
 
 -- the first wrong one of two lists
@@ -210,14 +210,14 @@ module _ (m : ℕ) where
       copying-on (replicate m 0) 0 (drop n src) i i now x 0 (omega arith) (let q : length (replicate {A = ℕ} m 0) ≡ m = length-replicate m 0 in omega arith) (let q = length-drop n src in omega arith) (e ∙ sym (getD-drop n src i 0)) g
 
 -- the entries, values and then statuses
-module _ (xs : List Variable) (ns ps ss : List ℕ) (n : length ps ≡ 32) where
-  pub first-entry : (i : ℕ) → i ≡ firstWrong (valuesRight xs ps) → i < 32 → i ≡ firstWrong (valuesRight xs ps ++ statusesRight ns ss)
+module _ (xs : List Variable) (ns ps ss : List ℕ) (n : length ps ≡ maxVariables) where
+  pub first-entry : (i : ℕ) → i ≡ firstWrong (valuesRight xs ps) → i < maxVariables → i ≡ firstWrong (valuesRight xs ps ++ statusesRight ns ss)
   first-entry i e l = first-of-two (valuesRight xs ps) (statusesRight ns ss) i e (omega (arith, values-length xs ps))
 
-  pub status-entry : (i m : ℕ) → i ≡ firstWrong (valuesRight xs ps) → 32 ≤ i → m ≡ firstWrong (statusesRight ns ss) → 32 + m ≡ firstWrong (valuesRight xs ps ++ statusesRight ns ss)
-  status-entry i m e l h = second-of-two (valuesRight xs ps) (statusesRight ns ss) m 32 (omega (arith, values-length xs ps)) (omega (arith, values-length xs ps)) h
+  pub status-entry : (i m : ℕ) → i ≡ firstWrong (valuesRight xs ps) → maxVariables ≤ i → m ≡ firstWrong (statusesRight ns ss) → maxVariables + m ≡ firstWrong (valuesRight xs ps ++ statusesRight ns ss)
+  status-entry i m e l h = second-of-two (valuesRight xs ps) (statusesRight ns ss) m maxVariables (omega (arith, values-length xs ps)) (omega (arith, values-length xs ps)) h
 
-  pub no-entry : length ss ≡ 8 → (i m : ℕ) → i ≡ firstWrong (valuesRight xs ps) → 32 ≤ i → m ≡ firstWrong (statusesRight ns ss) → 8 ≤ m → 40 ≡ firstWrong (valuesRight xs ps ++ statusesRight ns ss)
+  pub no-entry : length ss ≡ maxMatrices → (i m : ℕ) → i ≡ firstWrong (valuesRight xs ps) → maxVariables ≤ i → m ≡ firstWrong (statusesRight ns ss) → maxMatrices ≤ m → maxSlots ≡ firstWrong (valuesRight xs ps ++ statusesRight ns ss)
   no-entry q i m e l h k =
       let t = status-entry i m e l h in
       let b = wrong-most (statusesRight ns ss) in

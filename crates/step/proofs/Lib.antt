@@ -1,18 +1,23 @@
 -- Laws of the definitions, in the order of reading.
+-- numbers
 pub mod Signed
+pub mod Patterns
+-- expressions and statements over bytes
 pub mod Accepted
 pub mod Values
 pub mod Runs
+-- cells, choices and properties
 pub mod Cells
 pub mod Scanning
 pub mod Choices
-pub mod Looking
+pub mod Properties
+-- runs: the first breaking step, and ranges
 pub mod Replays
+pub mod Breaks
+pub mod Ranges
+-- the calls
+pub mod Looking
 pub mod Gates
 pub mod Answering
 pub mod Entries
 pub mod States
-pub mod Properties
-pub mod Breaks
-pub mod Patterns
-pub mod Ranges

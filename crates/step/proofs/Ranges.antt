@@ -16,10 +16,11 @@ use Rattle.design.proofs.WellFormed.{well-formed}
 use Rattle.step.specs.Pattern.{signed, wrap}
 use Rattle.step.specs.Evaluation.{evalInt, evalBool}
 use Rattle.step.specs.OneStep.{execute, executeAll, enabled, effect, move, moved, step, run}
-use Rattle.step.specs.Interface.{rightKind, valuesRight, statusesRight, firstWrong, entriesRight, slotsOf, valuesOf, statusesOf}
+use Rattle.step.specs.Interface.{rightKind, valuesRight, statusesRight, firstWrong, entriesRight, slotsGiven, valuesOf, statusesOf}
 use Rattle.step.specs.Operations.{allRight}
 use Rattle.step.specs.Ranges.{valueCount, ranges, Below, FitsDesign, KeepsRanges}
 use Rattle.step.proofs.Patterns.{wrap-signed}
+use Rattle.design.specs.Limits.{maxVariables, maxMatrices}
 
 -- lists below their ranges
 below-set : (ns s : List ℕ) (v x : ℕ) → Below ns s → x < getD ns v 0 → Below ns (set s v x)
@@ -318,40 +319,40 @@ module _ (d : Design) (s : State) (f : FitsDesign d s) where
   back-long : length (parted .back) ≡ nm
   back-long = below-length (d .statuses) (parted .back) (parted .back-below)
 
-  values-are : map wrap (valuesOf d s) ≡ parted .front ++ replicate (32 - nv) 0
+  values-are : map wrap (valuesOf d s) ≡ parted .front ++ replicate (maxVariables - nv) 0
   values-are =
-      ap (λ (l : List ℤ). map wrap (take nv l ++ replicate (32 - nv) (pos 0)))
+      ap (λ (l : List ℤ). map wrap (take nv l ++ replicate (maxVariables - nv) (pos 0)))
       (ap (map signed) (parted .is) ∙ map-append signed (parted .front) (parted .back))
-      ∙ ap (λ (l : List ℤ). map wrap (l ++ replicate (32 - nv) (pos 0)))
+      ∙ ap (λ (l : List ℤ). map wrap (l ++ replicate (maxVariables - nv) (pos 0)))
       (take-at (map signed (parted .front)) (map signed (parted .back)) nv (length-map (parted .front) signed ∙ front-long))
-      ∙ values-wrapped (d .variables) (parted .front) (32 - nv) (parted .front-below)
+      ∙ values-wrapped (d .variables) (parted .front) (maxVariables - nv) (parted .front-below)
 
-  statuses-are : statusesOf d s ≡ parted .back ++ replicate (8 - nm) 0
+  statuses-are : statusesOf d s ≡ parted .back ++ replicate (maxMatrices - nm) 0
   unfolding layout
   statuses-are =
-      ap (λ (l : List ℕ). take (nv + nm - nv) (drop nv l) ++ replicate (8 - nm) 0) (parted .is)
-      ∙ ap (λ (l : List ℕ). take (nv + nm - nv) l ++ replicate (8 - nm) 0) (drop-at (parted .front) (parted .back) nv front-long)
-      ∙ ap (λ (l : List ℕ). l ++ replicate (8 - nm) 0) (take-all (nv + nm - nv) (parted .back) (omega (arith, back-long)))
+      ap (λ (l : List ℕ). take (nv + nm - nv) (drop nv l) ++ replicate (maxMatrices - nm) 0) (parted .is)
+      ∙ ap (λ (l : List ℕ). take (nv + nm - nv) l ++ replicate (maxMatrices - nm) 0) (drop-at (parted .front) (parted .back) nv front-long)
+      ∙ ap (λ (l : List ℕ). l ++ replicate (maxMatrices - nm) 0) (take-all (nv + nm - nv) (parted .back) (omega (arith, back-long)))
 
   abbrev vt : List Bool
-  vt = valuesRight (d .variables) (parted .front ++ replicate (32 - nv) 0)
+  vt = valuesRight (d .variables) (parted .front ++ replicate (maxVariables - nv) 0)
 
   abbrev st : List Bool
-  st = statusesRight (d .statuses) (parted .back ++ replicate (8 - nm) 0)
+  st = statusesRight (d .statuses) (parted .back ++ replicate (maxMatrices - nm) 0)
 
   pub fits-right : allRight (entriesRight d (valuesOf d s) (statusesOf d s)) ≡ true
   fits-right =
       let all : AllTrue (vt ++ st) = all-append vt st
-      (values-ok (d .variables) (parted .front) (32 - nv) (parted .front-below))
-      (statuses-ok (d .statuses) (parted .back) (8 - nm) (parted .back-below)) in
+      (values-ok (d .variables) (parted .front) (maxVariables - nv) (parted .front-below))
+      (statuses-ok (d .statuses) (parted .back) (maxMatrices - nm) (parted .back-below)) in
       ap₂ (λ (ps ss : List ℕ). allRight (valuesRight (d .variables) ps ++ statusesRight (d .statuses) ss)) values-are statuses-are
       ∙ eq-eqb (firstWrong (vt ++ st)) (length (vt ++ st)) (none-wrong (vt ++ st) all)
 
-  pub fits-back : slotsOf d (valuesOf d s) (statusesOf d s) ≡ s
+  pub fits-back : slotsGiven d (valuesOf d s) (statusesOf d s) ≡ s
   fits-back =
       ap₂ (λ (ps ss : List ℕ). take nv ps ++ take nm ss) values-are statuses-are
-      ∙ ap₂ (λ (u v : List ℕ). u ++ v) (take-at (parted .front) (replicate (32 - nv) 0) nv front-long)
-      (take-at (parted .back) (replicate (8 - nm) 0) nm back-long)
+      ∙ ap₂ (λ (u v : List ℕ). u ++ v) (take-at (parted .front) (replicate (maxVariables - nv) 0) nv front-long)
+      (take-at (parted .back) (replicate (maxMatrices - nm) 0) nm back-long)
       ∙ sym (parted .is)
 
 -- THE LAW, for every well-formed design, and so for every accepted one.

@@ -21,10 +21,11 @@ use Rattle.design.proofs.Places.{read}
 use Rattle.step.specs.Property.{propertyOf}
 use Rattle.step.specs.OneStep.{step, holds}
 use Rattle.step.specs.Operations.{firstBreak}
-use Rattle.step.specs.Ready.{Ready, Replayable}
+use Rattle.step.specs.Ready.{ReadyState, Replayable}
 use Rattle.design.specs.declared.shape.Shape.{Shape}
 use Rattle.design.proofs.Indexed.{variables-inside}
 use Rattle.design.proofs.Widths.{matrix-count}
+use Rattle.design.specs.Limits.{maxVariables}
 
 pub drop-replicate : {A : Type 0} (n m : ℕ) (z : A) → drop n (replicate (n + m) z) ≡ replicate m z
 drop-replicate zero m z = ap (λ (k : ℕ). replicate k z) (let q : 0 + m ≡ m = omega arith in q)
@@ -56,7 +57,7 @@ module _ (file : List ℕ) (a : Accepted file) (nv nm : ℕ) (e : nv ≡ variabl
   pub loading-start : (s : State) → s ≡ replicate (nv + nm) 0 → Loading file nv nm 0 s
   loading-start s h = record { inside = omega arith; size = ap length h ∙ length-replicate (nv + nm) 0; same = λ d c. h ∙ paste-zero (replicate (nv + nm) 0) 0 (map (λ (x : Variable). x .initial) (d .variables)) }
 
-  pub loading-inside : (v : ℕ) → v < nv → (3 * v + 1 + 1 < length file) × (nv ≤ 32)
+  pub loading-inside : (v : ℕ) → v < nv → (3 * v + 1 + 1 < length file) × (nv ≤ maxVariables)
   loading-inside v l = let b = variables-inside file a in let t = read file a .all in (omega (arith, t .long), omega (arith, t .variables))
 
   pub loading-on : (v x : ℕ) (s : State) → v < nv → x ≡ at16 file (3 * v + 1) → Loading file nv nm v s → Loading file nv nm (v + 1) (set s v x)
@@ -85,7 +86,7 @@ module _ (file : List ℕ) (a : Accepted file) (nv nm : ℕ) (e : nv ≡ variabl
       ∙ ap₂ (λ (x y : State). x ++ y) (take-all nv xs (omega arith)) (ap (λ (k : ℕ). drop k (replicate (nv + nm) 0)) (let z : 0 + nv ≡ nv = omega arith in z) ∙ drop-replicate nv nm 0 ∙ ap (λ (k : ℕ). replicate k 0) m)
 
 -- a state of the same size
-pub ready-same : (file events : List ℕ) (h : Shape) (s s′ : State) → length s′ ≡ length s → Ready file events h s → Ready file events h s′
+pub ready-same : (file events : List ℕ) (h : Shape) (s s′ : State) → length s′ ≡ length s → ReadyState file events h s → ReadyState file events h s′
 ready-same file events h s s′ e r = record { indexed = r .indexed; size = e ∙ r .size }
 
 pub replayable-same : (file events cells : List ℕ) (h : Shape) (s s′ : State) (cs : List ℕ) → length s′ ≡ length s → Replayable file events cells h s cs → Replayable file events cells h s′ cs

@@ -24,7 +24,7 @@ use Rattle.step.specs.Accepted.{isRead, boolValue}
 use Rattle.design.specs.declared.shape.Shape.{Shape}
 use Rattle.design.proofs.Indexed.{invariant-got, invariant-some}
 use Rattle.design.proofs.Widths.{layout-is}
-use Rattle.step.specs.Ready.{Ready}
+use Rattle.step.specs.Ready.{ReadyState}
 
 -- the layout of the tree, by the shape of the file
 pub same-layout : (file : List ℕ) (d : Design) (w : Parts file d) (h : Shape) → Shaped file h → layoutOf h ≡ layout d
@@ -49,7 +49,7 @@ pub scanning-start : (file : List ℕ) (h : Shape) (slots : State) (p : ℕ) →
 unfolding pastCells
 scanning-start file h slots p e = record { here = e; inside = omega arith; same = λ d w. ap (noInvalid (layoutOf h) slots) (sym (w .invalid)) }
 
-module _ (file events′ : List ℕ) (h : Shape) (slots : State) (ready : Ready file events′ h slots) where
+module _ (file events′ : List ℕ) (h : Shape) (slots : State) (ready : ReadyState file events′ h slots) where
   abbrev N : Names
   N = namesOf file h
 

@@ -24,7 +24,7 @@ use Rattle.step.specs.Pattern.{signed, wrap}
 use Rattle.step.specs.Limits.{lastProperty}
 use Rattle.step.specs.Property.{propertyOf}
 use Rattle.step.specs.OneStep.{step, idle, holds}
-use Rattle.step.specs.Interface.{valuesRight, statusesRight, firstWrong, entriesRight, slotsOf, valuesOf, statusesOf, Entries}
+use Rattle.step.specs.Interface.{valuesRight, statusesRight, firstWrong, entriesRight, slotsGiven, valuesOf, statusesOf, Entries}
 use Rattle.step.specs.Operations.{refusedAt, allRight, started, START, next, stepped, STEP, held, HOLDS}
 use Rattle.step.specs.declared.Started.{Started}
 use Rattle.step.specs.declared.Stepped.{Stepped}
@@ -32,6 +32,7 @@ use Rattle.step.specs.declared.Held.{Held}
 use Rattle.step.proofs.Gates.{need-no, need-yes, on-refused, on-accepted}
 use Rattle.step.proofs.Answering.{wrong-most}
 use Rattle.step.proofs.Entries.{append-none, values-length, statuses-length}
+use Rattle.design.specs.Limits.{maxVariables, maxMatrices, maxSlots}
 
 -- two copies make the state
 pub copied-both : (s t u : State) (ps ss : List ℕ) (nv nm : ℕ) → length s ≡ nv + nm → nv ≤ length ps → nm ≤ length ss → t ≡ paste s 0 ps nv → u ≡ paste t nv ss nm → u ≡ take nv ps ++ take nm ss
@@ -51,20 +52,20 @@ module _ (file : List ℕ) (d : Design) (c : check file ≡ accepted d) (nv nm :
   matrices-are : nm ≡ length (d .statuses)
   matrices-are = q ∙ sym (matrix-count file d w)
 
-  pub values-are : (s : State) (vs : List ℤ) → vs ≡ take nv (map signed s) ++ replicate (32 - nv) (pos 0) → vs ≡ valuesOf d s
-  values-are s vs h = h ∙ ap (λ (k : ℕ). take k (map signed s) ++ replicate (32 - k) (pos 0)) variables-are
+  pub values-are : (s : State) (vs : List ℤ) → vs ≡ take nv (map signed s) ++ replicate (maxVariables - nv) (pos 0) → vs ≡ valuesOf d s
+  values-are s vs h = h ∙ ap (λ (k : ℕ). take k (map signed s) ++ replicate (maxVariables - k) (pos 0)) variables-are
 
-  pub statuses-are : (s : State) (ss : List ℕ) → ss ≡ take nm (drop nv s) ++ replicate (8 - nm) 0 → ss ≡ statusesOf d s
+  pub statuses-are : (s : State) (ss : List ℕ) → ss ≡ take nm (drop nv s) ++ replicate (maxMatrices - nm) 0 → ss ≡ statusesOf d s
   unfolding layout
   statuses-are s ss h =
-      h ∙ ap₂ (λ (k j : ℕ). take j (drop k s) ++ replicate (8 - j) 0) variables-are matrices-are
-      ∙ ap (λ (j : ℕ). take j (drop (length (d .variables)) s) ++ replicate (8 - length (d .statuses)) 0)
+      h ∙ ap₂ (λ (k j : ℕ). take j (drop k s) ++ replicate (maxMatrices - j) 0) variables-are matrices-are
+      ∙ ap (λ (j : ℕ). take j (drop (length (d .variables)) s) ++ replicate (maxMatrices - length (d .statuses)) 0)
       (let z : length (d .statuses) ≡ length (d .variables) + length (d .statuses) - length (d .variables) = omega arith in z)
 
-  pub slots-are : (values : List ℤ) (ps ss s : List ℕ) → ps ≡ map wrap values → s ≡ take nv ps ++ take nm ss → s ≡ slotsOf d values ss
+  pub slots-are : (values : List ℤ) (ps ss s : List ℕ) → ps ≡ map wrap values → s ≡ take nv ps ++ take nm ss → s ≡ slotsGiven d values ss
   slots-are values ps ss s a b = b ∙ ap (λ (x : List ℕ). take nv x ++ take nm ss) a ∙ ap₂ (λ (k j : ℕ). take k (map wrap values) ++ take j ss) variables-are matrices-are
 
-  pub step-answer : (s s′ : State) (vs : List ℤ) (ss : List ℕ) (i : Bool) (choice : ℕ) → (s′ ≡ step d s choice) × (i ≡ idle d s choice) → vs ≡ take nv (map signed s′) ++ replicate (32 - nv) (pos 0) → ss ≡ take nm (drop nv s′) ++ replicate (8 - nm) 0
+  pub step-answer : (s s′ : State) (vs : List ℤ) (ss : List ℕ) (i : Bool) (choice : ℕ) → (s′ ≡ step d s choice) × (i ≡ idle d s choice) → vs ≡ take nv (map signed s′) ++ replicate (maxVariables - nv) (pos 0) → ss ≡ take nm (drop nv s′) ++ replicate (maxMatrices - nm) 0
       → _≡_ {A = Stepped} (record { refusal = refusedAt 0 0; values = vs; statuses = ss; idle = i }) (stepped (answer (next d s choice)))
   step-answer s s′ vs ss i choice m a b =
       ap (λ (x : List ℤ). record { refusal = refusedAt 0 0; values = x; statuses = ss; idle = i }) (values-are s′ vs a ∙ ap (valuesOf d) (m .0))
@@ -76,7 +77,7 @@ pub start-refused : (file : List ℕ) (r : Refusal) → r ≡ refusal (check fil
 unfolding START
 start-refused file r e z = sym (ap started (on-refused file _ r e z))
 
-pub start-answer : (file : List ℕ) → Accepted file → (nv nm : ℕ) → nv ≡ variableCount file → nm ≡ matrixCount file → (s : State) (vs : List ℤ) (ss : List ℕ) → ((d : Design) → check file ≡ accepted d → s ≡ start d) → vs ≡ take nv (map signed s) ++ replicate (32 - nv) (pos 0) → ss ≡ take nm (drop nv s) ++ replicate (8 - nm) 0
+pub start-answer : (file : List ℕ) → Accepted file → (nv nm : ℕ) → nv ≡ variableCount file → nm ≡ matrixCount file → (s : State) (vs : List ℤ) (ss : List ℕ) → ((d : Design) → check file ≡ accepted d → s ≡ start d) → vs ≡ take nv (map signed s) ++ replicate (maxVariables - nv) (pos 0) → ss ≡ take nm (drop nv s) ++ replicate (maxMatrices - nm) 0
     → _≡_ {A = Started} (record { refusal = refusedAt 0 0; values = vs; statuses = ss }) (START file)
 unfolding START
 start-answer file a nv nm e q s vs ss h k j =
@@ -86,23 +87,23 @@ start-answer file a nv nm e q s vs ss h k j =
     ap₂ (λ (u : List ℤ) (v : List ℕ). record { refusal = refusedAt 0 0; values = u; statuses = v }) x y ∙ sym (ap started (on-accepted file _ a))
 
 -- the tests of the entries
-module _ (d : Design) (values : List ℤ) (ps ss : List ℕ) (a : ps ≡ map wrap values) (n : length values ≡ 32) (k : length ss ≡ 8) (wrong : ℕ) (h : wrong ≡ firstWrong (valuesRight (d .variables) ps ++ statusesRight (d .statuses) ss)) where
+module _ (d : Design) (values : List ℤ) (ps ss : List ℕ) (a : ps ≡ map wrap values) (n : length values ≡ maxVariables) (k : length ss ≡ maxMatrices) (wrong : ℕ) (h : wrong ≡ firstWrong (valuesRight (d .variables) ps ++ statusesRight (d .statuses) ss)) where
   abbrev ts : List Bool
   ts = entriesRight d values ss
 
   pub wrong-is : wrong ≡ firstWrong ts
   wrong-is = h ∙ ap (λ (x : List ℕ). firstWrong (valuesRight (d .variables) x ++ statusesRight (d .statuses) ss)) a
 
-  forty : length ts ≡ 40
-  forty =
+  slots-long : length ts ≡ maxSlots
+  slots-long =
       length-append (valuesRight (d .variables) (map wrap values)) (statusesRight (d .statuses) ss)
-      ∙ (let x : length (valuesRight (d .variables) (map wrap values)) ≡ 32 = values-length (d .variables) (map wrap values) ∙ length-map values wrap ∙ n in let y : length (statusesRight (d .statuses) ss) ≡ 8 = statuses-length (d .statuses) ss ∙ k in omega arith)
+      ∙ (let x : length (valuesRight (d .variables) (map wrap values)) ≡ maxVariables = values-length (d .variables) (map wrap values) ∙ length-map values wrap ∙ n in let y : length (statusesRight (d .statuses) ss) ≡ maxMatrices = statuses-length (d .statuses) ss ∙ k in omega arith)
 
-  pub wrong-found : wrong < 40 → allRight ts ≡ false
-  wrong-found l = ne-eqb (firstWrong ts) (length ts) (λ q. let x = forty in let y = wrong-is in omega arith)
+  pub wrong-found : wrong < maxSlots → allRight ts ≡ false
+  wrong-found l = ne-eqb (firstWrong ts) (length ts) (λ q. let x = slots-long in let y = wrong-is in omega arith)
 
-  pub none-wrong : 40 ≤ wrong → allRight ts ≡ true
-  none-wrong l = eq-eqb (firstWrong ts) (length ts) (let x = forty in let y = wrong-is in let z = wrong-most ts in omega arith)
+  pub none-wrong : maxSlots ≤ wrong → allRight ts ≡ true
+  none-wrong l = eq-eqb (firstWrong ts) (length ts) (let x = slots-long in let y = wrong-is in let z = wrong-most ts in omega arith)
 
 -- STEP
 module _ (file : List ℕ) (values : List ℤ) (ss : List ℕ) (choice : ℕ) where
@@ -110,7 +111,7 @@ module _ (file : List ℕ) (values : List ℤ) (ss : List ℕ) (choice : ℕ) wh
   unfolding STEP
   step-refused r e z = sym (ap stepped (on-refused file _ r e z))
 
-  module _ (x : Accepted file) (ps : List ℕ) (a : ps ≡ map wrap values) (n : length values ≡ 32) (k : length ss ≡ 8) (wrong : ℕ) (h : (d : Design) → check file ≡ accepted d → wrong ≡ firstWrong (valuesRight (d .variables) ps ++ statusesRight (d .statuses) ss)) where
+  module _ (x : Accepted file) (ps : List ℕ) (a : ps ≡ map wrap values) (n : length values ≡ maxVariables) (k : length ss ≡ maxMatrices) (wrong : ℕ) (h : (d : Design) → check file ≡ accepted d → wrong ≡ firstWrong (valuesRight (d .variables) ps ++ statusesRight (d .statuses) ss)) where
     d : Design
     d = read file x .tree
 
@@ -119,18 +120,18 @@ module _ (file : List ℕ) (values : List ℤ) (ss : List ℕ) (choice : ℕ) wh
     c = read file x .is
 
     abbrev ends : Answer (Entries × Bool)
-    ends = need (ltb choice (length (movers d))) 12 0 (answer (next d (slotsOf d values ss) choice))
+    ends = need (ltb choice (length (movers d))) 12 0 (answer (next d (slotsGiven d values ss) choice))
 
     answers : stepped (need (allRight (entriesRight d values ss)) 11 (firstWrong (entriesRight d values ss)) ends) ≡ STEP file values ss choice
     unfolding STEP d
     answers = sym (ap stepped (on-accepted file _ x))
 
-    pub step-11 : wrong < 40 → stepped (refused 11 wrong) ≡ STEP file values ss choice
+    pub step-11 : wrong < maxSlots → stepped (refused 11 wrong) ≡ STEP file values ss choice
     step-11 l =
         ap (λ (j : ℕ). stepped (refused 11 j)) (wrong-is d values ps ss a n k wrong (h d c))
         ∙ sym (ap stepped (need-no (allRight (entriesRight d values ss)) 11 (firstWrong (entriesRight d values ss)) ends (wrong-found d values ps ss a n k wrong (h d c) l))) ∙ answers
 
-    module _ (l : 40 ≤ wrong) (w : ℕ) (m : (d : Design) → check file ≡ accepted d → w ≡ length (movers d)) where
+    module _ (l : maxSlots ≤ wrong) (w : ℕ) (m : (d : Design) → check file ≡ accepted d → w ≡ length (movers d)) where
       after-11 : stepped ends ≡ STEP file values ss choice
       after-11 = sym (ap stepped (need-yes (allRight (entriesRight d values ss)) 11 (firstWrong (entriesRight d values ss)) ends (none-wrong d values ps ss a n k wrong (h d c) l))) ∙ answers
 
@@ -141,7 +142,7 @@ module _ (file : List ℕ) (values : List ℤ) (ss : List ℕ) (choice : ℕ) wh
       step-done o nv nm e q i t r f =
           f d c ∙ ap (λ (j : ℕ). stepped (answer (next d (take nv ps ++ take nm ss) j))) t
           ∙ ap (λ (y : State). stepped (answer (next d y choice))) (slots-are file d c nv nm e q values ps ss _ a refl)
-          ∙ sym (ap stepped (need-yes (ltb choice (length (movers d))) 12 0 (answer (next d (slotsOf d values ss) choice)) (lt-ltb choice (length (movers d)) (let z = m d c in omega arith)))) ∙ after-11
+          ∙ sym (ap stepped (need-yes (ltb choice (length (movers d))) 12 0 (answer (next d (slotsGiven d values ss) choice)) (lt-ltb choice (length (movers d)) (let z = m d c in omega arith)))) ∙ after-11
 
 -- HOLDS
 module _ (file : List ℕ) (values : List ℤ) (ss : List ℕ) (p : ℕ) where
@@ -149,7 +150,7 @@ module _ (file : List ℕ) (values : List ℤ) (ss : List ℕ) (p : ℕ) where
   unfolding HOLDS
   holds-refused r e z = sym (ap held (on-refused file _ r e z))
 
-  module _ (x : Accepted file) (ps : List ℕ) (a : ps ≡ map wrap values) (n : length values ≡ 32) (k : length ss ≡ 8) (wrong : ℕ) (h : (d : Design) → check file ≡ accepted d → wrong ≡ firstWrong (valuesRight (d .variables) ps ++ statusesRight (d .statuses) ss)) where
+  module _ (x : Accepted file) (ps : List ℕ) (a : ps ≡ map wrap values) (n : length values ≡ maxVariables) (k : length ss ≡ maxMatrices) (wrong : ℕ) (h : (d : Design) → check file ≡ accepted d → wrong ≡ firstWrong (valuesRight (d .variables) ps ++ statusesRight (d .statuses) ss)) where
     d′ : Design
     d′ = read file x .tree
 
@@ -158,18 +159,18 @@ module _ (file : List ℕ) (values : List ℤ) (ss : List ℕ) (p : ℕ) where
     c′ = read file x .is
 
     abbrev ends′ : Answer Bool
-    ends′ = need (leb p lastProperty) 13 0 (answer (holds d′ (propertyOf d′ p) (slotsOf d′ values ss)))
+    ends′ = need (leb p lastProperty) 13 0 (answer (holds d′ (propertyOf d′ p) (slotsGiven d′ values ss)))
 
     answers′ : held (need (allRight (entriesRight d′ values ss)) 11 (firstWrong (entriesRight d′ values ss)) ends′) ≡ HOLDS file values ss p
     unfolding HOLDS d′
     answers′ = sym (ap held (on-accepted file _ x))
 
-    pub holds-11 : wrong < 40 → held (refused 11 wrong) ≡ HOLDS file values ss p
+    pub holds-11 : wrong < maxSlots → held (refused 11 wrong) ≡ HOLDS file values ss p
     holds-11 l =
         ap (λ (j : ℕ). held (refused 11 j)) (wrong-is d′ values ps ss a n k wrong (h d′ c′))
         ∙ sym (ap held (need-no (allRight (entriesRight d′ values ss)) 11 (firstWrong (entriesRight d′ values ss)) ends′ (wrong-found d′ values ps ss a n k wrong (h d′ c′) l))) ∙ answers′
 
-    module _ (l : 40 ≤ wrong) where
+    module _ (l : maxSlots ≤ wrong) where
       then-11 : held ends′ ≡ HOLDS file values ss p
       then-11 = sym (ap held (need-yes (allRight (entriesRight d′ values ss)) 11 (firstWrong (entriesRight d′ values ss)) ends′ (none-wrong d′ values ps ss a n k wrong (h d′ c′) l))) ∙ answers′
 
@@ -180,4 +181,4 @@ module _ (file : List ℕ) (values : List ℤ) (ss : List ℕ) (p : ℕ) where
       holds-done o nv nm e q r f =
           ap (λ (y : Bool). held (answer y)) (f d′ (whole file d′ c′ .parts))
           ∙ ap (λ (s : State). held (answer (holds d′ (propertyOf d′ p) s))) (slots-are file d′ c′ nv nm e q values ps ss _ a refl)
-          ∙ sym (ap held (need-yes (leb p lastProperty) 13 0 (answer (holds d′ (propertyOf d′ p) (slotsOf d′ values ss))) (le-leb p lastProperty o))) ∙ then-11
+          ∙ sym (ap held (need-yes (leb p lastProperty) 13 0 (answer (holds d′ (propertyOf d′ p) (slotsGiven d′ values ss))) (le-leb p lastProperty o))) ∙ then-11

@@ -41,8 +41,8 @@ module _ (d : Design) where
   entriesRight values statuses = valuesRight (d .variables) (map wrap values) ++ statusesRight (d .statuses) statuses
 
   -- the state that entries give
-  abbrev pub slotsOf : List ℤ → List ℕ → State
-  slotsOf values statuses = take (length (d .variables)) (map wrap values) ++ take (length (d .statuses)) statuses
+  abbrev pub slotsGiven : List ℤ → List ℕ → State
+  slotsGiven values statuses = take (length (d .variables)) (map wrap values) ++ take (length (d .statuses)) statuses
 
   -- the entries that a state gives; unused ones are 0
   abbrev pub valuesOf : State → List ℤ

@@ -16,7 +16,7 @@ use Rattle.step.specs.Limits.{lastProperty}
 use Rattle.step.specs.Property.{Property, propertyOf}
 use Rattle.step.specs.OneStep.{step, idle, holds}
 use Rattle.step.specs.Gate.{gate}
-use Rattle.step.specs.Interface.{firstWrong, entriesRight, slotsOf, Entries, entriesOf}
+use Rattle.step.specs.Interface.{firstWrong, entriesRight, slotsGiven, Entries, entriesOf}
 use Rattle.step.specs.declared.Started.{Started}
 use Rattle.step.specs.declared.Stepped.{Stepped}
 use Rattle.step.specs.declared.Held.{Held}
@@ -51,7 +51,7 @@ stepAnswer file values statuses choice =
     onDesign file λ d.
     need (allRight (entriesRight d values statuses)) 11 (firstWrong (entriesRight d values statuses))
     (need (ltb choice (length (movers d))) 12 0
-    (answer (next d (slotsOf d values statuses) choice)))
+    (answer (next d (slotsGiven d values statuses) choice)))
 
 abbrev pub stepped : Answer (Entries × Bool) → Stepped
 stepped (refused number place) = record { refusal = refusedAt number place; values = replicate maxVariables (pos 0); statuses = replicate maxMatrices 0; idle = false }
@@ -66,7 +66,7 @@ holdsAnswer file values statuses p =
     onDesign file λ d.
     need (allRight (entriesRight d values statuses)) 11 (firstWrong (entriesRight d values statuses))
     (need (leb p lastProperty) 13 0
-    (answer (holds d (propertyOf d p) (slotsOf d values statuses))))
+    (answer (holds d (propertyOf d p) (slotsGiven d values statuses))))
 
 abbrev pub held : Answer Bool → Held
 held (refused number place) = record { refusal = refusedAt number place; holds = false }

@@ -7,7 +7,7 @@ use Rattle.design.specs.Tree.{Kind, boolean, integer, external, Variable, Desig
 use Rattle.design.specs.State.{State, widths, start}
 use Rattle.design.specs.WellFormed.{InRange}
 use Rattle.step.specs.OneStep.{step, run}
-use Rattle.step.specs.Interface.{entriesRight, slotsOf, valuesOf, statusesOf}
+use Rattle.step.specs.Interface.{entriesRight, slotsGiven, valuesOf, statusesOf}
 use Rattle.step.specs.Operations.{allRight}
 
 -- how many values a variable may have: a Boolean or external is 0 or 1, an integer is a 16-bit pattern
@@ -41,4 +41,4 @@ pub record KeepsRanges (d : Design) : Type 0 where
   pub in-widths : (s : State) → FitsDesign d s → InRange (widths d) s
   -- STEP and HOLDS do not refuse its entries by 11, and they give it back
   pub entries-right : (s : State) → FitsDesign d s → allRight (entriesRight d (valuesOf d s) (statusesOf d s)) ≡ true
-  pub entries-back : (s : State) → FitsDesign d s → slotsOf d (valuesOf d s) (statusesOf d s) ≡ s
+  pub entries-back : (s : State) → FitsDesign d s → slotsGiven d (valuesOf d s) (statusesOf d s) ≡ s

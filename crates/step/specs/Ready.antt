@@ -8,13 +8,13 @@ use Rattle.design.specs.Places.{Indexed, MoversIndexed}
 use Rattle.step.specs.Limits.{maxBound}
 use Rattle.design.specs.declared.shape.Shape.{Shape}
 
-pub record Ready (file table : List ℕ) (h : Shape) (slots : State) : Type 0 where
+pub record ReadyState (file table : List ℕ) (h : Shape) (slots : State) : Type 0 where
   pub indexed : Indexed file table h
   pub size : length slots ≡ slotCount h
 
 -- what the walk over a list of choices is given: both tables, and choices that are few and name movers
 pub record Replayable (file events cells : List ℕ) (h : Shape) (slots : State) (choices : List ℕ) : Type 0 where
-  pub ready : Ready file events h slots
+  pub ready : ReadyState file events h slots
   pub movers : MoversIndexed file cells h
   pub few : length choices ≤ maxBound
   pub named : (i : ℕ) → i < length choices → getD choices i 0 < h .normals + h .externals

@@ -13,7 +13,7 @@ ghost use Rattle.design.specs.Sections.{Parts};
 ghost use Rattle.step.specs.Property.{propertyOf};
 ghost use Rattle.step.specs.OneStep.{holds as holdsIn};
 ghost use Rattle.step.specs.Operations.{started, START, next, stepped, STEP, held, HOLDS};
-ghost use Rattle.step.specs.Ready.{Ready};
+ghost use Rattle.step.specs.Ready.{ReadyState};
 use super::Held;
 use super::Started;
 use super::Stepped;
@@ -121,7 +121,7 @@ pub fn step_slots(
     ss: [u16; MAX_MATRICES],
     slots: &mut [u16],
 ) -> Stepped
-    requires { ⌜ Ready (now file) (now events) shape (now slots) × MoversIndexed (now file) (now cells) shape × (choice < shape .normals + shape .externals) ⌝ }
+    requires { ⌜ ReadyState (now file) (now events) shape (now slots) × MoversIndexed (now file) (now cells) shape × (choice < shape .normals + shape .externals) ⌝ }
     ensures { λ r. ⌜ ((d : Design) → check (now (file .entry)) ≡ accepted d → r ≡ stepped (answer (next d (take (shape .variables) ps ++ take (shape .matrices) ss) choice))) ⌝ }
 {
     load_entries(shape, ps, ss, slots);
@@ -177,7 +177,7 @@ pub fn holds_slots(
     ss: [u16; MAX_MATRICES],
     slots: &mut [u16],
 ) -> bool
-    requires { ⌜ Ready (now file) (now events) shape (now slots) ⌝ }
+    requires { ⌜ ReadyState (now file) (now events) shape (now slots) ⌝ }
     ensures { λ r. ⌜ ((d : Design) (w : Parts (now (file .entry)) d) → r ≡ holdsIn d (propertyOf d property) (take (shape .variables) ps ++ take (shape .matrices) ss)) ⌝ }
 {
     load_entries(shape, ps, ss, slots);

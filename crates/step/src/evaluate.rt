@@ -81,7 +81,9 @@ pub fn eval_int(
     slots: &[u16],
 ) -> IntAt
     requires { ⌜ (isRead (intExpr (now text) (namesOf (now file) shape) end depth at) ≡ true) × (end ≤ length (now text)) × (slotCount shape ≤ length (now slots)) ⌝ }
-    ensures { λ r. ⌜ (r .value ≡ intValue (layoutOf shape) (now (slots .entry)) (intExpr (now (text .entry)) (namesOf (now (file .entry)) shape) end depth at)) × (r .next ≡ past (intExpr (now (text .entry)) (namesOf (now (file .entry)) shape) end depth at)) ⌝ }
+    ensures { λ r. ⌜ (r .value
+        ≡ intValue (layoutOf shape) (now (slots .entry)) (intExpr (now (text .entry)) (namesOf (now (file .entry)) shape) end depth at)) × (r .next
+        ≡ past (intExpr (now (text .entry)) (namesOf (now (file .entry)) shape) end depth at)) ⌝ }
 {
     let op = text[at];
     let p = at + 1;
@@ -115,7 +117,9 @@ pub fn eval_bool(
     slots: &[u16],
 ) -> BoolAt
     requires { ⌜ (isRead (boolExpr (now text) (namesOf (now file) shape) end depth at) ≡ true) × (end ≤ length (now text)) × (slotCount shape ≤ length (now slots)) ⌝ }
-    ensures { λ r. ⌜ (r .value ≡ boolValue (layoutOf shape) (now (slots .entry)) (boolExpr (now (text .entry)) (namesOf (now (file .entry)) shape) end depth at)) × (r .next ≡ past (boolExpr (now (text .entry)) (namesOf (now (file .entry)) shape) end depth at)) ⌝ }
+    ensures { λ r. ⌜ (r .value
+        ≡ boolValue (layoutOf shape) (now (slots .entry)) (boolExpr (now (text .entry)) (namesOf (now (file .entry)) shape) end depth at)) × (r .next
+        ≡ past (boolExpr (now (text .entry)) (namesOf (now (file .entry)) shape) end depth at)) ⌝ }
 {
     let op = text[at];
     let p = at + 1;

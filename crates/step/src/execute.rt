@@ -50,8 +50,11 @@ pub fn run_assign(
     shape: Shape,
     slots: &mut [u16],
 ) -> usize
-    requires { ⌜ (isRead (assignment (now text) (namesOf (now file) shape) end at) ≡ true) × (end ≤ length (now text)) × (3 * shape .variables ≤ length (now file)) × (slotCount shape ≤ length (now slots)) ⌝ }
-    ensures { λ r. ⌜ (now (slots .exit) ≡ afterStmt (layoutOf shape) (assignment (now (text .entry)) (namesOf (now (file .entry)) shape) end at) (now (slots .entry))) × (r ≡ past (assignment (now (text .entry)) (namesOf (now (file .entry)) shape) end at)) ⌝ }
+    requires { ⌜ (isRead (assignment (now text) (namesOf (now file) shape) end at) ≡ true) × (end ≤ length (now text))
+        × (3 * shape .variables ≤ length (now file)) × (slotCount shape ≤ length (now slots)) ⌝ }
+    ensures { λ r. ⌜ (now (slots .exit)
+        ≡ afterStmt (layoutOf shape) (assignment (now (text .entry)) (namesOf (now (file .entry)) shape) end at) (now (slots .entry))) × (r
+        ≡ past (assignment (now (text .entry)) (namesOf (now (file .entry)) shape) end at)) ⌝ }
 {
     let v = wide(text[at]);
     let k = file[3 * v];
@@ -76,8 +79,11 @@ pub fn run_stmt(
     nest: usize,
     slots: &mut [u16],
 ) -> usize
-    requires { ⌜ (isRead (statement (now text) (namesOf (now file) shape) end nest at) ≡ true) × (end ≤ length (now text)) × (3 * shape .variables ≤ length (now file)) × (slotCount shape ≤ length (now slots)) ⌝ }
-    ensures { λ r. ⌜ (now (slots .exit) ≡ afterStmt (layoutOf shape) (statement (now (text .entry)) (namesOf (now (file .entry)) shape) end nest at) (now (slots .entry))) × (r ≡ past (statement (now (text .entry)) (namesOf (now (file .entry)) shape) end nest at)) ⌝ }
+    requires { ⌜ (isRead (statement (now text) (namesOf (now file) shape) end nest at) ≡ true) × (end ≤ length (now text))
+        × (3 * shape .variables ≤ length (now file)) × (slotCount shape ≤ length (now slots)) ⌝ }
+    ensures { λ r. ⌜ (now (slots .exit)
+        ≡ afterStmt (layoutOf shape) (statement (now (text .entry)) (namesOf (now (file .entry)) shape) end nest at) (now (slots .entry))) × (r
+        ≡ past (statement (now (text .entry)) (namesOf (now (file .entry)) shape) end nest at)) ⌝ }
 {
     let op = text[at];
     match op {
@@ -108,8 +114,11 @@ pub fn run_list(
     nest: usize,
     slots: &mut [u16],
 ) -> usize
-    requires { ⌜ (isRead (list (now text) (namesOf (now file) shape) end nest at) ≡ true) × (end ≤ length (now text)) × (3 * shape .variables ≤ length (now file)) × (slotCount shape ≤ length (now slots)) ⌝ }
-    ensures { λ r. ⌜ (now (slots .exit) ≡ afterList (layoutOf shape) (list (now (text .entry)) (namesOf (now (file .entry)) shape) end nest at) (now (slots .entry))) × (r ≡ past (list (now (text .entry)) (namesOf (now (file .entry)) shape) end nest at)) ⌝ }
+    requires { ⌜ (isRead (list (now text) (namesOf (now file) shape) end nest at) ≡ true) × (end ≤ length (now text))
+        × (3 * shape .variables ≤ length (now file)) × (slotCount shape ≤ length (now slots)) ⌝ }
+    ensures { λ r. ⌜ (now (slots .exit)
+        ≡ afterList (layoutOf shape) (list (now (text .entry)) (namesOf (now (file .entry)) shape) end nest at) (now (slots .entry))) × (r
+        ≡ past (list (now (text .entry)) (namesOf (now (file .entry)) shape) end nest at)) ⌝ }
 {
     let mut left = wide(text[at]);
     let mut p = at + 1;

@@ -11,7 +11,7 @@ ghost use Rattle.design.specs.State.{Layout, layoutOf};
 ghost use Rattle.design.specs.Sections.{Parts, CellFields, NormalCell};
 ghost use Rattle.step.specs.Evaluation.{evalBool};
 ghost use Rattle.step.specs.OneStep.{statusAndEvent, enabled, move as moves, step, idle};
-ghost use Rattle.step.specs.Ready.{Ready};
+ghost use Rattle.step.specs.Ready.{ReadyState};
 use super::evaluate::eval_bool;
 use super::execute::run_list;
 use design::bytes::wide;
@@ -32,7 +32,7 @@ pub fn event_true(
     e: usize,
     slots: &[u16],
 ) -> bool
-    requires { ⌜ Ready (now file) (now events) shape (now slots) × (m < shape .matrices) × (e < eventCount (now file) (matricesOffset (now file)) m) ⌝ }
+    requires { ⌜ ReadyState (now file) (now events) shape (now slots) × (m < shape .matrices) × (e < eventCount (now file) (matricesOffset (now file)) m) ⌝ }
     ensures { λ r. ⌜ ((d : Design) (w : Parts (now (file .entry)) d) → r ≡ evalBool (layoutOf shape) (now (slots .entry)) (eventIn (w .rows) m e)) ⌝ }
 {
     let at = events[16 * m + e] as usize;
@@ -49,8 +49,10 @@ pub fn status_and_event(
     p: usize,
     slots: &[u16],
 ) -> bool
-    requires { ⌜ Ready (now file) (now events) shape (now slots) × CellFields (now file) p ⌝ }
-    ensures { λ r. ⌜ ((d : Design) (w : Parts (now (file .entry)) d) → r ≡ statusAndEvent (layoutOf shape) (now (slots .entry)) (c-matrix (now (file .entry)) p) (c-status (now (file .entry)) p) (eventIn (w .rows) (c-matrix (now (file .entry)) p) (c-event (now (file .entry)) p))) ⌝ }
+    requires { ⌜ ReadyState (now file) (now events) shape (now slots) × CellFields (now file) p ⌝ }
+    ensures { λ r. ⌜ ((d : Design) (w : Parts (now (file .entry)) d) → r
+        ≡ statusAndEvent (layoutOf shape) (now (slots .entry)) (c-matrix (now (file .entry)) p) (c-status (now (file .entry)) p)
+        (eventIn (w .rows) (c-matrix (now (file .entry)) p) (c-event (now (file .entry)) p))) ⌝ }
 {
     let m = wide(file[p]);
     let status = wide(file[p + 1]);
@@ -70,7 +72,7 @@ pub fn guard_true(
     p: usize,
     slots: &[u16],
 ) -> bool
-    requires { ⌜ Ready (now file) (now events) shape (now slots) × NormalCell (now file) p ⌝ }
+    requires { ⌜ ReadyState (now file) (now events) shape (now slots) × NormalCell (now file) p ⌝ }
     ensures { λ r. ⌜ ((x : NormalCell (now (file .entry)) p) → r ≡ evalBool (layoutOf shape) (now (slots .entry)) (x .cell .guard)) ⌝ }
 {
     let n = wide(file[p + 5]);
@@ -89,8 +91,9 @@ pub fn move_cell(
     p: usize,
     slots: &mut [u16],
 ) -> bool
-    requires { ⌜ Ready (now file) (now events) shape (now slots) × NormalCell (now file) p ⌝ }
-    ensures { λ r. ⌜ ((x : NormalCell (now (file .entry)) p) → (now (slots .exit) ≡ moves (layoutOf shape) (now (slots .entry)) (cell (x .cell))) × (r ≡ not (enabled (layoutOf shape) (now (slots .entry)) (cell (x .cell))))) ⌝ }
+    requires { ⌜ ReadyState (now file) (now events) shape (now slots) × NormalCell (now file) p ⌝ }
+    ensures { λ r. ⌜ ((x : NormalCell (now (file .entry)) p) → (now (slots .exit) ≡ moves (layoutOf shape) (now (slots .entry)) (cell (x .cell))) × (r
+        ≡ not (enabled (layoutOf shape) (now (slots .entry)) (cell (x .cell))))) ⌝ }
 {
     if !status_and_event(file, events, shape, p, slots) {
         return true;
@@ -127,7 +130,7 @@ pub fn move_chosen(
     choice: usize,
     slots: &mut [u16],
 ) -> bool
-    requires { ⌜ Ready (now file) (now events) shape (now slots) × MoversIndexed (now file) (now cells) shape × (choice < shape .normals + shape .externals) ⌝ }
+    requires { ⌜ ReadyState (now file) (now events) shape (now slots) × MoversIndexed (now file) (now cells) shape × (choice < shape .normals + shape .externals) ⌝ }
     ensures { λ r. ⌜ ((d : Design) → check (now (file .entry)) ≡ accepted d → (now (slots .exit) ≡ step d (now (slots .entry)) choice) × (r ≡ idle d (now (slots .entry)) choice)) ⌝ }
 {
     if choice < shape.normals {

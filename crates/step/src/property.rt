@@ -6,7 +6,7 @@ ghost use Rattle.design.specs.Sections.{Parts};
 ghost use Rattle.step.specs.Evaluation.{evalBool};
 ghost use Rattle.step.specs.Property.{propertyOf};
 ghost use Rattle.step.specs.OneStep.{noInvalid, holds};
-ghost use Rattle.step.specs.Ready.{Ready};
+ghost use Rattle.step.specs.Ready.{ReadyState};
 use super::evaluate::eval_bool;
 use super::mover::status_and_event;
 use design::bytes::wide;
@@ -26,7 +26,7 @@ pub fn invariant_true(
     shape: Shape,
     slots: &[u16],
 ) -> bool
-    requires { ⌜ Ready (now file) (now events) shape (now slots) ⌝ }
+    requires { ⌜ ReadyState (now file) (now events) shape (now slots) ⌝ }
     ensures { λ r. ⌜ ((d : Design) (w : Parts (now (file .entry)) d) → r ≡ evalBool (layoutOf shape) (now (slots .entry)) (d .invariant)) ⌝ }
 {
     let stands = invariant(file);
@@ -36,7 +36,7 @@ pub fn invariant_true(
 
 // Whether status and event hold together at no invalid cell.
 pub fn no_invalid(file: &[u8], events: &[u16; EVENT_PLACES], shape: Shape, slots: &[u16]) -> bool
-    requires { ⌜ Ready (now file) (now events) shape (now slots) ⌝ }
+    requires { ⌜ ReadyState (now file) (now events) shape (now slots) ⌝ }
     ensures { λ r. ⌜ ((d : Design) (w : Parts (now (file .entry)) d) → r ≡ noInvalid (layoutOf shape) (now (slots .entry)) (d .invalid)) ⌝ }
 {
     let count = trailer_word(file, CELLS);
@@ -62,7 +62,7 @@ pub fn property_true(
     property: u64,
     slots: &[u16],
 ) -> bool
-    requires { ⌜ Ready (now file) (now events) shape (now slots) ⌝ }
+    requires { ⌜ ReadyState (now file) (now events) shape (now slots) ⌝ }
     ensures { λ r. ⌜ ((d : Design) (w : Parts (now (file .entry)) d) → r ≡ holds d (propertyOf d property) (now (slots .entry))) ⌝ }
 {
     if property == 0 {

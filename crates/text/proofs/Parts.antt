@@ -23,21 +23,21 @@ use Rattle.clauses.specs.Encode.{wordsToWrite, filled, encode}
 use Rattle.clauses.specs.Replies.{EncodeExit, encodeExit, ENCODE}
 use Rattle.clauses.specs.declared.encode.EncodeReply.{EncodeReply}
 use Rattle.clauses.specs.declared.encode.EncodeReply.the-variants.{Refused, Encoded}
-use Rattle.clauses.proofs.Sizes.{words-join}
-use Rattle.text.specs.Text.{signedText, Written}
+use Rattle.clauses.proofs.SizeNumbers.{words-join}
+use Rattle.text.specs.Text.{signedText, TextWritten}
 use Rattle.text.specs.Trace.{refusalText, maxRead}
 use Rattle.text.specs.Listing.{wordText, wordsText, maxWords, noneOver, wordsToPrint, printed, ofInput, clausesText, partText, partOfInput, isRefused, joined}
 use Rattle.text.proofs.Putting.{written-then, Rest, rest-start, rest-next, rest-end}
 
 -- a word's two cases
 module _ (w : ℤ) {xs ys zs : List ℕ} {at m r : ℕ} where
-  word-as : (t : Bool) → isEnd w ≡ t → Written (signedText w) xs ys at m → Written (cond t 10 32 ∷ []) ys zs m r → Written (wordText w) xs zs at r
-  word-as t e g h = subst (λ (b : Bool). Written (signedText w ++ (cond b 10 32 ∷ [])) xs zs at r) (sym e) (written-then g h)
+  word-as : (t : Bool) → isEnd w ≡ t → TextWritten (signedText w) xs ys at m → TextWritten (cond t 10 32 ∷ []) ys zs m r → TextWritten (wordText w) xs zs at r
+  word-as t e g h = subst (λ (b : Bool). TextWritten (signedText w ++ (cond b 10 32 ∷ [])) xs zs at r) (sym e) (written-then g h)
 
-  pub word-ends : isEnd w ≡ true → Written (signedText w) xs ys at m → Written (10 ∷ []) ys zs m r → Written (wordText w) xs zs at r
+  pub word-ends : isEnd w ≡ true → TextWritten (signedText w) xs ys at m → TextWritten (10 ∷ []) ys zs m r → TextWritten (wordText w) xs zs at r
   word-ends e g h = word-as true e g h
 
-  pub word-goes : isEnd w ≡ false → Written (signedText w) xs ys at m → Written (32 ∷ []) ys zs m r → Written (wordText w) xs zs at r
+  pub word-goes : isEnd w ≡ false → TextWritten (signedText w) xs ys at m → TextWritten (32 ∷ []) ys zs m r → TextWritten (wordText w) xs zs at r
   word-goes e g h = word-as false e g h
 
 -- words, one at a time
@@ -52,13 +52,13 @@ words-split : (ws : List ℤ) (i : ℕ) → i < length ws → wordsText (drop i 
 unfolding wordsText
 words-split ws i h = rw (drop-cons ws i (pos 0) h)
 
-pub words-next : (ws : List ℤ) (i : ℕ) {xs ys zs : List ℕ} {p r : ℕ} → i < length ws → WordsLeft ws i xs ys p → Written (wordText (getD ws i (pos 0))) ys zs p r → r ≤ p + 22 → WordsLeft ws (i + 1) xs zs r
+pub words-next : (ws : List ℤ) (i : ℕ) {xs ys zs : List ℕ} {p r : ℕ} → i < length ws → WordsLeft ws i xs ys p → TextWritten (wordText (getD ws i (pos 0))) ys zs p r → r ≤ p + 22 → WordsLeft ws (i + 1) xs zs r
 words-next ws i h l w n = rw (add-one i) (record {
   rest = rest-next (wordText (getD ws i (pos 0))) (wordsText (drop (suc i) ws)) (words-split ws i h) (l .rest) w;
   near = omega (arith, l .near);
 })
 
-pub words-end : (ws : List ℤ) (i : ℕ) {xs ys : List ℕ} {p : ℕ} → length ws ≤ i → WordsLeft ws i xs ys p → Written (wordsText ws) xs ys 0 p
+pub words-end : (ws : List ℤ) (i : ℕ) {xs ys : List ℕ} {p : ℕ} → length ws ≤ i → WordsLeft ws i xs ys p → TextWritten (wordsText ws) xs ys 0 p
 unfolding wordsText
 words-end ws i h l = rest-end (ap wordsText (drop-of-length-le ws h)) (l .rest)
 
@@ -115,16 +115,16 @@ module _ (file : List ℕ) (p k i : ℕ) (before after : List ℤ) (r : EncodeRe
   refused-no n e = sym (ap isRefused (is-encoded n e .words))
 
   module _ (size : length before ≡ maxWords) {xs ys : List ℕ} {at past : ℕ} where
-    part-as : (x : Answer (List ℤ)) → wordsToWrite file p k i (length before) ≡ x → Written (printed x) xs ys at past → Written (partText file p k i) xs ys at past
+    part-as : (x : Answer (List ℤ)) → wordsToWrite file p k i (length before) ≡ x → TextWritten (printed x) xs ys at past → TextWritten (partText file p k i) xs ys at past
     unfolding partText
     part-as x e w =
-        subst (λ (m : ℕ). Written (printed (wordsToWrite file p k i m)) xs ys at past) size
-        (subst (λ (y : Answer (List ℤ)). Written (printed y) xs ys at past) (sym e) w)
+        subst (λ (m : ℕ). TextWritten (printed (wordsToWrite file p k i m)) xs ys at past) size
+        (subst (λ (y : Answer (List ℤ)). TextWritten (printed y) xs ys at past) (sym e) w)
 
-    pub part-refused : (n q : ℕ) → r ≡ Refused n q → Written (refusalText (refusedAt n q)) xs ys at past → Written (partText file p k i) xs ys at past
+    pub part-refused : (n q : ℕ) → r ≡ Refused n q → TextWritten (refusalText (refusedAt n q)) xs ys at past → TextWritten (partText file p k i) xs ys at past
     part-refused n q e w = part-as (refused n q) (is-refused n q e) w
 
-    pub part-written : (n : ℕ) → r ≡ Encoded n → Written (wordsText (take n after)) xs ys at past → Written (partText file p k i) xs ys at past
+    pub part-written : (n : ℕ) → r ≡ Encoded n → TextWritten (wordsText (take n after)) xs ys at past → TextWritten (partText file p k i) xs ys at past
     part-written n e w = part-as (answer (take n after)) (is-encoded n e .words) w
 
 -- so many texts from i on
@@ -274,12 +274,12 @@ module _ (input : List ℕ) where
       ∙ joined-same (partText (take maxRead (drop 2 input)) (getD input 0 0) (getD input 1 0)) (partOfInput input) (λ j. sym (long-input (λ file p k. partText file p k j) h)) m i
 
   module _ (i : ℕ) {xs ys : List ℕ} {at r : ℕ} where
-    pub input-refused : length input < 2 → Written (refusalText (refusedAt 1 0)) xs ys at r → Written (partOfInput input i) xs ys at r
+    pub input-refused : length input < 2 → TextWritten (refusalText (refusedAt 1 0)) xs ys at r → TextWritten (partOfInput input i) xs ys at r
     unfolding partOfInput
-    input-refused h w = subst (λ (us : List ℕ). Written us xs ys at r) (sym (short-input (λ file p k. partText file p k i) h)) w
+    input-refused h w = subst (λ (us : List ℕ). TextWritten us xs ys at r) (sym (short-input (λ file p k. partText file p k i) h)) w
 
-    pub input-part : (file : List ℕ) → 2 ≤ length input → file ≡ take maxRead (drop 2 input) → Written (partText file (getD input 0 0) (getD input 1 0) i) xs ys at r → Written (partOfInput input i) xs ys at r
+    pub input-part : (file : List ℕ) → 2 ≤ length input → file ≡ take maxRead (drop 2 input) → TextWritten (partText file (getD input 0 0) (getD input 1 0) i) xs ys at r → TextWritten (partOfInput input i) xs ys at r
     unfolding partOfInput
     input-part file h q w =
-        subst (λ (us : List ℕ). Written us xs ys at r) (sym (long-input (λ file p k. partText file p k i) h))
-        (subst (λ (f : List ℕ). Written (partText f (getD input 0 0) (getD input 1 0) i) xs ys at r) q w)
+        subst (λ (us : List ℕ). TextWritten us xs ys at r) (sym (long-input (λ file p k. partText file p k i) h))
+        (subst (λ (f : List ℕ). TextWritten (partText f (getD input 0 0) (getD input 1 0) i) xs ys at r) q w)

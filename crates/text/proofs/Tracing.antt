@@ -32,14 +32,14 @@ use Rattle.step.proofs.Answering.{all-below}
 use Rattle.design.specs.declared.shape.Shape.{Shape}
 use Rattle.design.proofs.Indexed.{count-movers}
 use Rattle.step.proofs.Gates.{in-range, zero-passed}
-use Rattle.text.specs.Text.{Written, maxLine}
+use Rattle.text.specs.Text.{TextWritten, maxLine}
 use Rattle.text.specs.Line.{head, slotsText, line}
 use Rattle.text.specs.Trace.{stateLine, nextLines, stateLines, resultText, refusalText, traced, trace, maxRead, replayText}
-use Rattle.text.specs.Ready.{Replayable}
+use Rattle.text.specs.Ready.{ReplayInput}
 use Rattle.text.proofs.Putting.{written-then, Rest, rest-start, rest-next, rest-end}
 
 -- the choices are below the number of movers, by the tables of the file
-pub choices-below : (file cs : List ℕ) → Replayable file cs → (cells : List ℕ) (h : Shape) → Shaped file h → MoversIndexed file cells h → (i : ℕ) → i < length cs → getD cs i 0 < h .normals + h .externals
+pub choices-below : (file cs : List ℕ) → ReplayInput file cs → (cells : List ℕ) (h : Shape) → Shaped file h → MoversIndexed file cells h → (i : ℕ) → i < length cs → getD cs i 0 < h .normals + h .externals
 choices-below file cs r cells h s m i l =
     let t = read file (r .design) in
     omega (arith, r .below (t .tree) (t .is) i l, count-movers file cells h s m (t .tree) (t .is))
@@ -47,16 +47,16 @@ choices-below file cs r cells h s m i l =
 -- the line of a state, by the numbers of variables and matrices in the file
 pub state-written : (file : List ℕ) (d : Design) → Parts file d → (nv nm : ℕ) (p : Property) (i mover : ℕ) (idled held : Bool) (s : State) {xs ys zs : List ℕ} {at m r : ℕ}
     → nv ≡ variableCount file → nm ≡ matrixCount file → held ≡ holds d p s
-    → Written (head i mover idled held) xs ys at m → Written (slotsText nv nm s) ys zs m r
-    → Written (stateLine d p i mover idled s) xs zs at r
+    → TextWritten (head i mover idled held) xs ys at m → TextWritten (slotsText nv nm s) ys zs m r
+    → TextWritten (stateLine d p i mover idled s) xs zs at r
 unfolding stateLine line
 state-written file d w nv nm p i mover idled held s {xs} {ys} {zs} {at} {m} {r} e q h g k =
     let L = layout-is file d w nv nm e q in
     let n : nm ≡ nv + nm - nv = omega arith in
-    subst (λ (b : Bool). Written (line i mover idled b (take (length (d .variables)) (map signed s)) (map pos (statusesIn (layout d) s))) xs zs at r) h
-    (subst (λ (l : Layout). Written (line i mover idled held (take (length (d .variables)) (map signed s)) (map pos (statusesIn l s))) xs zs at r) L
-    (subst (λ (v : ℕ). Written (line i mover idled held (take v (map signed s)) (map pos (take (nv + nm - nv) (drop nv s)))) xs zs at r) (e ∙ sym (w .variable-count))
-    (subst (λ (j : ℕ). Written (line i mover idled held (take nv (map signed s)) (map pos (take j (drop nv s)))) xs zs at r) n (written-then g k))))
+    subst (λ (b : Bool). TextWritten (line i mover idled b (take (length (d .variables)) (map signed s)) (map pos (statusesIn (layout d) s))) xs zs at r) h
+    (subst (λ (l : Layout). TextWritten (line i mover idled held (take (length (d .variables)) (map signed s)) (map pos (statusesIn l s))) xs zs at r) L
+    (subst (λ (v : ℕ). TextWritten (line i mover idled held (take v (map signed s)) (map pos (take (nv + nm - nv) (drop nv s)))) xs zs at r) (e ∙ sym (w .variable-count))
+    (subst (λ (j : ℕ). TextWritten (line i mover idled held (take nv (map signed s)) (map pos (take j (drop nv s)))) xs zs at r) n (written-then g k))))
 
 -- what is left of the choices, printed now, is the whole printed at the start
 pub record Printing (file : List ℕ) (p : ℕ) (cs : List ℕ) (s₀ : State) (xs : List ℕ) (at i : ℕ) (s : State) (ys : List ℕ) (q : ℕ) : Type 0 where
@@ -78,7 +78,7 @@ module _ (file : List ℕ) (p : ℕ) (cs : List ℕ) (s₀ : State) (xs : List �
       ∙ ap₂ (λ (b : Bool) (t : State). stateLine d (propertyOf d p) (suc i) c b t ++ nextLines d (propertyOf d p) (suc i) t (drop (suc i) cs)) (sym (k .1)) (sym (k .0))
 
   pub printing-on : i < length cs → (c : ℕ) → c ≡ getD cs i 0 → (s′ : State) (u : Bool) → length s′ ≡ length s → ((d : Design) → check file ≡ accepted d → (s′ ≡ step d s c) × (u ≡ idle d s c)) → (zs : List ℕ) (r : ℕ)
-      → ((d : Design) (w : Parts file d) → Written (stateLine d (propertyOf d p) (i + 1) c u s′) ys zs q r) → r ≤ q + maxLine → length zs ≡ length ys → Printing file p cs s₀ xs at (i + 1) s′ zs r
+      → ((d : Design) (w : Parts file d) → TextWritten (stateLine d (propertyOf d p) (i + 1) c u s′) ys zs q r) → r ≤ q + maxLine → length zs ≡ length ys → Printing file p cs s₀ xs at (i + 1) s′ zs r
   printing-on l c e s′ u n k zs r h m z = rw (add-one i) (record {
     inside = omega arith;
     state = n ∙ g .state;
@@ -86,25 +86,25 @@ module _ (file : List ℕ) (p : ℕ) (cs : List ℕ) (s₀ : State) (xs : List �
     size = z ∙ g .size;
     rest = λ d t.
         rest-next (stateLine d (propertyOf d p) (suc i) c u s′) (nextLines d (propertyOf d p) (suc i) s′ (drop (suc i) cs)) (next-lines d c s′ u l e (k d t)) (g .rest d t)
-        (subst (λ (j : ℕ). Written (stateLine d (propertyOf d p) j c u s′) ys zs q r) (add-one i) (h d (whole file d t .parts)));
+        (subst (λ (j : ℕ). TextWritten (stateLine d (propertyOf d p) j c u s′) ys zs q r) (add-one i) (h d (whole file d t .parts)));
   })
 
-  pub printing-end : length cs ≤ i → (d : Design) → check file ≡ accepted d → Written (nextLines d (propertyOf d p) 0 s₀ cs) xs ys at q
+  pub printing-end : length cs ≤ i → (d : Design) → check file ≡ accepted d → TextWritten (nextLines d (propertyOf d p) 0 s₀ cs) xs ys at q
   unfolding nextLines
   printing-end l d e = rest-end (ap (nextLines d (propertyOf d p) i s) (drop-of-length-le cs l)) (g .rest d e)
 
 -- the first state's line and the others
-pub states-written : (d : Design) (p : Property) (cs : List ℕ) (s : State) {xs ys zs : List ℕ} {m r : ℕ} → s ≡ start d → Written (stateLine d p 0 0 false s) xs ys 0 m → Written (nextLines d p 0 s cs) ys zs m r → Written (stateLines d p cs) xs zs 0 r
+pub states-written : (d : Design) (p : Property) (cs : List ℕ) (s : State) {xs ys zs : List ℕ} {m r : ℕ} → s ≡ start d → TextWritten (stateLine d p 0 0 false s) xs ys 0 m → TextWritten (nextLines d p 0 s cs) ys zs m r → TextWritten (stateLines d p cs) xs zs 0 r
 unfolding stateLines
-states-written d p cs s {xs} {ys} {zs} {m} {r} e g h = subst (λ (t : State). Written (stateLine d p 0 0 false t ++ nextLines d p 0 t cs) xs zs 0 r) e (written-then g h)
+states-written d p cs s {xs} {ys} {zs} {m} {r} e g h = subst (λ (t : State). TextWritten (stateLine d p 0 0 false t ++ nextLines d p 0 t cs) xs zs 0 r) e (written-then g h)
 
 -- a refusal, by the number that is printed
-pub refusal-as : (n number place : ℕ) {xs ys : List ℕ} {at r : ℕ} → n ≡ number → Written (refusalText (refusedAt n place)) xs ys at r → Written (refusalText (refusedAt number place)) xs ys at r
-refusal-as n number place {xs} {ys} {at} {r} e w = subst (λ (k : ℕ). Written (refusalText (refusedAt k place)) xs ys at r) e w
+pub refusal-as : (n number place : ℕ) {xs ys : List ℕ} {at r : ℕ} → n ≡ number → TextWritten (refusalText (refusedAt n place)) xs ys at r → TextWritten (refusalText (refusedAt number place)) xs ys at r
+refusal-as n number place {xs} {ys} {at} {r} e w = subst (λ (k : ℕ). TextWritten (refusalText (refusedAt k place)) xs ys at r) e w
 
 -- a result, by the test of it
-pub result-as : (b t : Bool) (i : ℕ) {xs ys : List ℕ} {at r : ℕ} → b ≡ t → Written (resultText t i) xs ys at r → Written (resultText b i) xs ys at r
-result-as b t i {xs} {ys} {at} {r} e w = subst (λ (u : Bool). Written (resultText u i) xs ys at r) (sym e) w
+pub result-as : (b t : Bool) (i : ℕ) {xs ys : List ℕ} {at r : ℕ} → b ≡ t → TextWritten (resultText t i) xs ys at r → TextWritten (resultText b i) xs ys at r
+result-as b t i {xs} {ys} {at} {r} e w = subst (λ (u : Bool). TextWritten (resultText u i) xs ys at r) (sym e) w
 
 -- a call of REPLAY that is not refused
 module _ (file : List ℕ) (p : ℕ) (cs : List ℕ) where
@@ -133,7 +133,7 @@ module _ (file : List ℕ) (p : ℕ) (cs : List ℕ) where
     unfolding REPLAY
     gated z = sym (ap (λ (r : Refusal). r .number) (ap (λ (x : Replayed). x .refusal) says ∙ same-refusal (gate file p (length cs) asked))) ∙ z
 
-    pub replayable : told .refusal .number ≡ 0 → Replayable file cs
+    pub replayable : told .refusal .number ≡ 0 → ReplayInput file cs
     replayable z =
         let g = zero-passed file p (length cs) asked (gated z) in
         let t = read file (g .accepted) in
@@ -149,9 +149,9 @@ module _ (file : List ℕ) (p : ℕ) (cs : List ℕ) where
     refusal-traced (refused n k) z = refl
     refusal-traced (accepted d) z = sym (ap (λ (t : Bool). cond t (stateLines d (propertyOf d p) cs ++ resultText (told .broken) (told .step)) (refusalText (told .refusal))) (ne-eqb (told .refusal .number) 0 z))
 
-    pub trace-refused : {xs ys : List ℕ} {at r : ℕ} → (told .refusal .number ≡ 0 → ⊥) → Written (refusalText (told .refusal)) xs ys at r → Written (trace file p cs) xs ys at r
+    pub trace-refused : {xs ys : List ℕ} {at r : ℕ} → (told .refusal .number ≡ 0 → ⊥) → TextWritten (refusalText (told .refusal)) xs ys at r → TextWritten (trace file p cs) xs ys at r
     unfolding trace
-    trace-refused {xs} {ys} {at} {r} z w = subst (λ (us : List ℕ). Written us xs ys at r) (refusal-traced (check file) z ∙ ap (λ (x : Replayed). traced (check file) x p cs) says) w
+    trace-refused {xs} {ys} {at} {r} z w = subst (λ (us : List ℕ). TextWritten us xs ys at r) (refusal-traced (check file) z ∙ ap (λ (x : Replayed). traced (check file) x p cs) says) w
 
     done-traced : (d : Design) → check file ≡ accepted d → told .refusal .number ≡ 0 → stateLines d (propertyOf d p) cs ++ resultText (told .broken) (told .step) ≡ trace file p cs
     unfolding trace
@@ -159,26 +159,26 @@ module _ (file : List ℕ) (p : ℕ) (cs : List ℕ) where
         sym (ap (λ (t : Bool). cond t (stateLines d (propertyOf d p) cs ++ resultText (told .broken) (told .step)) (refusalText (told .refusal))) (eq-eqb (told .refusal .number) 0 z))
         ∙ ap₂ (λ (c : Checked) (x : Replayed). traced c x p cs) (sym e) says
 
-    pub trace-done : {xs ys zs : List ℕ} {at m r : ℕ} → told .refusal .number ≡ 0 → ((d : Design) → check file ≡ accepted d → Written (stateLines d (propertyOf d p) cs) xs ys at m) → Written (resultText (told .broken) (told .step)) ys zs m r → Written (trace file p cs) xs zs at r
+    pub trace-done : {xs ys zs : List ℕ} {at m r : ℕ} → told .refusal .number ≡ 0 → ((d : Design) → check file ≡ accepted d → TextWritten (stateLines d (propertyOf d p) cs) xs ys at m) → TextWritten (resultText (told .broken) (told .step)) ys zs m r → TextWritten (trace file p cs) xs zs at r
     trace-done {xs} {ys} {zs} {at} {m} {r} z g h =
         let t = read file (replayable z .design) in
-        subst (λ (us : List ℕ). Written us xs zs at r) (done-traced (t .tree) (t .is) z) (written-then (g (t .tree) (t .is)) h)
+        subst (λ (us : List ℕ). TextWritten us xs zs at r) (done-traced (t .tree) (t .is) z) (written-then (g (t .tree) (t .is)) h)
 
 -- the input's parts
 module _ (input : List ℕ) {xs ys : List ℕ} {at r : ℕ} where
-  pub text-short : length input < 2 + getD input 1 0 → Written (refusalText (refusedAt 1 0)) xs ys at r → Written (replayText input) xs ys at r
+  pub text-short : length input < 2 + getD input 1 0 → TextWritten (refusalText (refusedAt 1 0)) xs ys at r → TextWritten (replayText input) xs ys at r
   unfolding replayText
-  text-short h w = subst (λ (t : Bool). Written (cond t (trace (take maxRead (drop (2 + getD input 1 0) input)) (getD input 0 0) (take (getD input 1 0) (drop 2 input))) (refusalText (refusedAt 1 0))) xs ys at r) (sym (lt-leb (2 + getD input 1 0) (length input) h)) w
+  text-short h w = subst (λ (t : Bool). TextWritten (cond t (trace (take maxRead (drop (2 + getD input 1 0) input)) (getD input 0 0) (take (getD input 1 0) (drop 2 input))) (refusalText (refusedAt 1 0))) xs ys at r) (sym (lt-leb (2 + getD input 1 0) (length input) h)) w
 
   pub text-whole : (front end : ℕ) → front ≡ 2 + getD input 1 0 → front ≤ length input → take (end - front) (drop front input) ≡ take maxRead (drop front input)
-      → Written (trace (take (end - front) (drop front input)) (getD input 0 0) (take (front - 2) (drop 2 input))) xs ys at r → Written (replayText input) xs ys at r
+      → TextWritten (trace (take (end - front) (drop front input)) (getD input 0 0) (take (front - 2) (drop 2 input))) xs ys at r → TextWritten (replayText input) xs ys at r
   unfolding replayText
   text-whole front end e l q w =
       let c : front - 2 ≡ getD input 1 0 = omega arith in
-      subst (λ (t : Bool). Written (cond t (trace (take maxRead (drop (2 + getD input 1 0) input)) (getD input 0 0) (take (getD input 1 0) (drop 2 input))) (refusalText (refusedAt 1 0))) xs ys at r) (sym (le-leb (2 + getD input 1 0) (length input) (omega arith)))
-      (subst (λ (k : ℕ). Written (trace (take maxRead (drop k input)) (getD input 0 0) (take (getD input 1 0) (drop 2 input))) xs ys at r) e
-      (subst (λ (k : ℕ). Written (trace (take maxRead (drop front input)) (getD input 0 0) (take k (drop 2 input))) xs ys at r) c
-      (subst (λ (us : List ℕ). Written (trace us (getD input 0 0) (take (front - 2) (drop 2 input))) xs ys at r) q w)))
+      subst (λ (t : Bool). TextWritten (cond t (trace (take maxRead (drop (2 + getD input 1 0) input)) (getD input 0 0) (take (getD input 1 0) (drop 2 input))) (refusalText (refusedAt 1 0))) xs ys at r) (sym (le-leb (2 + getD input 1 0) (length input) (omega arith)))
+      (subst (λ (k : ℕ). TextWritten (trace (take maxRead (drop k input)) (getD input 0 0) (take (getD input 1 0) (drop 2 input))) xs ys at r) e
+      (subst (λ (k : ℕ). TextWritten (trace (take maxRead (drop front input)) (getD input 0 0) (take k (drop 2 input))) xs ys at r) c
+      (subst (λ (us : List ℕ). TextWritten (trace us (getD input 0 0) (take (front - 2) (drop 2 input))) xs ys at r) q w)))
 
 -- no more design bytes than are read
 pub read-part : (input : List ℕ) (front end : ℕ) → (length input - front ≤ maxRead → end ≡ length input) → (maxRead < length input - front → end - front ≡ maxRead) → take (end - front) (drop front input) ≡ take maxRead (drop front input)

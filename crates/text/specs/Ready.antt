@@ -8,7 +8,7 @@ use Rattle.design.specs.Check.{check, accepted}
 use Rattle.design.specs.Places.{Accepted}
 use Rattle.step.specs.Limits.{maxBound}
 
-pub record Replayable (file cs : List ℕ) : Type 0 where
+pub record ReplayInput (file cs : List ℕ) : Type 0 where
   pub design : Accepted file
   pub few : length cs ≤ maxBound
   pub below : (d : Design) → check file ≡ accepted d → (i : ℕ) → i < length cs → getD cs i 0 < length (movers d)

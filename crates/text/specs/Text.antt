@@ -27,7 +27,7 @@ put at [] xs = xs
 put at (w ∷ ws) xs = put (suc at) ws (set xs at w)
 
 -- what a function that writes text leaves: the bytes put at a position, and the position past them
-pub record Written (ws xs ys : List ℕ) (at r : ℕ) : Type 0 where
+pub record TextWritten (ws xs ys : List ℕ) (at r : ℕ) : Type 0 where
   pub bytes : ys ≡ put at ws xs
   pub past : r ≡ at + length ws
 

@@ -4,7 +4,7 @@ ghost use Prim.Native.Nat.{_+_, _*_, _≤_};
 ghost use lib.IntN.{pos};
 ghost use lib.ListN.{length, take, drop};
 ghost use Rattle.step.specs.Pattern.{signed};
-ghost use Rattle.text.specs.Text.{Written};
+ghost use Rattle.text.specs.Text.{TextWritten};
 ghost use Rattle.text.specs.Line.{spaced, moverText, flagText, head, slotsText};
 use super::number::put_byte;
 use super::number::put_decimal;
@@ -13,7 +13,7 @@ use super::number::put_pattern;
 // The values of the first n slots, each with a space before it.
 pub fn put_values(out: &mut [u8], at: usize, n: usize, slots: &[u16]) -> usize
     requires { ⌜ (n ≤ length (now slots)) × (at + 22 * n ≤ length (now out)) ⌝ }
-    ensures { λ r. ⌜ Written (spaced (take n (map signed (now (slots .entry))))) (now (out .entry)) (now (out .exit)) at r × (r ≤ at + 22 * n) ⌝ }
+    ensures { λ r. ⌜ TextWritten (spaced (take n (map signed (now (slots .entry))))) (now (out .entry)) (now (out .exit)) at r × (r ≤ at + 22 * n) ⌝ }
 {
     let mut p = at;
     let mut i = 0;
@@ -28,7 +28,7 @@ pub fn put_values(out: &mut [u8], at: usize, n: usize, slots: &[u16]) -> usize
 // The statuses, which are the k slots from n on, likewise.
 pub fn put_statuses(out: &mut [u8], at: usize, n: usize, k: usize, slots: &[u16]) -> usize
     requires { ⌜ (n + k ≤ length (now slots)) × (at + 22 * k ≤ length (now out)) ⌝ }
-    ensures { λ r. ⌜ Written (spaced (map pos (take k (drop n (now (slots .entry)))))) (now (out .entry)) (now (out .exit)) at r × (r ≤ at + 22 * k) ⌝ }
+    ensures { λ r. ⌜ TextWritten (spaced (map pos (take k (drop n (now (slots .entry)))))) (now (out .entry)) (now (out .exit)) at r × (r ≤ at + 22 * k) ⌝ }
 {
     let mut p = at;
     let mut i = 0;
@@ -43,7 +43,7 @@ pub fn put_statuses(out: &mut [u8], at: usize, n: usize, k: usize, slots: &[u16]
 // The mover of a step, or - at step 0.
 fn put_mover(out: &mut [u8], at: usize, step: usize, mover: usize) -> usize
     requires { ⌜ at + 20 ≤ length (now out) ⌝ }
-    ensures { λ r. ⌜ Written (moverText step mover) (now (out .entry)) (now (out .exit)) at r × (r ≤ at + 20) ⌝ }
+    ensures { λ r. ⌜ TextWritten (moverText step mover) (now (out .entry)) (now (out .exit)) at r × (r ≤ at + 20) ⌝ }
 {
     if step == 0 {
         put_byte(out, at, 45)
@@ -55,7 +55,7 @@ fn put_mover(out: &mut [u8], at: usize, step: usize, mover: usize) -> usize
 // A space and 1 or 0.
 fn put_flag(out: &mut [u8], at: usize, flag: bool) -> usize
     requires { ⌜ at + 2 ≤ length (now out) ⌝ }
-    ensures { λ r. ⌜ Written (flagText flag) (now (out .entry)) (now (out .exit)) at r × (r ≤ at + 2) ⌝ }
+    ensures { λ r. ⌜ TextWritten (flagText flag) (now (out .entry)) (now (out .exit)) at r × (r ≤ at + 2) ⌝ }
 {
     let m = put_byte(out, at, 32);
     if flag {
@@ -75,7 +75,7 @@ pub fn put_head(
     holds: bool,
 ) -> usize
     requires { ⌜ at + 45 ≤ length (now out) ⌝ }
-    ensures { λ r. ⌜ Written (head step mover idle holds) (now (out .entry)) (now (out .exit)) at r × (r ≤ at + 45) ⌝ }
+    ensures { λ r. ⌜ TextWritten (head step mover idle holds) (now (out .entry)) (now (out .exit)) at r × (r ≤ at + 45) ⌝ }
 {
     let a = put_decimal(out, at, step);
     let b = put_byte(out, a, 32);
@@ -87,7 +87,7 @@ pub fn put_head(
 // The other fields: the first n slots are variables, the k slots after them statuses.
 pub fn put_tail(out: &mut [u8], at: usize, n: usize, k: usize, slots: &[u16]) -> usize
     requires { ⌜ (at + 22 * n + 22 * k + 3 ≤ length (now out)) × (n + k ≤ length (now slots)) ⌝ }
-    ensures { λ r. ⌜ Written (slotsText n k (now (slots .entry))) (now (out .entry)) (now (out .exit)) at r × (r ≤ at + 22 * n + 22 * k + 3) ⌝ }
+    ensures { λ r. ⌜ TextWritten (slotsText n k (now (slots .entry))) (now (out .entry)) (now (out .exit)) at r × (r ≤ at + 22 * n + 22 * k + 3) ⌝ }
 {
     let b = put_values(out, at, n, slots);
     let c = put_byte(out, b, 32);

@@ -4,7 +4,7 @@ ghost use Prim.Native.Nat.{_+_, _-_, _*_, _≤_, _<_};
 ghost use lib.IntN.{pos};
 ghost use lib.ListN.{length, getD};
 ghost use Rattle.clauses.specs.Encode.{wordsToWrite};
-ghost use Rattle.text.specs.Text.{Written};
+ghost use Rattle.text.specs.Text.{TextWritten};
 ghost use Rattle.text.specs.Listing.{wordText, wordsText, wordsToPrint, printed, isRefused, clausesText, partText, partOfInput, joined};
 use super::input::design_end;
 use super::number::put_byte;
@@ -29,7 +29,7 @@ pub struct PartRange {
 // A word, and a newline after a 0, a space after any other.
 fn put_word(out: &mut [u8], at: usize, words: &[i32], i: usize) -> usize
     requires { ⌜ (at + 22 ≤ length (now out)) × (i < length (now words)) ⌝ }
-    ensures { λ r. ⌜ Written (wordText (getD (now (words .entry)) i (pos 0))) (now (out .entry)) (now (out .exit)) at r × (r ≤ at + 22) ⌝ }
+    ensures { λ r. ⌜ TextWritten (wordText (getD (now (words .entry)) i (pos 0))) (now (out .entry)) (now (out .exit)) at r × (r ≤ at + 22) ⌝ }
 {
     let m = put_signed(out, at, words, i);
     if ends(words, i) {
@@ -41,7 +41,7 @@ fn put_word(out: &mut [u8], at: usize, words: &[i32], i: usize) -> usize
 // The text of words, at the front.
 fn put_words(words: &[i32], out: &mut [u8]) -> usize
     requires { ⌜ 22 * length (now words) ≤ length (now out) ⌝ }
-    ensures { λ r. ⌜ Written (wordsText (now (words .entry))) (now (out .entry)) (now (out .exit)) 0 r × (r ≤ 22 * length (now (words .entry))) ⌝ }
+    ensures { λ r. ⌜ TextWritten (wordsText (now (words .entry))) (now (out .entry)) (now (out .exit)) 0 r × (r ≤ 22 * length (now (words .entry))) ⌝ }
 {
     let mut p = 0;
     let mut i = 0;
@@ -62,7 +62,7 @@ fn put_part(
     out: &mut [u8],
 ) -> usize
     requires { ⌜ (length (now words) ≡ 16384) × (360448 ≤ length (now out)) ⌝ }
-    ensures { λ r. ⌜ Written (partText (now (file .entry)) property bound part) (now (out .entry)) (now (out .exit)) 0 r × (r ≤ 360448) ⌝ }
+    ensures { λ r. ⌜ TextWritten (partText (now (file .entry)) property bound part) (now (out .entry)) (now (out .exit)) 0 r × (r ≤ 360448) ⌝ }
 {
     match encode(file, property as u64, bound as u64, part, words) {
         EncodeReply::Refused { number, place } => put_refusal(out, number, place),
@@ -120,7 +120,7 @@ pub fn parts_of(input: &[u8], words: &mut [i32]) -> PartRange
 // The text of one of these parts, at the front.
 pub fn put_part_of(input: &[u8], part: u64, words: &mut [i32], out: &mut [u8]) -> usize
     requires { ⌜ (length (now words) ≡ 16384) × (360448 ≤ length (now out)) ⌝ }
-    ensures { λ r. ⌜ Written (partOfInput (now (input .entry)) part) (now (out .entry)) (now (out .exit)) 0 r × (r ≤ 360448) ⌝ }
+    ensures { λ r. ⌜ TextWritten (partOfInput (now (input .entry)) part) (now (out .entry)) (now (out .exit)) 0 r × (r ≤ 360448) ⌝ }
 {
     if input.len() < 2 {
         return put_refusal(out, 1, 0);

@@ -4,14 +4,14 @@ ghost use Prim.Native.Nat.{_+_, _≤_, _<_};
 ghost use lib.IntN.{pos};
 ghost use lib.ListN.{length, getD};
 ghost use Rattle.step.specs.Pattern.{signed};
-ghost use Rattle.text.specs.Text.{digits, decimal, signedText, Written};
+ghost use Rattle.text.specs.Text.{digits, decimal, signedText, TextWritten};
 use search::words::sign;
 use search::words::variable;
 
 // A byte.
 pub fn put_byte(out: &mut [u8], at: usize, b: u8) -> usize
     requires { ⌜ at < length (now out) ⌝ }
-    ensures { λ r. ⌜ Written (b ∷ []) (now (out .entry)) (now (out .exit)) at r ⌝ }
+    ensures { λ r. ⌜ TextWritten (b ∷ []) (now (out .entry)) (now (out .exit)) at r ⌝ }
 {
     out[at] = b;
     at + 1
@@ -20,7 +20,7 @@ pub fn put_byte(out: &mut [u8], at: usize, b: u8) -> usize
 // The bytes, one after the other.
 pub fn put_bytes(out: &mut [u8], at: usize, bytes: &[u8]) -> usize
     requires { ⌜ at + length (now bytes) ≤ length (now out) ⌝ }
-    ensures { λ r. ⌜ Written (now (bytes .entry)) (now (out .entry)) (now (out .exit)) at r ⌝ }
+    ensures { λ r. ⌜ TextWritten (now (bytes .entry)) (now (out .entry)) (now (out .exit)) at r ⌝ }
 {
     let mut p = at;
     let mut i = 0;
@@ -34,7 +34,7 @@ pub fn put_bytes(out: &mut [u8], at: usize, bytes: &[u8]) -> usize
 // At most `left` decimal digits of n.
 pub fn put_digits(out: &mut [u8], at: usize, n: usize, left: usize) -> usize
     requires { ⌜ at + left ≤ length (now out) ⌝ }
-    ensures { λ r. ⌜ Written (digits left n) (now (out .entry)) (now (out .exit)) at r ⌝ }
+    ensures { λ r. ⌜ TextWritten (digits left n) (now (out .entry)) (now (out .exit)) at r ⌝ }
 {
     if left == 0 {
         return at;
@@ -49,7 +49,7 @@ pub fn put_digits(out: &mut [u8], at: usize, n: usize, left: usize) -> usize
 // A number: 20 digits are enough for any usize.
 pub fn put_decimal(out: &mut [u8], at: usize, n: usize) -> usize
     requires { ⌜ at + 20 ≤ length (now out) ⌝ }
-    ensures { λ r. ⌜ Written (decimal n) (now (out .entry)) (now (out .exit)) at r × (r ≤ at + 20) ⌝ }
+    ensures { λ r. ⌜ TextWritten (decimal n) (now (out .entry)) (now (out .exit)) at r × (r ≤ at + 20) ⌝ }
 {
     put_digits(out, at, n, 20)
 }
@@ -57,7 +57,7 @@ pub fn put_decimal(out: &mut [u8], at: usize, n: usize) -> usize
 // The integer that stands at `i`.
 pub fn put_signed(out: &mut [u8], at: usize, words: &[i32], i: usize) -> usize
     requires { ⌜ (at + 21 ≤ length (now out)) × (i < length (now words)) ⌝ }
-    ensures { λ r. ⌜ Written (signedText (getD (now (words .entry)) i (pos 0))) (now (out .entry)) (now (out .exit)) at r × (r ≤ at + 21) ⌝ }
+    ensures { λ r. ⌜ TextWritten (signedText (getD (now (words .entry)) i (pos 0))) (now (out .entry)) (now (out .exit)) at r × (r ≤ at + 21) ⌝ }
 {
     let n = variable(words, i);
     let s = sign(words, i);
@@ -71,7 +71,7 @@ pub fn put_signed(out: &mut [u8], at: usize, words: &[i32], i: usize) -> usize
 // The signed number that a 16-bit pattern stands for.
 pub fn put_pattern(out: &mut [u8], at: usize, p: u16) -> usize
     requires { ⌜ at + 21 ≤ length (now out) ⌝ }
-    ensures { λ r. ⌜ Written (signedText (signed p)) (now (out .entry)) (now (out .exit)) at r × (r ≤ at + 21) ⌝ }
+    ensures { λ r. ⌜ TextWritten (signedText (signed p)) (now (out .entry)) (now (out .exit)) at r × (r ≤ at + 21) ⌝ }
 {
     if p < 32768 {
         return put_decimal(out, at, p as usize);

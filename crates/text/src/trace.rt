@@ -9,10 +9,10 @@ ghost use Rattle.design.specs.State.{slotCount};
 ghost use Rattle.design.specs.Sections.{Parts};
 ghost use Rattle.step.specs.Property.{propertyOf};
 ghost use Rattle.step.specs.Operations.{refusedAt};
-ghost use Rattle.step.specs.Ready.{Ready};
-ghost use Rattle.text.specs.Text.{Written, maxLine, maxText};
+ghost use Rattle.step.specs.Ready.{ReadyState};
+ghost use Rattle.text.specs.Text.{TextWritten, maxLine, maxText};
 ghost use Rattle.text.specs.Trace.{stateLine, nextLines, stateLines, resultText, refusalText, trace, replayText};
-ghost use Rattle.text.specs.Ready.{Replayable};
+ghost use Rattle.text.specs.Ready.{ReplayInput};
 use super::input::design_end;
 use super::line::put_head;
 use super::line::put_tail;
@@ -35,7 +35,7 @@ use step::replaying::load_start;
 // `refused N at P`, at the front.
 pub fn put_refusal(out: &mut [u8], number: u8, place: usize) -> usize
     requires { ⌜ maxLine ≤ length (now out) ⌝ }
-    ensures { λ r. ⌜ Written (refusalText (refusedAt number place)) (now (out .entry)) (now (out .exit)) 0 r × (r ≤ maxLine) ⌝ }
+    ensures { λ r. ⌜ TextWritten (refusalText (refusedAt number place)) (now (out .entry)) (now (out .exit)) 0 r × (r ≤ maxLine) ⌝ }
 {
     let a = put_bytes(out, 0, b"refused ");
     let b = put_decimal(out, a, wide(number));
@@ -47,7 +47,7 @@ pub fn put_refusal(out: &mut [u8], number: u8, place: usize) -> usize
 // `broken at N`, or `holds`.
 pub fn put_result(out: &mut [u8], at: usize, broken: bool, step: usize) -> usize
     requires { ⌜ at + maxLine ≤ length (now out) ⌝ }
-    ensures { λ r. ⌜ Written (resultText broken step) (now (out .entry)) (now (out .exit)) at r × (r ≤ at + maxLine) ⌝ }
+    ensures { λ r. ⌜ TextWritten (resultText broken step) (now (out .entry)) (now (out .exit)) at r × (r ≤ at + maxLine) ⌝ }
 {
     if broken {
         let a = put_bytes(out, at, b"broken at ");
@@ -70,8 +70,10 @@ pub fn put_state(
     out: &mut [u8],
     at: usize,
 ) -> usize
-    requires { ⌜ Ready (now file) (now events) shape (now slots) × (at + maxLine ≤ length (now out)) ⌝ }
-    ensures { λ r. ⌜ ((d : Design) (w : Parts (now (file .entry)) d) → Written (stateLine d (propertyOf d property) step mover idle (now (slots .entry))) (now (out .entry)) (now (out .exit)) at r) × (r ≤ at + maxLine) × (length (now (out .exit)) ≡ length (now (out .entry))) ⌝ }
+    requires { ⌜ ReadyState (now file) (now events) shape (now slots) × (at + maxLine ≤ length (now out)) ⌝ }
+    ensures { λ r. ⌜ ((d : Design) (w : Parts (now (file .entry)) d)
+        → TextWritten (stateLine d (propertyOf d property) step mover idle (now (slots .entry))) (now (out .entry)) (now (out .exit)) at r)
+        × (r ≤ at + maxLine) × (length (now (out .exit)) ≡ length (now (out .entry))) ⌝ }
 {
     let holds = property_true(file, events, shape, property, slots);
     let a = put_head(out, at, step, mover, idle, holds);
@@ -90,8 +92,12 @@ pub fn put_next(
     out: &mut [u8],
     at: usize,
 ) -> usize
-    requires { ⌜ Ready (now file) (now events) shape (now slots) × MoversIndexed (now file) (now cells) shape × (at + maxLine * length (now choices) ≤ length (now out)) × ((i : ℕ) → i < length (now choices) → getD (now choices) i 0 < shape .normals + shape .externals) ⌝ }
-    ensures { λ r. ⌜ ((d : Design) → check (now (file .entry)) ≡ accepted d → Written (nextLines d (propertyOf d property) 0 (now (slots .entry)) (now (choices .entry))) (now (out .entry)) (now (out .exit)) at r) × (r ≤ at + maxLine * length (now (choices .entry))) × (length (now (out .exit)) ≡ length (now (out .entry))) ⌝ }
+    requires { ⌜ ReadyState (now file) (now events) shape (now slots) × MoversIndexed (now file) (now cells) shape
+        × (at + maxLine * length (now choices) ≤ length (now out)) × ((i : ℕ) → i < length (now choices)
+        → getD (now choices) i 0 < shape .normals + shape .externals) ⌝ }
+    ensures { λ r. ⌜ ((d : Design) → check (now (file .entry)) ≡ accepted d
+        → TextWritten (nextLines d (propertyOf d property) 0 (now (slots .entry)) (now (choices .entry))) (now (out .entry)) (now (out .exit)) at r)
+        × (r ≤ at + maxLine * length (now (choices .entry))) × (length (now (out .exit)) ≡ length (now (out .entry))) ⌝ }
 {
     let mut p = at;
     let mut i = 0;
@@ -115,8 +121,12 @@ pub fn put_states(
     slots: &mut [u16],
     out: &mut [u8],
 ) -> usize
-    requires { ⌜ Ready (now file) (now events) shape (now slots) × MoversIndexed (now file) (now cells) shape × (maxLine + maxLine * length (now choices) ≤ length (now out)) × ((i : ℕ) → i < length (now choices) → getD (now choices) i 0 < shape .normals + shape .externals) × (now slots ≡ replicate (slotCount shape) 0) ⌝ }
-    ensures { λ r. ⌜ ((d : Design) → check (now (file .entry)) ≡ accepted d → Written (stateLines d (propertyOf d property) (now (choices .entry))) (now (out .entry)) (now (out .exit)) 0 r) × (r ≤ maxLine + maxLine * length (now (choices .entry))) × (length (now (out .exit)) ≡ length (now (out .entry))) ⌝ }
+    requires { ⌜ ReadyState (now file) (now events) shape (now slots) × MoversIndexed (now file) (now cells) shape
+        × (maxLine + maxLine * length (now choices) ≤ length (now out)) × ((i : ℕ) → i < length (now choices)
+        → getD (now choices) i 0 < shape .normals + shape .externals) × (now slots ≡ replicate (slotCount shape) 0) ⌝ }
+    ensures { λ r. ⌜ ((d : Design) → check (now (file .entry)) ≡ accepted d
+        → TextWritten (stateLines d (propertyOf d property) (now (choices .entry))) (now (out .entry)) (now (out .exit)) 0 r)
+        × (r ≤ maxLine + maxLine * length (now (choices .entry))) × (length (now (out .exit)) ≡ length (now (out .entry))) ⌝ }
 {
     load_start(file, shape, slots);
     let a = put_state(file, events, shape, property, 0, 0, false, slots, out, 0);
@@ -125,8 +135,10 @@ pub fn put_states(
 
 // The lines of all states, for a call of REPLAY that is not refused.
 pub fn put_run(file: &[u8], property: u64, choices: &[u8], out: &mut [u8]) -> usize
-    requires { ⌜ Replayable (now file) (now choices) × (maxLine + maxLine * length (now choices) ≤ length (now out)) ⌝ }
-    ensures { λ r. ⌜ ((d : Design) → check (now (file .entry)) ≡ accepted d → Written (stateLines d (propertyOf d property) (now (choices .entry))) (now (out .entry)) (now (out .exit)) 0 r) × (r ≤ maxLine + maxLine * length (now (choices .entry))) × (length (now (out .exit)) ≡ length (now (out .entry))) ⌝ }
+    requires { ⌜ ReplayInput (now file) (now choices) × (maxLine + maxLine * length (now choices) ≤ length (now out)) ⌝ }
+    ensures { λ r. ⌜ ((d : Design) → check (now (file .entry)) ≡ accepted d
+        → TextWritten (stateLines d (propertyOf d property) (now (choices .entry))) (now (out .entry)) (now (out .exit)) 0 r)
+        × (r ≤ maxLine + maxLine * length (now (choices .entry))) × (length (now (out .exit)) ≡ length (now (out .entry))) ⌝ }
 {
     let mut cells = [0u16; MAX_MOVERS];
     let normals = index_cells(file, &mut cells);
@@ -150,7 +162,7 @@ pub fn put_run(file: &[u8], property: u64, choices: &[u8], out: &mut [u8]) -> us
 // The lines of all states and the result, or the refusal alone.
 pub fn put_trace(file: &[u8], property: u8, choices: &[u8], out: &mut [u8]) -> usize
     requires { ⌜ maxText ≤ length (now out) ⌝ }
-    ensures { λ r. ⌜ Written (trace (now (file .entry)) property (now (choices .entry))) (now (out .entry)) (now (out .exit)) 0 r × (r ≤ maxText) ⌝ }
+    ensures { λ r. ⌜ TextWritten (trace (now (file .entry)) property (now (choices .entry))) (now (out .entry)) (now (out .exit)) 0 r × (r ≤ maxText) ⌝ }
 {
     let told = step::replay(file, property as u64, choices);
     let refusal = told.refusal;
@@ -164,7 +176,7 @@ pub fn put_trace(file: &[u8], property: u8, choices: &[u8], out: &mut [u8]) -> u
 // All that the Replay program prints for its input.
 pub fn put_replay(input: &[u8], out: &mut [u8]) -> usize
     requires { ⌜ maxText ≤ length (now out) ⌝ }
-    ensures { λ r. ⌜ Written (replayText (now (input .entry))) (now (out .entry)) (now (out .exit)) 0 r × (r ≤ maxText) ⌝ }
+    ensures { λ r. ⌜ TextWritten (replayText (now (input .entry))) (now (out .entry)) (now (out .exit)) 0 r × (r ≤ maxText) ⌝ }
 {
     if input.len() < 2 {
         return put_refusal(out, 1, 0);

@@ -18,7 +18,7 @@ use Rattle.step.specs.Limits.{lastProperty, maxBound}
 use Rattle.clauses.specs.Size.{Sizes, sizesOf, size}
 use Rattle.verdict.specs.Verdict.{Told, judge, Memory, After, memoryLeft, roomFor, afterCall, verdict}
 use Rattle.verdict.specs.Answers.{exit}
-use Rattle.verdict.specs.Loop.{Ready}
+use Rattle.verdict.specs.Loop.{ReadyMemory}
 use Rattle.verdict.specs.declared.answer.Reply.the-variants.{Refused}
 
 -- A call that answers passed each test.
@@ -191,7 +191,7 @@ module _ {file : List ℕ} {p k : ℕ} {s : Sizes} (z : Sized file p k s) (budge
   short-choices h = refuses λ r. omega (arith, r .choices)
 
   pub ready : ((i : ℕ) → getD file i 0 < 256) → s .words ≤ length (lent .clauses) → s .variables ≤ length (lent .values) → s .variables ≤ length (lent .trail) → k ≤ length (lent .choices)
-      → Ready file p k lent
+      → ReadyMemory file p k lent
   ready bytes a b c e = record {
     design = z .design;
     accepted = z .accepted;

@@ -9,7 +9,7 @@ use Rattle.step.specs.Property.{Property}
 use Rattle.clauses.specs.Words.{words}
 use Rattle.clauses.specs.Formula.{F, n, formula}
 use Rattle.clauses.specs.Cost.{wordsIn, propertyCost, stepWordCount, wordCount}
-use Rattle.clauses.proofs.Sizes.{formula-counts}
+use Rattle.clauses.proofs.SizeNumbers.{formula-counts}
 
 module _ (d : Design) (p : Property) {i k : ℕ} (h : i ≤ k) where
   pub variables-grow : n d p i ≤ n d p k

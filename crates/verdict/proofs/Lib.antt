@@ -1,11 +1,16 @@
+-- Laws of the definitions, in the order of reading.
+-- lists that break a property, and sizes that grow with the bound
 pub mod Breaking
 pub mod Growing
+pub mod Sized
+-- what VERDICT says is so, with its witness: demand 3
 pub mod Judging
 pub mod Calls
 pub mod Witness
 pub mod Theorem
+-- the table of document 01's marked cases
 pub mod Table
+-- the loop over the bounds
 pub mod Loop
 pub mod Searching
 pub mod Standing
-pub mod Sized

@@ -22,7 +22,7 @@ use Rattle.search.specs.declared.Answered.the-variants.{Sat, Unsat, Spent}
 use Rattle.search.specs.declared.Solved.{Solved}
 use Rattle.search.proofs.Values.{length-from}
 use Rattle.verdict.specs.Verdict.{Verdict, VIOLATED, CLEAN, SPENT-AT, Judged, judged, decided, searched, judgedFrom, judge, Memory, choicesLeft, memoryLeft, verdict}
-use Rattle.verdict.specs.Answers.{verdictCode, judgedCode, Exit, exit}
+use Rattle.verdict.specs.Answers.{declaredVerdict, declaredJudged, Exit, exit}
 use Rattle.verdict.specs.Loop.{Judging, Tried}
 use Rattle.verdict.specs.declared.answer.Verdict.the-variants.{Violated, Clean, Spent as SpentAt}
 use Rattle.verdict.specs.declared.answer.Reply.the-variants.{Done}
@@ -189,11 +189,11 @@ module _ (d : Design) (wf : WellFormed d) (number k budget : ℕ) (lent : Memory
       -- what the call comes to, where the verdict is v
       module _ (file : List ℕ) (e : check file ≡ Checked.accepted d) (low : number ≤ lastProperty) (few : k ≤ maxBound) where
         ends : (v : Verdict) (choices′ : List ℕ) → judge d p k budget ≡ judged v (t + r .tries) i o → choices′ ≡ choicesLeft file d number v values′ (lent .choices)
-            → record { reply = Done (record { verdict = verdictCode v; tries = t + r .tries }); memory = record { clauses = clauses′; values = values′; trail = trail′; choices = choices′ } }
+            → record { reply = Done (record { verdict = declaredVerdict v; tries = t + r .tries }); memory = record { clauses = clauses′; values = values′; trail = trail′; choices = choices′ } }
             ≡ exit (verdict file number k budget lent)
         ends v choices′ q cs =
-            ap {B = Exit} (λ (m : Memory). record { reply = Done (record { verdict = verdictCode v; tries = t + r .tries }); memory = m }) (memory-is file v choices′ cs)
-            ∙ ap {B = Exit} (λ (y : Judged). record { reply = Done (judgedCode (y .told)); memory = memoryLeft file d number y lent }) (sym q)
+            ap {B = Exit} (λ (m : Memory). record { reply = Done (record { verdict = declaredVerdict v; tries = t + r .tries }); memory = m }) (memory-is file v choices′ cs)
+            ∙ ap {B = Exit} (λ (y : Judged). record { reply = Done (declaredJudged (y .told)); memory = memoryLeft file d number y lent }) (sym q)
             ∙ ap exit (sym (answers file d e number k budget lent low few room))
 
         pub ends-sat : {choices′ : List ℕ} → r .answer ≡ Sat → choices′ ≡ (decode file number i values′ (lent .choices)) .choices

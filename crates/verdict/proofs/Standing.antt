@@ -21,14 +21,14 @@ use Rattle.search.specs.declared.Solved.{Solved}
 use Rattle.verdict.specs.Verdict.{Memory, verdict}
 use Rattle.verdict.specs.Answers.{exit}
 use Rattle.clauses.specs.Ready.{Written}
-use Rattle.verdict.specs.Loop.{Ready, Tried, Standing}
+use Rattle.verdict.specs.Loop.{ReadyMemory, Tried, Standing}
 use Rattle.verdict.specs.declared.answer.Verdict.the-variants.{Violated, Clean, Spent as SpentAt}
 use Rattle.verdict.specs.declared.answer.Reply.the-variants.{Done}
 use Rattle.verdict.proofs.Calls.{Room, room-for}
 use Rattle.verdict.proofs.Searching.{fresh-bound, tried}
 use Rattle.verdict.proofs.Loop.{judging-start, words-fit, values-fit, trail-fit, tries-fit, judging-next, lengths-kept, ends-sat, ends-spent, ends-clean}
 
-module _ {file : List ℕ} {p k : ℕ} {lent : Memory} (r : Ready file p k lent) where
+module _ {file : List ℕ} {p k : ℕ} {lent : Memory} (r : ReadyMemory file p k lent) where
   abbrev d : Design
   d = r .design
 
@@ -41,7 +41,7 @@ module _ {file : List ℕ} {p k : ℕ} {lent : Memory} (r : Ready file p k lent)
   room : Room d (propertyOf d p) k lent
   room = room-for d (propertyOf d p) k lent (r .room)
 
-pub standing-start : {file : List ℕ} {p k : ℕ} {lent : Memory} (budget : ℕ) → Ready file p k lent → Standing file p k budget lent 0 0 (lent .clauses) (lent .values) (lent .trail) (lent .choices)
+pub standing-start : {file : List ℕ} {p k : ℕ} {lent : Memory} (budget : ℕ) → ReadyMemory file p k lent → Standing file p k budget lent 0 0 (lent .clauses) (lent .values) (lent .trail) (lent .choices)
 standing-start {p = p} {k = k} {lent = lent} budget r = record { ready = r; judging = judging-start (r .design) (wf r) p k budget lent (room r); choices-kept = refl }
 
 module _

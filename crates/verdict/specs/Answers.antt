@@ -8,18 +8,18 @@ use Rattle.verdict.specs.declared.answer.Reply.{Reply}
 use Rattle.verdict.specs.declared.answer.Reply.the-variants.{Refused, Done}
 
 -- document 01's VIOLATED with its step, CLEAN, and SPENT with its bound
-abbrev pub verdictCode : Verdict → declared.Verdict
-verdictCode (VIOLATED i) = Violated i
-verdictCode CLEAN = Clean
-verdictCode (SPENT-AT i) = Spent i
+abbrev pub declaredVerdict : Verdict → declared.Verdict
+declaredVerdict (VIOLATED i) = Violated i
+declaredVerdict CLEAN = Clean
+declaredVerdict (SPENT-AT i) = Spent i
 
-abbrev pub judgedCode : Told → declared-judged.Judged
-judgedCode t = record { verdict = verdictCode (t .verdict); tries = t .tries }
+abbrev pub declaredJudged : Told → declared-judged.Judged
+declaredJudged t = record { verdict = declaredVerdict (t .verdict); tries = t .tries }
 
 -- a refusal's number and place, or the verdict and the tries
-abbrev pub replyCode : Answer Told → Reply
-replyCode (refused number place) = Refused number place
-replyCode (answer t) = Done (judgedCode t)
+abbrev pub declaredReply : Answer Told → Reply
+declaredReply (refused number place) = Refused number place
+declaredReply (answer t) = Done (declaredJudged t)
 
 -- the reply, and lent memory after the call
 pub record Exit : Type 0 where
@@ -27,4 +27,4 @@ pub record Exit : Type 0 where
   pub memory : Memory
 
 abbrev pub exit : After → Exit
-exit a = record { reply = replyCode (a .answer); memory = a .memory }
+exit a = record { reply = declaredReply (a .answer); memory = a .memory }

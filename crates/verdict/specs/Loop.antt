@@ -18,7 +18,7 @@ use Rattle.search.specs.declared.Solved.{Solved}
 use Rattle.verdict.specs.Verdict.{Memory, searched, judgedFrom, judge, roomFor}
 
 -- nothing is refused: the file's design is accepted, the property and the bound are not too high, and there is room
-pub record Ready (file : List ℕ) (p k : ℕ) (lent : Memory) : Type 0 where
+pub record ReadyMemory (file : List ℕ) (p k : ℕ) (lent : Memory) : Type 0 where
   pub design : Design
   pub accepted : check file ≡ Checked.accepted design
   pub bytes : (i : ℕ) → getD file i 0 < 256
@@ -48,6 +48,6 @@ module _ (d : Design) (p : Property) (k budget : ℕ) (lent : Memory) where
 
 -- the loop's invariant
 pub record Standing (file : List ℕ) (p k budget : ℕ) (lent : Memory) (i t : ℕ) (clauses : List ℤ) (values trail choices : List ℕ) : Type 0 where
-  pub ready : Ready file p k lent
+  pub ready : ReadyMemory file p k lent
   pub judging : Judging (ready .design) (propertyOf (ready .design) p) k budget lent i t clauses values trail
   pub choices-kept : choices ≡ lent .choices

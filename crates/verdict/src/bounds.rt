@@ -2,7 +2,7 @@
 ghost use mathlib.Core.Path.{_≡_};
 ghost use Rattle.verdict.specs.Verdict.{verdict as verdictOf};
 ghost use Rattle.verdict.specs.Answers.{exit};
-ghost use Rattle.verdict.specs.Loop.{Ready};
+ghost use Rattle.verdict.specs.Loop.{ReadyMemory};
 use super::answer::Judged;
 use super::answer::Reply;
 use super::answer::Verdict;
@@ -22,8 +22,13 @@ pub fn judge(
     trail: &mut [u32],
     choices: &mut [u8],
 ) -> Judged
-    requires { ⌜ Ready (now file) property bound (record { clauses = now clauses; values = now values; trail = now trail; choices = now choices }) ⌝ }
-    ensures { λ r. ⌜ record { reply = Reply.Done r; memory = record { clauses = now (clauses .exit); values = now (values .exit); trail = now (trail .exit); choices = now (choices .exit) } } ≡ exit (verdictOf (now (file .entry)) property bound budget (record { clauses = now (clauses .entry); values = now (values .entry); trail = now (trail .entry); choices = now (choices .entry) })) ⌝ }
+    requires { ⌜ ReadyMemory (now file) property bound (record { clauses = now clauses; values = now values; trail = now trail; choices = now choices }) ⌝ }
+    ensures { λ r. ⌜ record {
+      reply = Reply.Done r;
+      memory = record { clauses = now (clauses .exit); values = now (values .exit); trail = now (trail .exit); choices = now (choices .exit) };
+    }
+        ≡ exit (verdictOf (now (file .entry)) property bound budget
+        (record { clauses = now (clauses .entry); values = now (values .entry); trail = now (trail .entry); choices = now (choices .entry) })) ⌝ }
 {
     let mut i: u64 = 0;
     let mut tries: u64 = 0;

@@ -26,7 +26,9 @@ pub fn verdict(
     trail: &mut [u32],
     choices: &mut [u8],
 ) -> Reply
-    ensures { λ r. ⌜ record { reply = r; memory = record { clauses = now (clauses .exit); values = now (values .exit); trail = now (trail .exit); choices = now (choices .exit) } } ≡ exit (verdictOf (now (file .entry)) property bound budget (record { clauses = now (clauses .entry); values = now (values .entry); trail = now (trail .entry); choices = now (choices .entry) })) ⌝ }
+    ensures { λ r. ⌜ record { reply = r; memory = record { clauses = now (clauses .exit); values = now (values .exit); trail = now (trail .exit); choices = now (choices .exit) } }
+        ≡ exit (verdictOf (now (file .entry)) property bound budget
+        (record { clauses = now (clauses .entry); values = now (values .entry); trail = now (trail .entry); choices = now (choices .entry) })) ⌝ }
 {
     match size(file, property, bound) {
         SizeReply::Refused { number, place } => Reply::Refused { number, place },

@@ -1,5 +1,5 @@
 use native.Mathlib.Omega.{arith}
-use Rattle.clauses.proofs.Inside.{bool-few}
+use Rattle.clauses.proofs.TextGates.{bool-few}
 use Rattle.clauses.proofs.CellCounts.{sizes, few-gates, none-gates, guard-none, guard-inside, guard-reads, guard-gates}
 use borrow.Author.Needs.{needs}
 use Rattle.clauses.proofs.cells.size_guard.Statement.{statement}

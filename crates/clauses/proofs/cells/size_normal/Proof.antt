@@ -2,7 +2,7 @@ use native.Mathlib.Omega.{arith}
 use Prim.Native.Nat.{ℕ, _+_}
 use mathlib.Core.Path.{ap, ap₂}
 use Rattle.clauses.specs.declared.cost.GatesAt.{GatesAt}
-use Rattle.clauses.proofs.Inside.{list-few}
+use Rattle.clauses.proofs.TextGates.{list-few}
 use Rattle.clauses.proofs.CellCounts.{sizes, kinds, normal-fields, action-reads, normal-gates}
 use borrow.Author.Needs.{needs}
 use Rattle.clauses.proofs.cells.size_normal.Statement.{statement}

@@ -2,7 +2,7 @@ use native.Mathlib.Omega.{arith}
 use mathlib.Core.Logic.{inl, inr, ⊎-elim}
 use mathlib.Core.Path.{_∙_}
 use Rattle.step.proofs.Values.{bool-live, bool-unknown, not-first, logic-first, compare-first}
-use Rattle.clauses.proofs.Inside.{int-few, bool-few}
+use Rattle.clauses.proofs.TextGates.{int-few, bool-few}
 use Rattle.clauses.proofs.GateCounts.{bool-name, bool-negated, bool-then, bool-joined, compare-then, equal-joined, less-joined}
 use Prim.Native.Nat.{ℕ, _<_}
 use borrow.Fn.Kinds.{In}

@@ -2,7 +2,7 @@ use native.Mathlib.Omega.{arith}
 use mathlib.Core.Logic.{inl, inr, ⊎-elim}
 use mathlib.Core.Path.{_∙_}
 use Rattle.step.proofs.Values.{int-live, int-unknown, int-first}
-use Rattle.clauses.proofs.Inside.{int-few}
+use Rattle.clauses.proofs.TextGates.{int-few}
 use Rattle.clauses.proofs.GateCounts.{int-then, int-number, int-name, int-joined}
 use Prim.Native.Nat.{ℕ, _<_}
 use borrow.Fn.Kinds.{In}

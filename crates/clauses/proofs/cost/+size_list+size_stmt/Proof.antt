@@ -5,7 +5,7 @@ use mathlib.Core.Logic.{inl, inr, ⊎-elim}
 use Rattle.design.specs.Check.{namesOf}
 use Rattle.clauses.specs.declared.cost.GatesAt.{GatesAt}
 use Rattle.step.proofs.Runs.{stmt-unknown, list-live, stmt-live, seq-first, assign-live, if-test, if-deep}
-use Rattle.clauses.proofs.Inside.{bool-few, statement-few, list-few}
+use Rattle.clauses.proofs.TextGates.{bool-few, statement-few, list-few}
 use Rattle.clauses.proofs.ActionCounts.{Counting, counting-start, counting-on, counting-few, counting-end, stated-assign, if-first, first-on, if-second, second-on, if-joined}
 use Prim.Native.Nat.{ℕ, _<_}
 use borrow.Fn.Kinds.{In}

@@ -1,7 +1,7 @@
 use native.Mathlib.Omega.{arith}
 use mathlib.Core.Path.{sym, _∙_}
 use borrow.Author.Tests.{not-true, not-false}
-use Rattle.clauses.proofs.Choosing.{chosen-none, chosen-odd, chosen-more, chosen-one}
+use Rattle.clauses.proofs.FlagChoices.{chosen-none, chosen-odd, chosen-more, chosen-one}
 use borrow.Author.Needs.{needs}
 use Rattle.clauses.proofs.decode.chosen.Statement.{statement}
 use Rattle.clauses.proofs.decode.chosen.Tie as tie

@@ -1,5 +1,5 @@
 use Rattle.step.proofs.Gates.{gate-passed}
-use Rattle.clauses.proofs.Decodes.{decode-refused}
+use Rattle.clauses.proofs.DecodeCall.{decode-refused}
 use borrow.Author.Needs.{needs}
 use Rattle.clauses.proofs.decode.decode.Statement.{statement}
 use Rattle.clauses.proofs.decode.decode.Tie as tie

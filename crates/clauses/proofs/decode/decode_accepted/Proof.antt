@@ -1,6 +1,6 @@
 use native.Mathlib.Omega.{arith}
 use mathlib.Core.Path.{refl}
-use Rattle.clauses.proofs.Decodes.{short-values, short-choices, frames-fit, bad-frame, good-frames}
+use Rattle.clauses.proofs.DecodeCall.{short-values, short-choices, frames-fit, bad-frame, good-frames}
 use borrow.Author.Needs.{needs}
 use Rattle.clauses.proofs.decode.decode_accepted.Statement.{statement}
 use Rattle.clauses.proofs.decode.decode_accepted.Tie as tie

@@ -1,6 +1,6 @@
 use native.Mathlib.Omega.{arith}
 use Prim.Native.Nat.{_-_}
-use Rattle.clauses.proofs.Choosing.{Testing, testing-start, testing-on, testing-bad, testing-end, frame-inside, flags-inside}
+use Rattle.clauses.proofs.FlagChoices.{Testing, testing-start, testing-on, testing-bad, testing-end, frame-inside, flags-inside}
 use borrow.Author.Needs.{needs}
 use Rattle.clauses.proofs.decode.first_bad.Statement.{statement}
 use Rattle.clauses.proofs.decode.first_bad.Tie as tie

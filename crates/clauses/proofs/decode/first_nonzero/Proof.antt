@@ -1,6 +1,6 @@
 use Prim.Native.Nat.{_-_}
 use lib.ListN.{length}
-use Rattle.clauses.proofs.Choosing.{Passing, passing-start, passing-on, passing-found, passing-end}
+use Rattle.clauses.proofs.FlagChoices.{Passing, passing-start, passing-on, passing-found, passing-end}
 use borrow.Author.Needs.{needs}
 use Rattle.clauses.proofs.decode.first_nonzero.Statement.{statement}
 use Rattle.clauses.proofs.decode.first_nonzero.Tie as tie

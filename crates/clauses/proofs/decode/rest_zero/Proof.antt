@@ -1,6 +1,6 @@
 use Prim.Native.Nat.{_-_}
 use lib.ListN.{length}
-use Rattle.clauses.proofs.Choosing.{Zeros, zero-start, zero-on, zero-found, zero-end}
+use Rattle.clauses.proofs.FlagChoices.{Zeros, zero-start, zero-on, zero-found, zero-end}
 use borrow.Author.Needs.{needs}
 use Rattle.clauses.proofs.decode.rest_zero.Statement.{statement}
 use Rattle.clauses.proofs.decode.rest_zero.Tie as tie

@@ -1,6 +1,6 @@
 use native.Mathlib.Omega.{arith}
 use Prim.Native.Nat.{_-_}
-use Rattle.clauses.proofs.Choosing.{Writing, writing-start, writing-on, writing-end, frame-inside, flags-inside, flags-long}
+use Rattle.clauses.proofs.FlagChoices.{Writing, writing-start, writing-on, writing-end, frame-inside, flags-inside, flags-long}
 use borrow.Author.Needs.{needs}
 use Rattle.clauses.proofs.decode.write_choices.Statement.{statement}
 use Rattle.clauses.proofs.decode.write_choices.Tie as tie

@@ -1,6 +1,6 @@
 use native.Mathlib.Omega.{arith}
 use Rattle.step.proofs.Gates.{gate-passed}
-use Rattle.clauses.proofs.Encodes.{encode-refused, encode-part}
+use Rattle.clauses.proofs.EncodeCall.{encode-refused, encode-part}
 use borrow.Author.Needs.{needs}
 use Rattle.clauses.proofs.encode.encode.Statement.{statement}
 use Rattle.clauses.proofs.encode.encode.Tie as tie

@@ -1,5 +1,5 @@
 use native.Mathlib.Omega.{arith}
-use Rattle.clauses.proofs.Encodes.{encode-short, encode-done}
+use Rattle.clauses.proofs.EncodeCall.{encode-short, encode-done}
 use Rattle.clauses.proofs.EmitFormula.{frame-ready, normals-few}
 use borrow.Author.Needs.{needs}
 use Rattle.clauses.proofs.encode.encode_accepted.Statement.{statement}

@@ -1,5 +1,5 @@
 use native.Mathlib.Omega.{arith}
-use Rattle.clauses.proofs.Encodes.{formula-written, writable-accepted}
+use Rattle.clauses.proofs.EncodeCall.{formula-written, writable-accepted}
 use Rattle.clauses.proofs.EmitFormula.{frame-ready, normals-few}
 use borrow.Author.Needs.{needs}
 use Rattle.clauses.proofs.encode.write_formula.Statement.{statement}

@@ -1,6 +1,6 @@
 use native.Mathlib.Omega.{arith}
 use Rattle.step.proofs.Gates.{gate-passed}
-use Rattle.clauses.proofs.Sizing.{size-refused, size-answer}
+use Rattle.clauses.proofs.SizeCall.{size-refused, size-answer}
 use borrow.Author.Needs.{needs}
 use Rattle.clauses.proofs.size.size.Statement.{statement}
 use Rattle.clauses.proofs.size.size.Tie as tie

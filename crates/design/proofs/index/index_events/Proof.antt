@@ -6,9 +6,10 @@ use Rattle.design.specs.Check.{matricesOffset, matrixCount}
 use Rattle.design.proofs.Tables.{bounds, matrix-in, few-events, EventsGoing, events-start, row-inside, events-on, events-end}
 use Rattle.design.proofs.index.index_events.Statement.{statement}
 use Rattle.design.proofs.index.index_events.Tie as tie
+use Rattle.design.specs.Limits.{eventPlaces}
 
 abbrev Inv-loop : tie.InvT-loop
-Inv-loop file table₀ mats nm p₀ m₀ table p m = (mats ≡ matricesOffset file) × (nm ≡ matrixCount file) × EventsGoing file p m table × (length table ≡ 128)
+Inv-loop file table₀ mats nm p₀ m₀ table p m = (mats ≡ matricesOffset file) × (nm ≡ matrixCount file) × EventsGoing file p m table × (length table ≡ eventPlaces)
 
 abbrev μ-loop : tie.MeasureT-loop
 μ-loop file table₀ mats nm p₀ m₀ table p m = nm - m

@@ -6,9 +6,10 @@ use lib.ListN.{replicate, take, drop}
 use Rattle.step.proofs.Entries.{Copying, copying-start, copying-from, copied}
 use Rattle.step.proofs.interface.give_statuses.Statement.{statement}
 use Rattle.step.proofs.interface.give_statuses.Tie as tie
+use Rattle.design.specs.Limits.{maxMatrices}
 
 abbrev Inv-loop : tie.InvT-loop
-Inv-loop n k slots out₀ i₀ out i = (i ≤ k) × Copying (replicate 8 0) 0 (drop n slots) i out
+Inv-loop n k slots out₀ i₀ out i = (i ≤ k) × Copying (replicate maxMatrices 0) 0 (drop n slots) i out
 
 abbrev μ-loop : tie.MeasureT-loop
 μ-loop n k slots out₀ i₀ out i = k - i
@@ -40,15 +41,15 @@ loop-less c = omega arith
 loop-again : tie.Need-loop-again Inv-loop μ-loop
 loop-again c = (
   omega arith,
-  copying-from 8 (c .before .before .before .args .n) (c .before .before .before .args .slots .now) (c .before .before .loop .i) (c
+  copying-from maxMatrices (c .before .before .before .args .n) (c .before .before .before .args .slots .now) (c .before .before .loop .i) (c
       .before .before .loop .out) _ (omega arith) (omega arith) refl (c .before .before .loop .inv .1),
 )
 
 returns : tie.Need-returns Inv-loop μ-loop
 returns c =
     let args = c .before .before .args in
-    copied 8 _ 0 (drop (args .n) (args .slots .now)) _ (omega arith) (c .before .loop .inv .1)
-    ∙ ap (λ (k : ℕ). take k (drop (args .n) (args .slots .now)) ++ replicate (8 - k) 0) (let z : c .before .loop .i ≡ args .k = omega arith in z)
+    copied maxMatrices _ 0 (drop (args .n) (args .slots .now)) _ (omega arith) (c .before .loop .inv .1)
+    ∙ ap (λ (k : ℕ). take k (drop (args .n) (args .slots .now)) ++ replicate (maxMatrices - k) 0) (let z : c .before .loop .i ≡ args .k = omega arith in z)
 
 pub give-statuses-spec : {M : Type 1} → statement M
 give-statuses-spec =

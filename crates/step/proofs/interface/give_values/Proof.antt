@@ -9,9 +9,10 @@ use Rattle.step.proofs.Signed.{stored}
 use Rattle.step.proofs.Entries.{Copying, copying-start, copying-mapped, copied}
 use Rattle.step.proofs.interface.give_values.Statement.{statement}
 use Rattle.step.proofs.interface.give_values.Tie as tie
+use Rattle.design.specs.Limits.{maxVariables}
 
 abbrev Inv-loop : tie.InvT-loop
-Inv-loop n slots out₀ i₀ out i = (i ≤ n) × Copying (replicate 32 (pos 0)) 0 (map signed slots) i out
+Inv-loop n slots out₀ i₀ out i = (i ≤ n) × Copying (replicate maxVariables (pos 0)) 0 (map signed slots) i out
 
 abbrev μ-loop : tie.MeasureT-loop
 μ-loop n slots out₀ i₀ out i = n - i
@@ -43,7 +44,7 @@ loop-less c = omega arith
 loop-again : tie.Need-loop-again Inv-loop μ-loop
 loop-again c = (
   omega arith,
-  copying-mapped 32 signed (pos 0) 0 (c .before .before .before .before .before .args .slots .now) (c .before .before .before .loop .i) (c
+  copying-mapped maxVariables signed (pos 0) 0 (c .before .before .before .before .before .args .slots .now) (c .before .before .before .loop .i) (c
       .before .before .before .loop .out) _ (omega arith) (omega arith) (stored _ _ (omega (
         arith,
         c .before .shared-slice-known2 .given (c .before
@@ -53,8 +54,8 @@ loop-again c = (
 
 returns : tie.Need-returns Inv-loop μ-loop
 returns c =
-    copied 32 _ (pos 0) (map signed (c .before .before .before .args .slots .now)) _ (omega arith) (c .before .loop .inv .1) ∙ ap (λ (k : ℕ). take k (map
-    signed (c .before .before .before .args .slots .now)) ++ replicate (32 - k) (pos 0)) (let z : c .before .loop .i ≡ c .before .before .before
+    copied maxVariables _ (pos 0) (map signed (c .before .before .before .args .slots .now)) _ (omega arith) (c .before .loop .inv .1) ∙ ap (λ (k : ℕ). take k (map
+    signed (c .before .before .before .args .slots .now)) ++ replicate (maxVariables - k) (pos 0)) (let z : c .before .loop .i ≡ c .before .before .before
     .args .n = omega arith in z)
 
 pub give-values-spec : {M : Type 1} → statement M

@@ -9,12 +9,13 @@ use Rattle.step.proofs.Signed.{loaded}
 use Rattle.step.proofs.Entries.{Copying, copying-start, copying-mapped, copied-all}
 use Rattle.step.proofs.interface.patterns.Statement.{statement}
 use Rattle.step.proofs.interface.patterns.Tie as tie
+use Rattle.design.specs.Limits.{maxVariables}
 
 abbrev Inv-loop : tie.InvT-loop
-Inv-loop values out₀ i₀ out i = (i ≤ 32) × Copying (replicate 32 0) 0 (map wrap values) i out
+Inv-loop values out₀ i₀ out i = (i ≤ maxVariables) × Copying (replicate maxVariables 0) 0 (map wrap values) i out
 
 abbrev μ-loop : tie.MeasureT-loop
-μ-loop values out₀ i₀ out i = 32 - i
+μ-loop values out₀ i₀ out i = maxVariables - i
 
 loop-holds : tie.Need-loop-holds Inv-loop μ-loop
 loop-holds c = (omega arith, copying-start _ _ _)
@@ -43,7 +44,7 @@ loop-less c = omega arith
 loop-again : tie.Need-loop-again Inv-loop μ-loop
 loop-again c = (
   omega arith,
-  copying-mapped 32 wrap 0 (pos 0) (c .before .before .before .before .args .t1) (c .before .before .before .loop .i) (c .before .before
+  copying-mapped maxVariables wrap 0 (pos 0) (c .before .before .before .before .args .t1) (c .before .before .before .loop .i) (c .before .before
       .before .loop .out) _ (omega arith) (omega (arith, c .before .before .before .before .good .0 .1 .0 .1)) (loaded _ (record {
         sfits = c .before
             .pattern-arg .given;
@@ -52,7 +53,7 @@ loop-again c = (
 
 returns : tie.Need-returns Inv-loop μ-loop
 returns c =
-    copied-all 32 _ 0 (map wrap (c .before .before .args .t1)) _ (omega arith) (length-map (c .before .before .args .t1) wrap ∙ c .before .before .good .0
+    copied-all maxVariables _ 0 (map wrap (c .before .before .args .t1)) _ (omega arith) (length-map (c .before .before .args .t1) wrap ∙ c .before .before .good .0
     .1 .0 .1) (c .before .loop .inv .1)
 
 pub patterns-spec : {M : Type 1} → statement M

@@ -9,12 +9,13 @@ use Rattle.step.specs.Interface.{statusesRight}
 use Rattle.step.proofs.Entries.{LookingAt, statuses-start, statuses-wrong, statuses-right, statuses-end, matrices-inside}
 use Rattle.step.proofs.interface.wrong_status.Statement.{statement}
 use Rattle.step.proofs.interface.wrong_status.Tie as tie
+use Rattle.design.specs.Limits.{maxMatrices}
 
 abbrev Inv-loop : tie.InvT-loop
 Inv-loop file nm ss mats m₀ m = (mats ≡ matricesOffset file) × LookingAt file (λ (d : Design). statusesRight (d .statuses) ss) m
 
 abbrev μ-loop : tie.MeasureT-loop
-μ-loop file nm ss mats m₀ m = 8 - m
+μ-loop file nm ss mats m₀ m = maxMatrices - m
 
 trailer-word-requires : tie.Need-trailer-word-requires Inv-loop μ-loop
 trailer-word-requires c κs = omega (arith, read _ (c .before .pre .0) .all .long)

@@ -8,12 +8,13 @@ use Rattle.design.proofs.Indexed.{variables-inside}
 use Rattle.step.proofs.Entries.{LookingAt, values-start, values-wrong, values-right, values-end}
 use Rattle.step.proofs.interface.wrong_value.Statement.{statement}
 use Rattle.step.proofs.interface.wrong_value.Tie as tie
+use Rattle.design.specs.Limits.{maxVariables}
 
 abbrev Inv-loop : tie.InvT-loop
 Inv-loop file nv ps i₀ i = LookingAt file (λ (d : Design). valuesRight (d .variables) ps) i
 
 abbrev μ-loop : tie.MeasureT-loop
-μ-loop file nv ps i₀ i = 32 - i
+μ-loop file nv ps i₀ i = maxVariables - i
 
 loop-holds : tie.Need-loop-holds Inv-loop μ-loop
 loop-holds c = values-start _ _ (c .before .pre .1) (c .before .args .t3) (c .before .good .1 .1 .0 .1 .0 .1)
