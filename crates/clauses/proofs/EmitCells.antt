@@ -6,27 +6,19 @@ use Prim.Native.Nat.{ℕ, zero, suc, _+_, _*_, _-_, _/_, _%_, _<_, _≤_}
 use native.Mathlib.Omega.{arith}
 use lib.ListN.{getD, length, set, take}
 use lib.Seq.{length-take-le}
-use lib.Dec.{eqb}
 use lib.IntN.{ℤ}
-use borrow.Author.Tests.{eqb-true}
-use Rattle.design.specs.Tree.{BoolExpr, constantB, boolean, Cell, Design, cell, raise, truth}
+use Rattle.design.specs.Tree.{BoolExpr, constantB, Cell, Design, cell, raise, truth}
 use Rattle.design.specs.Limits.{maxBytes, maxVariables, maxMatrices, maxDepth, maxNest, maxBits, eventPlaces}
 use Rattle.design.specs.State.{Layout, statusSlot, statusWidth}
-use Rattle.design.specs.Reading.{Read, got, bad}
-use Rattle.design.specs.Expression.{Names, boolExpr}
-use Rattle.design.specs.Action.{list}
-use Rattle.design.specs.DesignFile.{item, filling, guard, normal, c-matrix, c-status, c-event, c-guard, c-middle, c-past, events}
-use Rattle.design.specs.Check.{namesIn, namesOf, names, trailer, variableCount, matricesOffset, eventIn}
-use Rattle.design.specs.Places.{EventsIndexed, pastEvents, eventsStart}
+use Rattle.design.specs.Reading.{got}
+use Rattle.design.specs.Expression.{boolExpr}
+use Rattle.design.specs.DesignFile.{c-matrix, c-status, c-event, c-guard, c-middle, c-past, events}
+use Rattle.design.specs.Check.{namesOf, names, trailer, matricesOffset, eventIn}
+use Rattle.design.specs.Places.{Indexed}
 use Rattle.design.specs.declared.shape.Shape.{Shape}
-use Rattle.design.specs.Answers.{walked}
-use Rattle.design.specs.Sections.{Parts, NormalRead, EventRead, CellFields}
-use Rattle.design.proofs.Sections.{need-inv, item-same}
-use Rattle.design.proofs.Widths.{state-size, variables-small}
-use Rattle.design.proofs.Items.{variable-ends}
-use Rattle.design.proofs.Positions.{variable-stands}
-use Rattle.design.proofs.Places.{Read as Tree, read, event-stands, cell-fields}
-use Rattle.design.proofs.Tables.{few-events}
+use Rattle.design.specs.Sections.{Parts, NormalRead, CellFields}
+use Rattle.design.proofs.Places.{Read as Tree, read}
+use Rattle.design.proofs.Indexed as indexed
 use Rattle.design.specs.Sections.{NormalCell}
 use Rattle.clauses.specs.Literal.{Literal, positive, negate, trueLiteral, literalOf}
 use Rattle.clauses.specs.Circuit.{Built, give, _>>=_, and!, mux!, equal!, Bits}
@@ -36,7 +28,7 @@ use Rattle.clauses.specs.Formula.{total, variablesFrom}
 use Rattle.clauses.specs.Writing.{fromCode, fromCodes, Emits}
 use Rattle.clauses.specs.FlatState.{widthsFrom, widthsIn, layoutOf, cut, slotsOf, over, Slotted}
 use Rattle.clauses.specs.Encoded.{Writes, Here, listsAt, BoolHere, BoolEncoded, ListEncoded}
-use Rattle.clauses.specs.Ready.{ShapedFile, resultFrom}
+use Rattle.clauses.specs.Ready.{ShapedFile, Ready, resultFrom}
 use Rattle.clauses.specs.declared.gate.Cursor.{Cursor}
 use Rattle.clauses.specs.declared.expression.BoolOut.{BoolOut}
 use Rattle.clauses.specs.declared.action.Done.{Done}
@@ -46,82 +38,55 @@ use Rattle.clauses.proofs.EmitBuilds.{emits-same, emits-result, emits-g
 use Rattle.clauses.proofs.EmitStates.{muxes-flat, status-over}
 
 module _ {file : List ℕ} {shape : Shape} (h : ShapedFile file shape) where
-  abbrev nv : ℕ
-  nv = shape .variables
+  pub sizes : (16 ≤ length file) × (length file ≤ maxBytes) × (shape .matrices ≤ maxMatrices) × (shape .variables ≤ maxVariables)
+  sizes = indexed.sizes file (h .accepted) shape (h .counts)
 
-  abbrev nm : ℕ
-  nm = shape .matrices
-
-  abbrev E : ℕ
-  E = trailer file
-
-  abbrev N : Names
-  N = namesOf file shape
-
-  names-here : N ≡ names file
-  names-here = ap₂ (namesIn file) (h .variables) (h .matrices)
-
-  tree : Tree file
-  tree = read file (h .accepted)
-
-  pub sizes : (16 ≤ length file) × (length file ≤ maxBytes) × (nm ≤ maxMatrices) × (nv ≤ maxVariables)
-  sizes = let b = tree .all in (b .long, b .short, omega (arith, b .matrices, h .matrices), omega (arith, b .variables, h .variables))
-
-  -- the variables stand in the file
-  pub kinds : 3 * nv ≤ length file
-  kinds = go nv (h .variables)
-    where
-      go : (n : ℕ) → n ≡ variableCount file → 3 * n ≤ length file
-      go zero e = omega arith
-      go (suc n) e =
-          let w = tree .all .parts in
-          let v = variable-stands file (tree .tree) w n (omega arith) (record { kind = boolean; initial = 0 }) in
-          let k = variable-ends file E (3 * n) (3 * n + 3) (sym (ap walked v)) in
-          omega (arith, k .1, sizes)
+  pub kinds : 3 * shape .variables ≤ length file
+  kinds = indexed.kinds file (h .accepted) shape (h .counts)
 
   pub few-bits : total (widthsIn file shape) ≤ maxBits
-  few-bits = omega (arith, sizes, state-size file nv nm (total (widthsFrom file 0 nv)) refl, variables-small file 0 nv)
-
-  pub bits-few : shape .bits ≤ maxBits
-  bits-few = omega (arith, few-bits, h .bits)
+  few-bits = omega (arith, h .bits .few, h .bits .total)
 
   pub slotted : (codes : List ℕ) → length codes ≡ maxBits → Slotted file shape codes
   slotted codes e = record {
     kinds = kinds;
     variables = sizes .3;
     matrices = sizes .2;
-    sum = h .bits;
-    few = bits-few;
+    sum = h .bits .total;
+    few = h .bits .few;
     bits = omega (arith, few-bits);
   }
 
+module _ {file table : List ℕ} {shape : Shape} (h : Ready file table shape) where
+  pub walkable : Indexed file table shape
+  walkable = record { accepted = h .shaped .accepted; events = h .events; shaped = h .shaped .counts }
+
+  long : length file ≤ maxBytes
+  long = sizes (h .shaped) .1
+
+  tree : Tree file
+  tree = read file (h .shaped .accepted)
+
   -- event e of matrix m
-  module _ {table : List ℕ} (ev : EventsIndexed file table) (m e : ℕ) (a : m < nm) (b : e < events file (matricesOffset file) m) where
+  module _ (m e : ℕ) (a : m < shape .matrices) (b : e < events file (matricesOffset file) m) where
     abbrev place : ℕ
     place = getD table (16 * m + e) 0
 
     pub event-slot : 16 * m + e < eventPlaces
-    event-slot = omega (arith, few-events file (h .accepted) m (omega (arith, h .matrices)), sizes)
+    event-slot = indexed.event-slot file table shape walkable m e a b
 
-    module _ (d : Design) (w : Parts file d) where
-      event-read : EventRead file E (names file) place (eventIn (w .rows) m e) (pastEvents file (suc e) (eventsStart file m))
-      event-read = subst (λ (p : ℕ). EventRead file E (names file) p (eventIn (w .rows) m e) (pastEvents file (suc e) (eventsStart file m))) (sym (ev .entry m e (omega (arith, h .matrices)) b)) (event-stands file d w m e (omega (arith, h .matrices)) b)
+    pub event-inside : place + 1 + getD file place 0 ≤ trailer file
+    event-inside = indexed.event-inside file table shape walkable m e a b
 
-      pub event-got : (n at : ℕ) → n ≡ place + 1 + getD file place 0 → at ≡ place + 1 → boolExpr file N n maxDepth at ≡ got (eventIn (w .rows) m e) n
-      event-got n at p q =
-          let t = event-read in
-          let z : pastEvents file (suc e) (eventsStart file m) ≡ n = t .past ∙ sym p in
-          ap (λ (x : Names). boolExpr file x n maxDepth at) names-here ∙ ap (boolExpr file (names file) n maxDepth) q ∙ subst (λ (j : ℕ). boolExpr file (names file) j maxDepth (place + 1) ≡ got (eventIn (w .rows) m e) j) z (t .reads)
-
-    pub event-inside : place + 1 + getD file place 0 ≤ E
-    event-inside = let t = event-read (tree .tree) (tree .all .parts) in omega (arith, t .past, t .inside)
+    event-got : (d : Design) (w : Parts file d) (at : ℕ) → at ≡ place → boolExpr file (namesOf file shape) (place + 1 + getD file place 0) maxDepth (at + 1) ≡ got (eventIn (w .rows) m e) (place + 1 + getD file place 0)
+    event-got d w at q = indexed.event-got file table shape walkable m e a b d w _ (at + 1) refl (ap (λ (k : ℕ). k + 1) q)
 
     pub event-here : (at : ℕ) → at ≡ place → BoolHere file file shape (at + 1)
     event-here at q = record {
       end = place + 1 + getD file place 0;
       levels = maxDepth;
-      inside = omega (arith, event-inside, sizes);
-      read = record { tree = eventIn (tree .all .parts .rows) m e; past = place + 1 + getD file place 0; reads = event-got (tree .tree) (tree .all .parts) _ (at + 1) refl (ap (λ (k : ℕ). k + 1) q) };
+      inside = omega (arith, event-inside, long);
+      read = record { tree = eventIn (tree .all .parts .rows) m e; past = place + 1 + getD file place 0; reads = event-got (tree .tree) (tree .all .parts) at q };
     }
 
     -- its gates, where the cell names it by bytes
@@ -129,52 +94,33 @@ module _ {file : List ℕ} {shape : Shape} (h : ShapedFile file shape) where
         → (d : Design) (w : Parts file d) → Writes pen (bool! (layoutOf shape) (slotsOf file shape codes) (eventIn (w .rows) m′ e′)) xs ys (fromCode (r .lit)) (r .pen)
     event-writes m′ e′ at em ee q codes {pen = pen} r k d w =
         emits-same _ _ (ap₂ (λ (a b : ℕ). bool! (layoutOf shape) (slotsOf file shape codes) (eventIn (w .rows) a b) (pen .var)) em ee)
-        (k .encodes (place + 1 + getD file place 0) maxDepth _ _ (omega (arith, event-inside, sizes)) (event-got d w _ (at + 1) refl (ap (λ (k : ℕ). k + 1) q)) .0)
+        (k .encodes (place + 1 + getD file place 0) maxDepth _ _ (omega (arith, event-inside, long)) (event-got d w at q) .0)
 
   -- a normal cell
   module _ (p : ℕ) (x : NormalCell file p) where
     pub normal-fields : CellFields file p
-    normal-fields = cell-fields file (eventIn (x .parts .rows)) p (normal (x .cell)) (x .stands)
+    normal-fields = indexed.normal-fields file table shape walkable p x
 
-    pub is : NormalRead file E (names file) (matricesOffset file) (eventIn (x .parts .rows)) p (x .cell)
-    is = x .stands .1 .entry .1
+    pub is : NormalRead file (trailer file) (names file) (matricesOffset file) (eventIn (x .parts .rows)) p (x .cell)
+    is = indexed.cell-is file table shape walkable p x
 
     pub guard-none : c-guard file p ≡ 0 → x .cell .guard ≡ constantB true
-    guard-none e = sym (item-same _ _ _ _ (sym (ap (guard file E (names file) p) e) ∙ is .guard))
-
-    filled : (k : ℕ) → (k ≡ 0 → ⊥) → (g : BoolExpr) (n : ℕ) → guard file E (names file) p k ≡ item g n → boolExpr file (names file) (c-middle file p) maxDepth (p + 8) ≡ got g (c-middle file p)
-    filled zero z g n e = absurd (z refl)
-    filled (suc k) z g n e = go (boolExpr file (names file) (c-middle file p) maxDepth (p + 8)) e
-      where
-        go : (r : Read BoolExpr) → filling 8 p (c-middle file p) r ≡ item g n → r ≡ got g (c-middle file p)
-        go (got b m) q =
-            let (t, u) = need-inv (eqb m (c-middle file p)) 8 p (item b (c-middle file p)) g n q in
-            ap (got b) (eqb-true m (c-middle file p) t) ∙ ap (λ (y : BoolExpr). got y (c-middle file p)) (item-same _ _ _ _ u)
-        go bad q = let z : _≡_ {A = ℕ} 0 1 = cc in absurd (omega arith)
-
-    pub guard-got : (n : ℕ) → n ≡ c-guard file p → (n ≡ 0 → ⊥) → boolExpr file N (p + 8 + n) maxDepth (p + 8) ≡ got (x .cell .guard) (c-middle file p)
-    guard-got n e z =
-        ap (λ (k : ℕ). boolExpr file N (p + 8 + k) maxDepth (p + 8)) e ∙ ap (λ (y : Names). boolExpr file y (c-middle file p) maxDepth (p + 8)) names-here
-        ∙ filled (c-guard file p) (λ q. z (e ∙ q)) (x .cell .guard) (c-middle file p) (is .guard)
-
-    pub action-got : (m n : ℕ) → m ≡ c-middle file p → n ≡ c-past file p → list file N n maxNest m ≡ got (x .cell .action) n
-    action-got m n a b =
-        ap (λ (y : Names). list file y n maxNest m) names-here ∙ ap (λ (j : ℕ). list file (names file) j maxNest m) b ∙ ap (list file (names file) (c-past file p) maxNest) a ∙ is .action ∙ ap (got (x .cell .action)) (sym b)
+    guard-none = indexed.guard-none file table shape walkable p x
 
     -- a guard that is there, and the action
     pub guard-here : (n : ℕ) → n ≡ c-guard file p → (n ≡ 0 → ⊥) → BoolHere file file shape (p + 8)
-    guard-here n e z = record { end = p + 8 + n; levels = maxDepth; inside = omega (arith, normal-fields .past, sizes); read = record { tree = x .cell .guard; past = c-middle file p; reads = guard-got n e z } }
+    guard-here n e z = record { end = p + 8 + n; levels = maxDepth; inside = omega (arith, normal-fields .past, long); read = record { tree = x .cell .guard; past = c-middle file p; reads = indexed.guard-got file table shape walkable p x n e z } }
 
     pub guard-writes : (n : ℕ) → n ≡ c-guard file p → (n ≡ 0 → ⊥) → (codes : List ℕ) {pen : Cursor} {xs ys : List ℤ} (r : BoolOut) → BoolEncoded file file shape codes (p + 8) pen xs ys r
         → Writes pen (bool! (layoutOf shape) (slotsOf file shape codes) (x .cell .guard)) xs ys (fromCode (r .lit)) (r .pen)
-    guard-writes n e z codes r k = k .encodes (p + 8 + n) maxDepth _ _ (omega (arith, normal-fields .past, sizes)) (guard-got n e z) .0
+    guard-writes n e z codes r k = k .encodes (p + 8 + n) maxDepth _ _ (omega (arith, normal-fields .past, long)) (indexed.guard-got file table shape walkable p x n e z) .0
 
     pub action-here : (m : ℕ) → m ≡ c-middle file p → Here file (listsAt file file shape) m
-    action-here m a = record { end = c-past file p; levels = maxNest; inside = omega (arith, normal-fields .past, sizes); read = record { tree = x .cell .action; past = c-past file p; reads = action-got m (c-past file p) a refl } }
+    action-here m a = record { end = c-past file p; levels = maxNest; inside = omega (arith, normal-fields .past, long); read = record { tree = x .cell .action; past = c-past file p; reads = indexed.action-got file table shape walkable p x m (c-past file p) a refl } }
 
     pub action-writes : (m : ℕ) → m ≡ c-middle file p → (codes after : List ℕ) {pen : Cursor} {xs ys : List ℤ} (r : Done) → ListEncoded file shape codes after m pen xs ys r
         → Writes pen (statements! (x .cell .action) (layoutOf shape) (slotsOf file shape codes)) xs ys (slotsOf file shape after) (r .pen)
-    action-writes m a codes after r k = k .encodes (c-past file p) maxNest _ _ (omega (arith, normal-fields .past, sizes)) (action-got m (c-past file p) a refl) .0
+    action-writes m a codes after r k = k .encodes (c-past file p) maxNest _ _ (omega (arith, normal-fields .past, long)) (indexed.action-got file table shape walkable p x m (c-past file p) a refl) .0
 
 -- gates of a cell's parts
 pub event-emits : (l : Layout) (s : Slots) (m st : ℕ) (event : BoolExpr) (x k : Bits) (q v r : Literal) {n : ℕ} {x0 x1 x2 x3 : List ℤ} {c0 c1 c2 c3 v1 v2 v3 : ℕ} → x ≡ integerAt s (statusSlot l m) → k ≡ constantBits 16 st
@@ -255,7 +201,7 @@ external-emits l s v e r {n = n} {x0 = x0} {c0 = c0} p q w =
     (emits-same _ _ (ap₂ (λ (a : Literal) (b : Slots). muxes! a b s n) p q) w))
 
 -- what a cell's bytes name is what its tree has
-module _ {file : List ℕ} {shape : Shape} (h : ShapedFile file shape) (p : ℕ) (x : NormalCell file p) (l : Layout) (s : Slots) (n : ℕ) where
+module _ {file table : List ℕ} {shape : Shape} (h : Ready file table shape) (p : ℕ) (x : NormalCell file p) (l : Layout) (s : Slots) (n : ℕ) where
   pub cell-event : statusAndEvent! l s (c-matrix file p) (c-status file p) (eventIn (x .parts .rows) (c-matrix file p) (c-event file p)) n ≡ statusAndEvent! l s (x .cell .matrix) (x .cell .status) (x .cell .event) n
   cell-event =
       let i = is h p x in

@@ -220,8 +220,17 @@ frame-ready {file} {events} {cells} {shape} p count s h bytes ei ci small sizes 
     let wf = well-formed file bytes d (t .is) in
     let N = numbers d (propertyOf d p) s wf (sizes d (t .is)) in
     let many = mover-count file d (t .all .parts) in
+    let all = N .bits ∙ sym (bits-by-bytes file d (t .all .parts) (variableCount file) (matrixCount file) refl refl) in
     subst (λ (z : Shape). FrameReady file events cells z s) (sym e) (record {
-      ready = record { shaped = record { accepted = h; variables = refl; matrices = refl; externals = omega (arith, N .movers, many, ci .count); bits = N .bits ∙ sym (bits-by-bytes file d (t .all .parts) (variableCount file) (matrixCount file) refl refl) }; events = ei };
+      ready = record {
+        shaped = record {
+          accepted = h;
+          counts = record { variables = refl; matrices = refl };
+          externals = omega (arith, N .movers, many, ci .count);
+          bits = record { total = all; state = λ d w. all ∙ bits-by-bytes file d w (variableCount file) (matrixCount file) refl refl; few = small .bits };
+        };
+        events = ei;
+      };
       bytes = bytes;
       normals = ci;
       small = small;

@@ -15,7 +15,7 @@ use Rattle.design.specs.Sections.{Run, Parts}
 use Rattle.design.proofs.Places.{read}
 use Rattle.design.specs.Limits.{maxBits}
 use Rattle.design.specs.declared.shape.Shape.{Shape}
-use Rattle.design.proofs.Widths.{state-size, widths-are as widths-by-bytes, bits-are as bits-by-bytes}
+use Rattle.design.proofs.Widths.{state-size, widths-are as widths-by-bytes}
 use Rattle.clauses.specs.Literal.{positive}
 use Rattle.clauses.specs.Words.{words}
 use Rattle.clauses.specs.Circuit.{Bits}
@@ -59,10 +59,10 @@ module _ (file : List ℕ) (shape : Shape) where
 
 module _ {file : List ℕ} {shape : Shape} (h : ShapedFile file shape) (d : Design) (w : Parts file d) where
   widths-are : widthsIn file shape ≡ widths d
-  widths-are = widths-by-bytes file d w (shape .variables) (shape .matrices) (h .variables) (h .matrices)
+  widths-are = widths-by-bytes file d w (shape .variables) (shape .matrices) (h .counts .variables) (h .counts .matrices)
 
   pub bits-are : total (widthsIn file shape) ≡ S d
-  bits-are = bits-by-bytes file d w (shape .variables) (shape .matrices) (h .variables) (h .matrices)
+  bits-are = sym (h .bits .total) ∙ h .bits .state d w
 
   -- a frame's state, from the literals of its variables
   pub state-is : (codes : List ℕ) (v : ℕ) → length codes ≡ maxBits → take (S d) (fromCodes codes) ≡ variablesFrom v (S d) → slotsOf file shape codes ≡ stateAt d v
@@ -139,7 +139,7 @@ map-at R (x ∷ l) (suc c) h = map-at R l c (omega arith)
 
 module _ {file : List ℕ} {shape : Shape} (h : ShapedFile file shape) (d : Design) (w : Parts file d) (wf : WellFormed d) where
   some-bits : 0 < S d
-  some-bits = omega (arith, bits-are h d w, state-size file (shape .variables) (shape .matrices) (total (widthsFrom file 0 (shape .variables))) refl, read file (h .accepted) .all .matrix, h .matrices)
+  some-bits = omega (arith, bits-are h d w, state-size file (shape .variables) (shape .matrices) (total (widthsFrom file 0 (shape .variables))) refl, read file (h .accepted) .all .matrix, h .counts .matrices)
 
   pub firsts-within : (v : ℕ) (s : Slots) (n all : ℕ) (firsts : List ℕ) → s ≡ stateAt d v → all ≡ length (movers d) → all ≤ length firsts
       → map (resultFrom file shape) (take all firsts) ≡ (movers! (layoutOf shape) s (movers d) n) .out → n + length ((movers! (layoutOf shape) s (movers d) n) .gates) ≤ variableLimit

@@ -40,7 +40,7 @@ use Rattle.clauses.proofs.EmitWords.{puts-then, puts-same, words-append
 use Rattle.clauses.proofs.EmitLists.{drop-all, drop-none}
 use Rattle.clauses.proofs.EmitBuilds.{emits-same}
 use Rattle.clauses.proofs.EmitClauses.{PutsLeft, puts-start, puts-on, puts-end}
-use Rattle.clauses.proofs.EmitFrames.{bits-are, state-is}
+use Rattle.clauses.proofs.EmitFrames.{state-is}
 
 abbrev widthsIn : List Variable → List ℕ
 widthsIn vs = map (λ (x : Variable). width (x .kind)) vs
@@ -149,7 +149,7 @@ pub property-out : {file : List ℕ} {shape : Shape} (h : ShapedFile file shape)
     → (d : Design) (w : Parts file d) → v + n + P d (propertyOf d p) ≤ variableLimit → fromCode r ≡ (propertyAt d (propertyOf d p) v) .out
 unfolding propertyAt gateWords
 property-out {file} {shape} h codes p v n y r size en taken ey f d w room =
-    let s : n ≡ S d = en ∙ h .bits ∙ bits-are h d w in
+    let s : n ≡ S d = en ∙ h .bits .state d w in
     let state = state-is h d w codes v size (ap (λ (k : ℕ). take k (fromCodes codes)) (sym s) ∙ taken (omega arith) ∙ ap (variablesFrom v) s) in
     let same : property! d (propertyOf d p) (slotsOf file shape codes) y ≡ property! d (propertyOf d p) (stateAt d v) (v + S d) = ap₂ (λ (a : Slots) (k : ℕ). property! d (propertyOf d p) a k) state (ey ∙ ap (λ (k : ℕ). v + k) s) in
     let b = property! d (propertyOf d p) (stateAt d v) (v + S d) in

@@ -17,11 +17,11 @@ use Rattle.design.specs.State.{Layout, layout}
 use Rattle.design.specs.Reading.{got}
 use Rattle.design.specs.Expression.{boolExpr}
 use Rattle.design.specs.DesignFile.{Entry, normal, invalid, c-matrix, c-status, c-event, c-kind, c-past}
-use Rattle.design.specs.Check.{namesIn, namesOf, trailer, variableCount, matricesOffset, cellsOffset, cellCount, invariantOffset, invalids, names, eventIn}
+use Rattle.design.specs.Check.{namesOf, trailer, variableCount, matricesOffset, cellsOffset, cellCount, invariantOffset, invalids, names, eventIn}
 use Rattle.design.specs.Places.{pastCells, normalPlaces, CellsIndexed}
 use Rattle.design.specs.Sections.{Parts, EntryRead, Standing, CellFields}
 use Rattle.design.proofs.Widths.{layout-is as layout-by-counts}
-use Rattle.design.proofs.Positions.{invariant-stands}
+use Rattle.design.proofs.Indexed as indexed
 use Rattle.design.proofs.Places.{Read as Tree, read, cell-fields, cell-stands, normal-stands}
 use Rattle.design.specs.declared.shape.Shape.{Shape}
 use Rattle.step.specs.Property.{propertyOf}
@@ -94,18 +94,14 @@ module _ {file cells : List ℕ} {shape : Shape} (h : ShapedFile file shape) (x 
       let f = cell-fields file (eventIn (c .parts .rows)) (getD cells i 0) (normal (c .cell)) (c .stands) in
       omega (arith, f .header, sizes h)
 
-  pub few-cells : count ≤ maxMovers
-  few-cells =
-      let m = mover-count file (tree .tree) (tree .all .parts) in
-      omega (arith, m, tree .all .movers, x .count)
-
   externals-same : externalsFrom file 0 nv ≡ externalsFrom file 0 (variableCount file)
-  externals-same = ap (externalsFrom file 0) (h .variables)
+  externals-same = ap (externalsFrom file 0) (h .counts .variables)
 
   pub all-few : count + shape .externals ≤ maxMovers
-  all-few =
-      let m = mover-count file (tree .tree) (tree .all .parts) in
-      omega (arith, m, tree .all .movers, x .count, h .externals, ap length externals-same)
+  all-few = indexed.few-movers file cells shape (h .counts) (record { normals = x; externals = h .externals }) (h .accepted)
+
+  pub few-cells : count ≤ maxMovers
+  few-cells = omega (arith, all-few)
 
   -- mover i
   module _ (l : Layout) (s : Slots) {n : ℕ} {xs ys : List ℤ} {cur : ℕ} {out : Slots} {c v : ℕ} (i : ℕ) where
@@ -297,12 +293,10 @@ module _ (file : List ℕ) (shape : Shape) (codes : List ℕ) where
 -- the invariant, and the layout
 module _ {file : List ℕ} {shape : Shape} (h : ShapedFile file shape) where
   pub invariant-got : (d : Design) (w : Parts file d) (at end : ℕ) → at ≡ invariantOffset file → end ≡ trailer file → boolExpr file (namesOf file shape) end maxDepth at ≡ got (d .invariant) end
-  invariant-got d w at end a e =
-      ap₂ (λ (x y : ℕ). boolExpr file (namesOf file shape) y maxDepth x) a e ∙ ap₂ (λ (x y : ℕ). boolExpr file (namesIn file x y) (trailer file) maxDepth (invariantOffset file)) (h .variables) (h .matrices)
-      ∙ invariant-stands file d w ∙ ap (got (d .invariant)) (sym e)
+  invariant-got d w at end a e = indexed.invariant-got file (h .accepted) shape (h .counts) at end a e d w
 
   pub layout-is : (d : Design) (w : Parts file d) → layout d ≡ layoutOf shape
-  layout-is d w = sym (layout-by-counts file d w (shape .variables) (shape .matrices) (h .variables) (h .matrices))
+  layout-is d w = sym (layout-by-counts file d w (shape .variables) (shape .matrices) (h .counts .variables) (h .counts .matrices))
 
   pub property-0 : (d : Design) (w : Parts file d) (p : ℕ) (s : Slots) (n : ℕ) → p ≡ 0 → bool! (layoutOf shape) s (d .invariant) n ≡ property! d (propertyOf d p) s n
   unfolding property! propertyOf
@@ -329,4 +323,4 @@ module _ {file : List ℕ} {shape : Shape} (h : ShapedFile file shape) where
       emits-same _ _ (property-0 d w p (slotsOf file shape codes) (pen .var) z) (k .encodes (trailer file) maxDepth _ _ (omega (arith, sizes h)) (invariant-got d w at (trailer file) a refl) .0)
 
   pub mover-total : {cells : List ℕ} → CellsIndexed file cells (shape .normals) → (d : Design) (w : Parts file d) → length (movers d) ≡ shape .normals + shape .externals
-  mover-total x d w = omega (arith, mover-count file d w, x .count, h .externals, ap (λ (n : ℕ). length (externalsFrom file 0 n)) (h .variables))
+  mover-total x d w = omega (arith, mover-count file d w, x .count, h .externals, ap (λ (n : ℕ). length (externalsFrom file 0 n)) (h .counts .variables))

@@ -7,8 +7,8 @@ use lib.IntN.{ℤ}
 use Rattle.design.specs.Tree.{BoolExpr, Variable, InvalidCell, Design, Mover, movers}
 use Rattle.design.specs.State.{width}
 use Rattle.design.specs.DesignFile.{c-kind, c-matrix, c-status, c-event}
-use Rattle.design.specs.Check.{Checked, check, variableCount, matrixCount}
-use Rattle.design.specs.Places.{Accepted, EventsIndexed, CellsIndexed, externalsFrom}
+use Rattle.design.specs.Check.{Checked, check}
+use Rattle.design.specs.Places.{Accepted, Shaped, StateBits, EventsIndexed, CellsIndexed, externalsFrom}
 use Rattle.design.specs.Sections.{Parts}
 use Rattle.design.specs.declared.shape.Shape.{Shape}
 use Rattle.step.specs.Property.{Property, propertyOf}
@@ -32,10 +32,9 @@ use Rattle.clauses.specs.declared.instance.Instance.{Instance}
 
 pub record ShapedFile (file : List ℕ) (shape : Shape) : Type 0 where
   pub accepted : Accepted file
-  pub variables : shape .variables ≡ variableCount file
-  pub matrices : shape .matrices ≡ matrixCount file
+  pub counts : Shaped file shape
   pub externals : shape .externals ≡ length (externalsFrom file 0 (shape .variables))
-  pub bits : shape .bits ≡ total (widthsIn file shape)
+  pub bits : StateBits file shape
 
 pub record Ready (file table : List ℕ) (shape : Shape) : Type 0 where
   pub shaped : ShapedFile file shape

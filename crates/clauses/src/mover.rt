@@ -1,7 +1,8 @@
 // Movers: a normal cell or an external, from the state's literals to the muxes of its result. `events` is the table of events, `p` where a
 // cell stands.
 ghost use mathlib.Core.Path.{_≡_};
-ghost use Prim.Native.Nat.{_*_, _<_};
+ghost use mathlib.Core.List.{List};
+ghost use Prim.Native.Nat.{ℕ, _*_, _<_};
 ghost use lib.ListN.{length, getD};
 ghost use Rattle.design.specs.Limits.{maxBits};
 ghost use Rattle.design.specs.Tree.{Design, cell, raise};
@@ -78,7 +79,7 @@ pub fn encode_guard(
     buf: &mut [i32],
     pen: Cursor,
 ) -> Out
-    requires { ⌜ ShapedFile (now file) shape × (length (now bits) ≡ maxBits) × NormalCell (now file) p ⌝ }
+    requires { ⌜ ((table : List ℕ) × Ready (now file) table shape) × (length (now bits) ≡ maxBits) × NormalCell (now file) p ⌝ }
     ensures { λ r. ⌜ ((x : NormalCell (now (file .entry)) p) → BoolGates (now (file .entry)) shape (now (bits .entry)) (x .cell .guard) pen (now (buf .entry)) (now (buf .exit)) r) ⌝ }
 {
     let n = wide(file[p + 5]);

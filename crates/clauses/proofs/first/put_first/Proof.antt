@@ -17,12 +17,12 @@ offset-requires : tie.Need-offset-requires
 offset-requires c κs =
     let entry = c .before .before .before .before .before .before .before in
     let shape = entry .args .shape in (
-      first-small (entry .args .file .now) ((entry .pre) .accepted) (shape .variables) (shape .matrices) ((entry .pre) .variables) ((entry .pre) .matrices)
+      first-small (entry .args .file .now) ((entry .pre) .accepted) (shape .variables) (shape .matrices) ((entry .pre) .counts .variables) ((entry .pre) .counts .matrices)
           _ refl .3,
       omega (
         arith,
         first-small (entry .args .file .now) ((entry .pre) .accepted) (shape .variables) (shape .matrices) ((entry .pre)
-            .variables) ((entry .pre) .matrices) _ refl,
+            .counts .variables) ((entry .pre) .counts .matrices) _ refl,
       ),
     )
 
@@ -32,7 +32,7 @@ add-x c =
     omega (
       arith,
       first-small (entry .args .file .now) ((entry .pre) .accepted) (entry .args .shape .variables) (entry .args .shape .matrices) ((entry
-          .pre) .variables) ((entry .pre) .matrices) (c .offset .result) (c .offset .ensures),
+          .pre) .counts .variables) ((entry .pre) .counts .matrices) (c .offset .result) (c .offset .ensures),
     )
 
 cast-put-units : tie.Need-cast-put-units
@@ -41,7 +41,7 @@ cast-put-units c =
     omega (
       arith,
       first-small (entry .args .file .now) ((entry .pre) .accepted) (entry .args .shape .variables) (entry .args .shape .matrices) ((entry
-          .pre) .variables) ((entry .pre) .matrices) (c .before .offset .result) (c .before .offset .ensures),
+          .pre) .counts .variables) ((entry .pre) .counts .matrices) (c .before .offset .result) (c .before .offset .ensures),
     )
 
 mul-put-units : tie.Need-mul-put-units
@@ -50,7 +50,7 @@ mul-put-units c =
     omega (
       arith,
       first-small (entry .args .file .now) ((entry .pre) .accepted) (entry .args .shape .variables) (entry .args .shape .matrices) ((entry
-          .pre) .variables) ((entry .pre) .matrices) (c .before .before .offset .result) (c .before .before .offset .ensures),
+          .pre) .counts .variables) ((entry .pre) .counts .matrices) (c .before .before .offset .result) (c .before .before .offset .ensures),
     )
 
 put-units-requires : tie.Need-put-units-requires
@@ -59,7 +59,7 @@ put-units-requires c κs =
     omega (
       arith,
       first-small (entry .args .file .now) ((entry .pre) .accepted) (entry .args .shape .variables) (entry .args .shape .matrices) ((entry
-          .pre) .variables) ((entry .pre) .matrices) (c .before .before .offset .result) (c .before .before .offset .ensures),
+          .pre) .counts .variables) ((entry .pre) .counts .matrices) (c .before .before .offset .result) (c .before .before .offset .ensures),
     )
 
 same-length : tie.Need-same-length
@@ -70,8 +70,8 @@ returns c =
     let at-offset = c .before .before .before .before in
     let at-clause1 = at-offset .before .before .before .before .before in
     let entry = at-clause1 .before .before .before in
-    first-puts (entry .args .file .now) ((entry .pre) .accepted) (entry .args .shape .variables) (entry .args .shape .matrices) ((entry .pre) .variables)
-    ((entry .pre) .matrices) (at-offset .offset .result) (at-offset .offset .ensures) _ refl (at-clause1 .clause1 .ensures) (c .before .before
+    first-puts (entry .args .file .now) ((entry .pre) .accepted) (entry .args .shape .variables) (entry .args .shape .matrices) ((entry .pre) .counts .variables)
+    ((entry .pre) .counts .matrices) (at-offset .offset .result) (at-offset .offset .ensures) _ refl (at-clause1 .clause1 .ensures) (c .before .before
     .before .before .before .before .put-values .ensures) (c .before .put-units .ensures)
 
 pub put-first-spec : {M : Type 1} → statement M

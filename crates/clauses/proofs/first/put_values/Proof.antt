@@ -23,7 +23,7 @@ mul-width c =
     let entry = c .before .before .before .before in
     omega (
       arith,
-      (values-inside (entry .args .file .now) ((entry .pre) .accepted) (entry .args .shape .variables) ((entry .pre) .variables) (c .before
+      (values-inside (entry .args .file .now) ((entry .pre) .accepted) (entry .args .shape .variables) ((entry .pre) .counts .variables) (c .before
           .before .loop .v) (c .if1 .taken)),
     )
 
@@ -32,7 +32,7 @@ shared-slice-read-width c =
     let entry = c .before .before .before .before .before in
     omega (
       arith,
-      (values-inside (entry .args .file .now) ((entry .pre) .accepted) (entry .args .shape .variables) ((entry .pre) .variables) (c .before
+      (values-inside (entry .args .file .now) ((entry .pre) .accepted) (entry .args .shape .variables) ((entry .pre) .counts .variables) (c .before
           .before .before .loop .v) (c .before .if1 .taken)),
     )
 
@@ -44,7 +44,7 @@ mul-word c =
     let entry = c .before .before .before .before .before .before in
     omega (
       arith,
-      (values-inside (entry .args .file .now) ((entry .pre) .accepted) (entry .args .shape .variables) ((entry .pre) .variables) (c .before
+      (values-inside (entry .args .file .now) ((entry .pre) .accepted) (entry .args .shape .variables) ((entry .pre) .counts .variables) (c .before
           .before .before .before .loop .v) (c .before .before .if1 .taken)),
     )
 
@@ -53,14 +53,14 @@ add-word c =
     let entry = c .before .before .before .before .before .before in
     omega (
       arith,
-      (values-inside (entry .args .file .now) ((entry .pre) .accepted) (entry .args .shape .variables) ((entry .pre) .variables) (c .before
+      (values-inside (entry .args .file .now) ((entry .pre) .accepted) (entry .args .shape .variables) ((entry .pre) .counts .variables) (c .before
           .before .before .before .loop .v) (c .before .before .if1 .taken)),
     )
 
 word-requires : tie.Need-word-requires Inv-loop μ-loop
 word-requires c κs =
     let entry = c .before .before .before .before .before .before in
-    (values-inside (entry .args .file .now) ((entry .pre) .accepted) (entry .args .shape .variables) ((entry .pre) .variables) (c .before .before .before
+    (values-inside (entry .args .file .now) ((entry .pre) .accepted) (entry .args .shape .variables) ((entry .pre) .counts .variables) (c .before .before .before
     .before .loop .v) (c .before .before .if1 .taken)) .0
 
 put-units-requires : tie.Need-put-units-requires Inv-loop μ-loop
@@ -88,7 +88,7 @@ add-x c =
       arith,
       width-bound (entry .args .file .now) (at-loop .loop .v) (at-width .width .result) (at-width .width .ensures),
       at-loop .loop .inv .0 .small,
-      (values-inside (entry .args .file .now) ((entry .pre) .accepted) (entry .args .shape .variables) ((entry .pre) .variables) (at-loop .loop .v)
+      (values-inside (entry .args .file .now) ((entry .pre) .accepted) (entry .args .shape .variables) ((entry .pre) .counts .variables) (at-loop .loop .v)
           (c .before .before .before .before .before .before .if1 .taken)),
     )
 
@@ -98,7 +98,7 @@ add-v c =
     let entry = at-loop .before .before in
     omega (
       arith,
-      (values-inside (entry .args .file .now) ((entry .pre) .accepted) (entry .args .shape .variables) ((entry .pre) .variables) (at-loop
+      (values-inside (entry .args .file .now) ((entry .pre) .accepted) (entry .args .shape .variables) ((entry .pre) .counts .variables) (at-loop
           .loop .v) (c .before .before .before .before .before .before .if1 .taken)),
     )
 
@@ -109,7 +109,7 @@ loop-again : tie.Need-loop-again Inv-loop μ-loop
 loop-again c = (
   valuing-on (c .before .before .before .before .before .before .before .before .before .before .args .file .now) ((c .before .before .before .before
       .before .before .before .before .before .before .pre) .accepted) (c .before .before .before .before .before .before .before .before .before
-      .before .args .shape .variables) ((c .before .before .before .before .before .before .before .before .before .before .pre) .variables) (c
+      .before .args .shape .variables) ((c .before .before .before .before .before .before .before .before .before .before .pre) .counts .variables) (c
       .before .before .before .before .before .before .if1 .taken) (c .before .before .before .before .before .before .before .before .loop .inv .0)
       _ _ _ (c .before .before .before .before .width .ensures) (c .before .before .before .word .ensures .0) refl (c .before .put-units .ensures),
   omega arith,
@@ -121,7 +121,7 @@ same-length c = omega (arith, c .before .before .loop .inv .1)
 returns : tie.Need-returns Inv-loop μ-loop
 returns c =
     let entry = c .before .before .before .before in
-    valuing-end (entry .args .file .now) ((entry .pre) .accepted) (entry .args .shape .variables) ((entry .pre) .variables) (c .if1 .left) (c .before
+    valuing-end (entry .args .file .now) ((entry .pre) .accepted) (entry .args .shape .variables) ((entry .pre) .counts .variables) (c .if1 .left) (c .before
     .before .loop .inv .0)
 
 pub put-values-spec : {M : Type 1} → statement M

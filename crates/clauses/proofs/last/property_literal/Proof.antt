@@ -1,6 +1,5 @@
 use native.Mathlib.Omega.{arith}
 use mathlib.Core.Path.{refl}
-use Rattle.clauses.proofs.EmitCells.{bits-few}
 use Rattle.clauses.proofs.EmitParts.{property-out}
 use borrow.Author.Needs.{needs}
 use Rattle.clauses.proofs.last.property_literal.Statement.{statement}
@@ -9,15 +8,15 @@ use Rattle.clauses.proofs.last.property_literal.Reads as reads
 use Rattle.clauses.proofs.last.property_literal.Lts as lts
 
 variables-requires : tie.Need-variables-requires
-variables-requires c κs = bits-few (c .before .pre .0 .shaped)
+variables-requires c κs = c .before .pre .0 .shaped .bits .few
 
 cast-t11 : tie.Need-cast-t11
-cast-t11 c = omega (arith, bits-few (c .before .before .before .pre .0 .shaped))
+cast-t11 c = omega (arith, c .before .before .before .pre .0 .shaped .bits .few)
 
 add-t12 : tie.Need-add-t12
 add-t12 c =
     let entry = c .before .before .before in
-    omega (arith, bits-few (entry .pre .0 .shaped), entry .pre .1)
+    omega (arith, entry .pre .0 .shaped .bits .few, entry .pre .1)
 
 slice-aggregate-encode-property : tie.Need-slice-aggregate-encode-property
 slice-aggregate-encode-property c = search needs

@@ -2,7 +2,6 @@ use native.Mathlib.Omega.{arith}
 use Prim.Native.Nat.{_+_, _-_}
 use mathlib.Core.Path.{_≡_, refl, _∙_}
 use lib.ListN.{length}
-use Rattle.clauses.proofs.EmitFrames.{bits-are}
 use Rattle.clauses.proofs.EmitParts.{Closing, closing-start, closing-on, closing-end}
 use Rattle.clauses.proofs.last.put_last.Statement.{statement}
 use Rattle.clauses.proofs.last.put_last.Tie as tie
@@ -63,8 +62,7 @@ loop-again c = (
         c .before .before .before .before .before .before .before .frame-length .ensures
             .1,
       )) (c .before .before .before .before .before .before .loop .inv .0) _ _ _ _ (λ d w. (c .before .before .before .before .before .before
-      .before .before .before .before .before .pre .0 .shaped) .bits ∙ bits-are (c .before .before .before .before .before .before .before .before
-      .before .before .before .pre .0 .shaped) d w) refl (c .before .before .before .before .property-literal .ensures) (c .before .before .negate
+      .before .before .before .before .before .pre .0 .shaped) .bits .state d w) refl (c .before .before .before .before .property-literal .ensures) (c .before .before .negate
       .ensures) (c .before .put-literal .ensures),
   omega arith,
 )

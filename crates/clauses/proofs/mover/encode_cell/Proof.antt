@@ -4,7 +4,7 @@ use mathlib.Core.Path.{_≡_, sym, ap, _∙_}
 use lib.ListN.{length}
 use Rattle.clauses.specs.FlatState.{slotsOf, layoutOf}
 use Rattle.clauses.proofs.EmitSlots.{status-room}
-use Rattle.clauses.proofs.EmitCells.{sizes, kinds, few-bits, bits-few, slotted, normal-fields, is, action-here, action-writes, target-set, muxes-first, cell-emits}
+use Rattle.clauses.proofs.EmitCells.{sizes, kinds, few-bits, slotted, normal-fields, is, action-here, action-writes, target-set, muxes-first, cell-emits}
 use borrow.Author.Needs.{needs}
 use Rattle.clauses.proofs.mover.encode_cell.Statement.{statement}
 use Rattle.clauses.proofs.mover.encode_cell.Tie as tie
@@ -19,8 +19,8 @@ add-at c =
     let entry = c .before .before .before .before .before in
     omega (
       arith,
-      (normal-fields (entry .pre .0 .shaped) (entry .args .p) (entry .pre .2)) .header,
-      (normal-fields (entry .pre .0 .shaped) (entry .args
+      (normal-fields (entry .pre .0) (entry .args .p) (entry .pre .2)) .header,
+      (normal-fields (entry .pre .0) (entry .args
           .p) (entry .pre .2)) .past,
       sizes (entry .pre .0 .shaped),
     )
@@ -30,8 +30,8 @@ add-wide c =
     let entry = c .before .before .before .before .before in
     omega (
       arith,
-      (normal-fields (entry .pre .0 .shaped) (entry .args .p) (entry .pre .2)) .header,
-      (normal-fields (entry .pre .0 .shaped) (entry .args
+      (normal-fields (entry .pre .0) (entry .args .p) (entry .pre .2)) .header,
+      (normal-fields (entry .pre .0) (entry .args
           .p) (entry .pre .2)) .past,
       sizes (entry .pre .0 .shaped),
     )
@@ -41,8 +41,8 @@ shared-slice-read-wide c =
     let entry = c .before .before .before .before .before .before in
     omega (
       arith,
-      (normal-fields (entry .pre .0 .shaped) (entry .args .p) (entry .pre .2)) .header,
-      (normal-fields (entry .pre .0 .shaped) (entry .args
+      (normal-fields (entry .pre .0) (entry .args .p) (entry .pre .2)) .header,
+      (normal-fields (entry .pre .0) (entry .args
           .p) (entry .pre .2)) .past,
       sizes (entry .pre .0 .shaped),
     )
@@ -53,14 +53,14 @@ wide-requires c κs = search needs
 add-at-2 : tie.Need-add-at-2
 add-at-2 c =
     let entry = c .before .before .before .before .before .before .before in
-    omega (arith, (normal-fields (entry .pre .0 .shaped) (entry .args .p) (entry .pre .2)) .past, sizes (entry .pre .0 .shaped), c .wide .ensures .0)
+    omega (arith, (normal-fields (entry .pre .0) (entry .args .p) (entry .pre .2)) .past, sizes (entry .pre .0 .shaped), c .wide .ensures .0)
 
 encode-list-requires : tie.Need-encode-list-requires
 encode-list-requires c κs =
     let entry = c .before .before .before .before .before .before .before .before .before in (
       slotted (entry .pre .0 .shaped) _ (entry .pre .1),
       entry .pre .1,
-      action-here (entry .pre .0 .shaped) (entry .args .p) (entry .pre .2) _ (ap (λ (k :
+      action-here (entry .pre .0) (entry .args .p) (entry .pre .2) _ (ap (λ (k :
           ℕ). (entry .args .p) + 8 + k) (c .before .before .wide .ensures .0)),
     )
 
@@ -74,8 +74,8 @@ shared-slice-read-wide-2 c =
     let entry = c .before .before .before .before .before .before .before .before .before .before .before .before .before in
     omega (
       arith,
-      (normal-fields (entry .pre .0 .shaped) (entry .args .p) (entry .pre .2)) .header,
-      (normal-fields (entry .pre .0 .shaped) (entry .args
+      (normal-fields (entry .pre .0) (entry .args .p) (entry .pre .2)) .header,
+      (normal-fields (entry .pre .0) (entry .args
           .p) (entry .pre .2)) .past,
       sizes (entry .pre .0 .shaped),
     )
@@ -94,9 +94,9 @@ add-o c =
       status-room (entry .args .file .now) ((entry .args .shape) .variables) ((entry .args .shape) .matrices) (c .wide2 .result) _ (omega (
         arith,
         c .wide2 .ensures .0,
-        (normal-fields (entry .pre .0 .shaped) (entry .args .p) (entry .pre .2)) .matrix,
+        (normal-fields (entry .pre .0) (entry .args .p) (entry .pre .2)) .matrix,
         (entry .pre .0 .shaped)
-            .matrices,
+            .counts .matrices,
       )) (ap (λ (k : ℕ). k + 4 * c .wide2 .result) (c .before .before .offset .ensures)),
       few-bits (entry .pre .0 .shaped),
     )
@@ -106,8 +106,8 @@ add-wide-2 c =
     let entry = c .before .before .before .before .before .before .before .before .before .before .before .before .before .before .before in
     omega (
       arith,
-      (normal-fields (entry .pre .0 .shaped) (entry .args .p) (entry .pre .2)) .header,
-      (normal-fields (entry .pre .0 .shaped) (entry .args
+      (normal-fields (entry .pre .0) (entry .args .p) (entry .pre .2)) .header,
+      (normal-fields (entry .pre .0) (entry .args
           .p) (entry .pre .2)) .past,
       sizes (entry .pre .0 .shaped),
     )
@@ -117,8 +117,8 @@ shared-slice-read-wide-3 c =
     let entry = c .before .before .before .before .before .before .before .before .before .before .before .before .before .before .before .before in
     omega (
       arith,
-      (normal-fields (entry .pre .0 .shaped) (entry .args .p) (entry .pre .2)) .header,
-      (normal-fields (entry .pre .0 .shaped) (entry .args
+      (normal-fields (entry .pre .0) (entry .args .p) (entry .pre .2)) .header,
+      (normal-fields (entry .pre .0) (entry .args
           .p) (entry .pre .2)) .past,
       sizes (entry .pre .0 .shaped),
     )
@@ -144,12 +144,12 @@ store-word-requires c κs = (
           arith,
           c .before .before .before .before .wide2 .ensures .0,
           (normal-fields (c .before .before .before .before
-              .before .before .before .before .before .before .before .before .before .before .before .before .before .before .pre .0 .shaped) (c .before
+              .before .before .before .before .before .before .before .before .before .before .before .before .before .before .pre .0) (c .before
               .before .before .before .before .before .before .before .before .before .before .before .before .before .before .before .before .before .args
               .p) (c .before .before .before .before .before .before .before .before .before .before .before .before .before .before .before .before .before
               .before .pre .2)) .matrix,
           (c .before .before .before .before .before .before .before .before .before .before .before .before .before .before
-              .before .before .before .before .pre .0 .shaped) .matrices,
+              .before .before .before .before .pre .0 .shaped) .counts .matrices,
         )) (ap (λ (k : ℕ). k + 4 * c .before .before .before .before .wide2 .result) (c
         .before .before .before .before .before .before .offset .ensures)),
     few-bits (c .before .before .before .before .before .before .before
@@ -163,7 +163,7 @@ store-word-requires c κs = (
 muxes-requires : tie.Need-muxes-requires
 muxes-requires c κs =
     let entry = c .before .before .before .before .before .before .before .before .before .before .before .before .before .before .before .before .before .before .before .before .before in
-    (bits-few (entry .pre .0 .shaped), c .before .before .store-word .ensures .1, entry .pre .1)
+    (entry .pre .0 .shaped .bits .few, c .before .before .store-word .ensures .1, entry .pre .1)
 
 same-length : tie.Need-same-length
 same-length c =
@@ -174,7 +174,7 @@ same-length c =
 returns : tie.Need-returns
 returns c =
     λ x. let i = is (c .before .before .before .before .before .before .before .before .before .before .before .before .before .before .before .before
-    .before .before .before .before .before .before .before .pre .0 .shaped) (c .before .before .before .before .before .before .before .before
+    .before .before .before .before .before .before .before .pre .0) (c .before .before .before .before .before .before .before .before
     .before .before .before .before .before .before .before .before .before .before .before .before .before .before .before .args .p) x in
     cell-emits (layoutOf (c .before .before .before .before .before .before .before .before .before .before .before .before .before .before
     .before .before .before .before .before .before .before .before .before .args .shape)) (slotsOf (c .before .before .before .before .before
@@ -185,7 +185,7 @@ returns c =
     .bits .now)) (x .cell) (c .before .before .before .before .before .before .before .before .before .before .before .before .before .before
     .before .before .before .before .before .before .encode-enable .ensures x) (action-writes (c .before .before .before .before .before .before
     .before .before .before .before .before .before .before .before .before .before .before .before .before .before .before .before .before .pre
-    .0 .shaped) (c .before .before .before .before .before .before .before .before .before .before .before .before .before .before .before .before
+    .0) (c .before .before .before .before .before .before .before .before .before .before .before .before .before .before .before .before
     .before .before .before .before .before .before .before .args .p) x _ (ap (λ (k : ℕ). (c .before .before .before .before .before .before
     .before .before .before .before .before .before .before .before .before .before .before .before .before .before .before .before .before .args
     .p) + 8 + k) (c .before .before .before .before .before .before .before .before .before .before .before .before .before .before .before
@@ -206,12 +206,12 @@ returns c =
       i .matrix,
       (normal-fields (c .before .before .before .before .before .before
           .before .before .before .before .before .before .before .before .before .before .before .before .before .before .before .before .before .pre
-          .0 .shaped) (c .before .before .before .before .before .before .before .before .before .before .before .before .before .before .before .before
+          .0) (c .before .before .before .before .before .before .before .before .before .before .before .before .before .before .before .before
           .before .before .before .before .before .before .before .args .p) (c .before .before .before .before .before .before .before .before .before
           .before .before .before .before .before .before .before .before .before .before .before .before .before .before .pre .2)) .matrix,
       (c .before
           .before .before .before .before .before .before .before .before .before .before .before .before .before .before .before .before .before
-          .before .before .before .before .before .pre .0 .shaped) .matrices,
+          .before .before .before .before .before .pre .0 .shaped) .counts .matrices,
     )) (ap (λ (k : ℕ). k + 4 * c .before .before .before .before .before .before
     .before .before .before .wide2 .result) (c .before .before .before .before .before .before .before .before .before .before .before .offset
     .ensures)) (c .before .before .before .before .before .constant .ensures) (let h : length (c .before .before .before .before .before .constant
@@ -226,7 +226,7 @@ returns c =
     .before .before .before .before .before .before .before .before .before .pre .1) (c .before .muxes .ensures .0 (c .before .before .before
     .before .before .before .before .before .before .before .before .before .before .before .before .before .before .before .before .before
     .before .before .before .args .file .now) ((c .before .before .before .before .before .before .before .before .before .before .before .before
-    .before .before .before .before .before .before .before .before .before .before .before .pre .0 .shaped) .bits)))
+    .before .before .before .before .before .before .before .before .before .before .before .pre .0 .shaped) .bits .total)))
 
 pub encode-cell-spec : {M : Type 1} → statement M
 encode-cell-spec =

@@ -11,14 +11,14 @@ status-and-event-requires : tie.Need-status-and-event-requires
 status-and-event-requires c κs = (
   c .before .before .pre .0,
   c .before .before .pre .1,
-  normal-fields (c .before .before .pre .0 .shaped) (c .before .before .args .p) (c .before
+  normal-fields (c .before .before .pre .0) (c .before .before .args .p) (c .before
       .before .pre .2),
 )
 
 encode-guard-requires : tie.Need-encode-guard-requires
 encode-guard-requires c κs =
     let entry = c .before .before .before .before .before in
-    ((entry .pre .0 .shaped), entry .pre .1, entry .pre .2)
+    ((_, entry .pre .0), entry .pre .1, entry .pre .2)
 
 emit-and-requires : tie.Need-emit-and-requires
 emit-and-requires c κs = search needs
@@ -31,7 +31,7 @@ returns c =
     let entry = c .before .before .before .before .before .before .before .before .before .before in
     let shape = entry .args .shape in
     λ x. enable-emits (layoutOf shape) (slotsOf (entry .args .file .now) shape (entry .args .bits .now)) (x .cell) _ _ _ (emits-same _ _ (cell-event
-    (entry .pre .0 .shaped) (entry .args .p) x (layoutOf shape) (slotsOf (entry .args .file .now) shape (entry .args .bits .now)) _) (c .before
+    (entry .pre .0) (entry .args .p) x (layoutOf shape) (slotsOf (entry .args .file .now) shape (entry .args .bits .now)) _) (c .before
     .before .before .before .before .before .before .status-and-event .ensures (x .tree) (x .parts))) (c .before .before .before .before
     .encode-guard .ensures x) (c .before .emit-and .ensures)
 

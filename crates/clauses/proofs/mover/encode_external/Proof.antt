@@ -6,7 +6,7 @@ use Rattle.clauses.specs.Literal.{Literal, negate}
 use Rattle.clauses.specs.FlatState.{slotsOf, layoutOf}
 use Rattle.clauses.proofs.EmitWords.{code-yes}
 use Rattle.clauses.proofs.EmitStates.{boolean-room, boolean-set}
-use Rattle.clauses.proofs.EmitCells.{sizes, kinds, few-bits, bits-few, slotted, muxes-first, external-emits}
+use Rattle.clauses.proofs.EmitCells.{sizes, kinds, few-bits, slotted, muxes-first, external-emits}
 use borrow.Author.Needs.{needs}
 use Rattle.clauses.proofs.mover.encode_external.Statement.{statement}
 use Rattle.clauses.proofs.mover.encode_external.Tie as tie
@@ -60,7 +60,7 @@ array-write-state c =
 muxes-requires : tie.Need-muxes-requires
 muxes-requires c κs =
     let entry = c .before .before .before .before .before .before .before .before in
-    (bits-few (entry .pre .0), (length-set (entry .args .bits .now) (c .before .before .offset .result) 2 ∙ entry .pre .1), entry .pre .1)
+    (entry .pre .0 .bits .few, (length-set (entry .args .bits .now) (c .before .before .offset .result) 2 ∙ entry .pre .1), entry .pre .1)
 
 same-length : tie.Need-same-length
 same-length c = search needs
@@ -81,8 +81,8 @@ returns c =
       entry .pre
           .3,
     )) refl ∙ ap (λ (l : Literal). set (slotsOf file shape bits) v (l ∷ [])) code-yes) (muxes-first file shape _ _ bits (few-bits (entry .pre
-    .0)) (length-set bits (at-offset .offset .result) 2 ∙ entry .pre .1) (entry .pre .1) (c .before .muxes .ensures .0 file ((entry .pre .0)
-    .bits)))
+    .0)) (length-set bits (at-offset .offset .result) 2 ∙ entry .pre .1) (entry .pre .1) (c .before .muxes .ensures .0 file (entry .pre .0
+    .bits .total)))
 
 pub encode-external-spec : {M : Type 1} → statement M
 encode-external-spec =

@@ -9,15 +9,14 @@ use Rattle.clauses.proofs.mover.encode_guard.Reads as reads
 use Rattle.clauses.proofs.mover.encode_guard.Lts as lts
 
 add-wide : tie.Need-add-wide
-add-wide c = omega (arith, (normal-fields (c .before .pre .0) (c .before .args .p) (c .before .pre .2)) .header, sizes (c .before .pre .0))
+add-wide c = omega (arith, (normal-fields (c .before .pre .0 .1) (c .before .args .p) (c .before .pre .2)) .header, sizes (c .before .pre .0 .1 .shaped))
 
 shared-slice-read-wide : tie.Need-shared-slice-read-wide
 shared-slice-read-wide c =
     omega (
       arith,
-      (normal-fields (c .before .before .pre .0) (c .before .before .args .p) (c .before .before .pre .2)) .header,
-      sizes (c .before .before
-          .pre .0),
+      (normal-fields (c .before .before .pre .0 .1) (c .before .before .args .p) (c .before .before .pre .2)) .header,
+      sizes (c .before .before .pre .0 .1 .shaped),
     )
 
 wide-requires : tie.Need-wide-requires
@@ -27,19 +26,19 @@ returns : tie.Need-returns
 returns c =
     let entry = c .before .before .before .before in
     λ x. guard-true (layoutOf (entry .args .shape)) (slotsOf (entry .args .file .now) (entry .args .shape) (entry .args .bits .now)) _ _ _ _ (guard-none
-    (entry .pre .0) (entry .args .p) x (sym (c .before .wide .ensures .0) ∙ c .if1 .taken))
+    (entry .pre .0 .1) (entry .args .p) x (sym (c .before .wide .ensures .0) ∙ c .if1 .taken))
 
 add-encode-bool : tie.Need-add-encode-bool
 add-encode-bool c =
     let entry = c .before .before .before .before in
-    omega (arith, (normal-fields (entry .pre .0) (entry .args .p) (entry .pre .2)) .header, sizes (entry .pre .0))
+    omega (arith, (normal-fields (entry .pre .0 .1) (entry .args .p) (entry .pre .2)) .header, sizes (entry .pre .0 .1 .shaped))
 
 encode-bool-requires : tie.Need-encode-bool-requires
 encode-bool-requires c κs =
     let at-wide = c .before .before .before in
     let entry = at-wide .before .before .before in (
-      slotted (entry .pre .0) _ (entry .pre .1),
-      guard-here (entry .pre .0) (entry .args .p) (entry .pre .2) (at-wide .wide .result) (at-wide .wide
+      slotted (entry .pre .0 .1 .shaped) _ (entry .pre .1),
+      guard-here (entry .pre .0 .1) (entry .args .p) (entry .pre .2) (at-wide .wide .result) (at-wide .wide
           .ensures .0) (c .before .before .if1 .left),
     )
 
@@ -50,7 +49,7 @@ returns-2 : tie.Need-returns-2
 returns-2 c =
     let at-wide = c .before .before .before .before .before in
     let entry = at-wide .before .before .before in
-    λ x. guard-writes (entry .pre .0) (entry .args .p) x (at-wide .wide .result) (at-wide .wide .ensures .0) (c .before .before .before .before .if1
+    λ x. guard-writes (entry .pre .0 .1) (entry .args .p) x (at-wide .wide .result) (at-wide .wide .ensures .0) (c .before .before .before .before .if1
     .left) (entry .args .bits .now) (c .before .encode-bool .result) (c .before .encode-bool .ensures)
 
 pub encode-guard-spec : {M : Type 1} → statement M

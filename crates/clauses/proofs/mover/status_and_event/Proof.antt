@@ -27,7 +27,7 @@ load-status-requires c κs =
         c .before .wide .ensures .0,
         entry .pre .2 .matrix,
         (entry .pre .0 .shaped)
-            .matrices,
+            .counts .matrices,
       )),
     )
 
@@ -72,12 +72,12 @@ mul-at c =
     let entry = at-wide .before .before .before in
     omega (
       arith,
-      event-slot (entry .pre .0 .shaped) (entry .pre .0 .events) (at-wide .wide .result) (c .wide3 .result) (omega (
+      event-slot (entry .pre .0) (at-wide .wide .result) (c .wide3 .result) (omega (
         arith,
         at-wide .wide
             .ensures .0,
         entry .pre .2 .matrix,
-        (entry .pre .0 .shaped) .matrices,
+        (entry .pre .0 .shaped) .counts .matrices,
       )) (subst (λ (k : ℕ). c .wide3 .result < eventCount (entry .args .file
           .now) (matricesOffset (entry .args .file .now)) k) (sym (at-wide .wide .ensures .0)) (omega (
             arith,
@@ -94,12 +94,12 @@ add-at c =
     let entry = at-wide .before .before .before in
     omega (
       arith,
-      event-slot (entry .pre .0 .shaped) (entry .pre .0 .events) (at-wide .wide .result) (c .wide3 .result) (omega (
+      event-slot (entry .pre .0) (at-wide .wide .result) (c .wide3 .result) (omega (
         arith,
         at-wide .wide
             .ensures .0,
         entry .pre .2 .matrix,
-        (entry .pre .0 .shaped) .matrices,
+        (entry .pre .0 .shaped) .counts .matrices,
       )) (subst (λ (k : ℕ). c .wide3 .result < eventCount (entry .args .file
           .now) (matricesOffset (entry .args .file .now)) k) (sym (at-wide .wide .ensures .0)) (omega (
             arith,
@@ -116,12 +116,12 @@ mul-at-2 c =
     let entry = at-wide .before .before .before in
     omega (
       arith,
-      event-slot (entry .pre .0 .shaped) (entry .pre .0 .events) (at-wide .wide .result) (c .wide3 .result) (omega (
+      event-slot (entry .pre .0) (at-wide .wide .result) (c .wide3 .result) (omega (
         arith,
         at-wide .wide
             .ensures .0,
         entry .pre .2 .matrix,
-        (entry .pre .0 .shaped) .matrices,
+        (entry .pre .0 .shaped) .counts .matrices,
       )) (subst (λ (k : ℕ). c .wide3 .result < eventCount (entry .args .file
           .now) (matricesOffset (entry .args .file .now)) k) (sym (at-wide .wide .ensures .0)) (omega (
             arith,
@@ -138,12 +138,12 @@ element-copy-out-at c =
     let entry = at-wide .before .before .before in
     omega (
       arith,
-      event-slot (entry .pre .0 .shaped) (entry .pre .0 .events) (at-wide .wide .result) (c .wide3 .result) (omega (
+      event-slot (entry .pre .0) (at-wide .wide .result) (c .wide3 .result) (omega (
         arith,
         at-wide .wide
             .ensures .0,
         entry .pre .2 .matrix,
-        (entry .pre .0 .shaped) .matrices,
+        (entry .pre .0 .shaped) .counts .matrices,
       )) (subst (λ (k : ℕ). c .wide3 .result < eventCount (entry .args .file
           .now) (matricesOffset (entry .args .file .now)) k) (sym (at-wide .wide .ensures .0)) (omega (
             arith,
@@ -160,12 +160,12 @@ cast-at c =
     let entry = at-wide .before .before .before in
     omega (
       arith,
-      event-inside (entry .pre .0 .shaped) (entry .pre .0 .events) (at-wide .wide .result) (c .before .wide3 .result) (omega (
+      event-inside (entry .pre .0) (at-wide .wide .result) (c .before .wide3 .result) (omega (
         arith,
         at-wide
             .wide .ensures .0,
         entry .pre .2 .matrix,
-        (entry .pre .0 .shaped) .matrices,
+        (entry .pre .0 .shaped) .counts .matrices,
       )) (subst (λ (k : ℕ). c .before .wide3 .result < eventCount (entry
           .args .file .now) (matricesOffset (entry .args .file .now)) k) (sym (at-wide .wide .ensures .0)) (omega (
             arith,
@@ -182,12 +182,12 @@ add-encode-bool c =
     let entry = at-wide .before .before .before in
     omega (
       arith,
-      event-inside (entry .pre .0 .shaped) (entry .pre .0 .events) (at-wide .wide .result) (c .before .wide3 .result) (omega (
+      event-inside (entry .pre .0) (at-wide .wide .result) (c .before .wide3 .result) (omega (
         arith,
         at-wide
             .wide .ensures .0,
         entry .pre .2 .matrix,
-        (entry .pre .0 .shaped) .matrices,
+        (entry .pre .0 .shaped) .counts .matrices,
       )) (subst (λ (k : ℕ). c .before .wide3 .result < eventCount (entry
           .args .file .now) (matricesOffset (entry .args .file .now)) k) (sym (at-wide .wide .ensures .0)) (omega (
             arith,
@@ -204,8 +204,8 @@ encode-bool-requires c κs =
     let at-wide = at-wide3 .before .before .before .before .before .before .before .before .before .before in
     let entry = at-wide .before .before .before in (
       slotted (entry .pre .0 .shaped) _ (entry .pre .1),
-      event-here (entry .pre .0 .shaped) (entry .pre .0 .events) (at-wide .wide .result) (at-wide3
-          .wide3 .result) (omega (arith, at-wide .wide .ensures .0, entry .pre .2 .matrix, (entry .pre .0 .shaped) .matrices)) (subst (λ (k : ℕ).
+      event-here (entry .pre .0) (at-wide .wide .result) (at-wide3
+          .wide3 .result) (omega (arith, at-wide .wide .ensures .0, entry .pre .2 .matrix, (entry .pre .0 .shaped) .counts .matrices)) (subst (λ (k : ℕ).
           at-wide3 .wide3 .result < eventCount (entry .args .file .now) (matricesOffset (entry .args .file .now)) k) (sym (at-wide .wide .ensures .0))
           (omega (arith, entry .pre .2 .event, at-wide3 .wide3 .ensures .0))) _ refl,
     )
@@ -233,12 +233,12 @@ returns c =
     λ d w. event-emits (layoutOf shape) (slotsOf file shape bits) (c-matrix file p) (c-status file p) (eventIn (w .rows) (c-matrix file p) (c-event file
     p)) _ _ _ _ _ (at-load-status .load-status .ensures ∙ ap (λ (m : ℕ). integerAt (slotsOf file shape bits) (shape .variables + m)) (at-wide
     .wide .ensures .0)) (at-constant .constant .ensures ∙ ap (constantBits 16) (at-wide2 .wide2 .ensures .0)) (at-equal .equal .ensures)
-    (event-writes (entry .pre .0 .shaped) (entry .pre .0 .events) (at-wide .wide .result) (at-wide3 .wide3 .result) (omega (
+    (event-writes (entry .pre .0) (at-wide .wide .result) (at-wide3 .wide3 .result) (omega (
       arith,
       at-wide .wide
           .ensures .0,
       entry .pre .2 .matrix,
-      (entry .pre .0 .shaped) .matrices,
+      (entry .pre .0 .shaped) .counts .matrices,
     )) (subst (λ (k : ℕ). at-wide3 .wide3 .result < eventCount file
     (matricesOffset file) k) (sym (at-wide .wide .ensures .0)) (omega (arith, entry .pre .2 .event, at-wide3 .wide3 .ensures .0))) (c-matrix file
     p) (c-event file p) _ (at-wide .wide .ensures .0) (at-wide3 .wide3 .ensures .0) refl bits (at-encode-bool .encode-bool .result)
