@@ -84,9 +84,7 @@ module _ (file table : List ℕ) (H : Shape) (h : Prepared file table H) where
   -- status and event of the cell at p
   module _ (p m e : ℕ) (a : m ≡ c-matrix file p) (b : e ≡ c-event file p) where
     pub place-range : CellFields file p → (m < H .matrices) × (e < events file (matricesOffset file) m)
-    place-range g =
-        let q = g .matrix in
-        (omega (arith, h .indexed .shaped .matrices), subst (λ (j : ℕ). e < events file (matricesOffset file) j) (sym a) (subst (λ (j : ℕ). j < events file (matricesOffset file) (c-matrix file p)) (sym b) (g .event)))
+    place-range = indexed.cell-names file table H (h .indexed) p m e a b
 
     pub place-gates : (x r : GatesAt) → ((d : Design) (w : Parts file d) → HasGates x (boolCost (eventIn (w .rows) m e)))
         → r .ands ≡ x .ands + 17 → r .wides ≡ x .wides + 16 → PlaceCounted file p r

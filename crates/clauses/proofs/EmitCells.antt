@@ -1,8 +1,8 @@
 -- What stands at the cells of an accepted file, and the gates of cells and externals. Assumes nothing.
-use mathlib.Core.Path.{_≡_, refl, sym, ap, ap₂, subst, _∙_}
+use mathlib.Core.Path.{_≡_, refl, sym, ap, ap₂, _∙_}
 use mathlib.Core.Bool.{true}
 use mathlib.Core.List.{List, [], _∷_}
-use Prim.Native.Nat.{ℕ, zero, suc, _+_, _*_, _-_, _/_, _%_, _<_, _≤_}
+use Prim.Native.Nat.{ℕ, zero, suc, _+_, _*_, _/_, _%_, _<_, _≤_}
 use native.Mathlib.Omega.{arith}
 use lib.ListN.{getD, length, set, take}
 use lib.Seq.{length-take-le}
@@ -58,8 +58,8 @@ module _ {file : List ℕ} {shape : Shape} (h : ShapedFile file shape) where
   }
 
 module _ {file table : List ℕ} {shape : Shape} (h : Ready file table shape) where
-  pub walkable : Indexed file table shape
-  walkable = record { accepted = h .shaped .accepted; events = h .events; shaped = h .shaped .counts }
+  tables : Indexed file table shape
+  tables = record { accepted = h .shaped .accepted; events = h .events; shaped = h .shaped .counts }
 
   long : length file ≤ maxBytes
   long = sizes (h .shaped) .1
@@ -67,19 +67,22 @@ module _ {file table : List ℕ} {shape : Shape} (h : Ready file table shape) wh
   tree : Tree file
   tree = read file (h .shaped .accepted)
 
-  -- event e of matrix m
-  module _ (m e : ℕ) (a : m < shape .matrices) (b : e < events file (matricesOffset file) m) where
+  -- the event that the cell at p names
+  module _ {p m e : ℕ} (g : CellFields file p) (a : m ≡ c-matrix file p) (b : e ≡ c-event file p) where
     abbrev place : ℕ
     place = getD table (16 * m + e) 0
 
+    named : (m < shape .matrices) × (e < events file (matricesOffset file) m)
+    named = indexed.cell-names file table shape tables p m e a b g
+
     pub event-slot : 16 * m + e < eventPlaces
-    event-slot = indexed.event-slot file table shape walkable m e a b
+    event-slot = indexed.event-slot file table shape tables m e (named .0) (named .1)
 
     pub event-inside : place + 1 + getD file place 0 ≤ trailer file
-    event-inside = indexed.event-inside file table shape walkable m e a b
+    event-inside = indexed.event-inside file table shape tables m e (named .0) (named .1)
 
     event-got : (d : Design) (w : Parts file d) (at : ℕ) → at ≡ place → boolExpr file (namesOf file shape) (place + 1 + getD file place 0) maxDepth (at + 1) ≡ got (eventIn (w .rows) m e) (place + 1 + getD file place 0)
-    event-got d w at q = indexed.event-got file table shape walkable m e a b d w _ (at + 1) refl (ap (λ (k : ℕ). k + 1) q)
+    event-got d w at q = indexed.event-got file table shape tables m e (named .0) (named .1) d w _ (at + 1) refl (ap (λ (k : ℕ). k + 1) q)
 
     pub event-here : (at : ℕ) → at ≡ place → BoolHere file file shape (at + 1)
     event-here at q = record {
@@ -89,38 +92,38 @@ module _ {file table : List ℕ} {shape : Shape} (h : Ready file table shape) wh
       read = record { tree = eventIn (tree .all .parts .rows) m e; past = place + 1 + getD file place 0; reads = event-got (tree .tree) (tree .all .parts) at q };
     }
 
-    -- its gates, where the cell names it by bytes
-    pub event-writes : (m′ e′ at : ℕ) → m ≡ m′ → e ≡ e′ → at ≡ place → (codes : List ℕ) {pen : Cursor} {xs ys : List ℤ} (r : BoolOut) → BoolEncoded file file shape codes (at + 1) pen xs ys r
-        → (d : Design) (w : Parts file d) → Writes pen (bool! (layoutOf shape) (slotsOf file shape codes) (eventIn (w .rows) m′ e′)) xs ys (fromCode (r .lit)) (r .pen)
-    event-writes m′ e′ at em ee q codes {pen = pen} r k d w =
-        emits-same _ _ (ap₂ (λ (a b : ℕ). bool! (layoutOf shape) (slotsOf file shape codes) (eventIn (w .rows) a b) (pen .var)) em ee)
+    -- its gates
+    pub event-writes : (at : ℕ) → at ≡ place → (codes : List ℕ) {pen : Cursor} {xs ys : List ℤ} (r : BoolOut) → BoolEncoded file file shape codes (at + 1) pen xs ys r
+        → (d : Design) (w : Parts file d) → Writes pen (bool! (layoutOf shape) (slotsOf file shape codes) (eventIn (w .rows) (c-matrix file p) (c-event file p))) xs ys (fromCode (r .lit)) (r .pen)
+    event-writes at q codes {pen = pen} r k d w =
+        emits-same _ _ (ap₂ (λ (x y : ℕ). bool! (layoutOf shape) (slotsOf file shape codes) (eventIn (w .rows) x y) (pen .var)) a b)
         (k .encodes (place + 1 + getD file place 0) maxDepth _ _ (omega (arith, event-inside, long)) (event-got d w at q) .0)
 
   -- a normal cell
   module _ (p : ℕ) (x : NormalCell file p) where
     pub normal-fields : CellFields file p
-    normal-fields = indexed.normal-fields file table shape walkable p x
+    normal-fields = indexed.normal-fields file table shape tables p x
 
     pub is : NormalRead file (trailer file) (names file) (matricesOffset file) (eventIn (x .parts .rows)) p (x .cell)
-    is = indexed.cell-is file table shape walkable p x
+    is = indexed.cell-is file table shape tables p x
 
     pub guard-none : c-guard file p ≡ 0 → x .cell .guard ≡ constantB true
-    guard-none = indexed.guard-none file table shape walkable p x
+    guard-none = indexed.guard-none file table shape tables p x
 
     -- a guard that is there, and the action
     pub guard-here : (n : ℕ) → n ≡ c-guard file p → (n ≡ 0 → ⊥) → BoolHere file file shape (p + 8)
-    guard-here n e z = record { end = p + 8 + n; levels = maxDepth; inside = omega (arith, normal-fields .past, long); read = record { tree = x .cell .guard; past = c-middle file p; reads = indexed.guard-got file table shape walkable p x n e z } }
+    guard-here n e z = record { end = p + 8 + n; levels = maxDepth; inside = omega (arith, normal-fields .past, long); read = record { tree = x .cell .guard; past = c-middle file p; reads = indexed.guard-got file table shape tables p x n e z } }
 
     pub guard-writes : (n : ℕ) → n ≡ c-guard file p → (n ≡ 0 → ⊥) → (codes : List ℕ) {pen : Cursor} {xs ys : List ℤ} (r : BoolOut) → BoolEncoded file file shape codes (p + 8) pen xs ys r
         → Writes pen (bool! (layoutOf shape) (slotsOf file shape codes) (x .cell .guard)) xs ys (fromCode (r .lit)) (r .pen)
-    guard-writes n e z codes r k = k .encodes (p + 8 + n) maxDepth _ _ (omega (arith, normal-fields .past, long)) (indexed.guard-got file table shape walkable p x n e z) .0
+    guard-writes n e z codes r k = k .encodes (p + 8 + n) maxDepth _ _ (omega (arith, normal-fields .past, long)) (indexed.guard-got file table shape tables p x n e z) .0
 
     pub action-here : (m : ℕ) → m ≡ c-middle file p → Here file (listsAt file file shape) m
-    action-here m a = record { end = c-past file p; levels = maxNest; inside = omega (arith, normal-fields .past, long); read = record { tree = x .cell .action; past = c-past file p; reads = indexed.action-got file table shape walkable p x m (c-past file p) a refl } }
+    action-here m a = record { end = c-past file p; levels = maxNest; inside = omega (arith, normal-fields .past, long); read = record { tree = x .cell .action; past = c-past file p; reads = indexed.action-got file table shape tables p x m (c-past file p) a refl } }
 
     pub action-writes : (m : ℕ) → m ≡ c-middle file p → (codes after : List ℕ) {pen : Cursor} {xs ys : List ℤ} (r : Done) → ListEncoded file shape codes after m pen xs ys r
         → Writes pen (statements! (x .cell .action) (layoutOf shape) (slotsOf file shape codes)) xs ys (slotsOf file shape after) (r .pen)
-    action-writes m a codes after r k = k .encodes (c-past file p) maxNest _ _ (omega (arith, normal-fields .past, long)) (indexed.action-got file table shape walkable p x m (c-past file p) a refl) .0
+    action-writes m a codes after r k = k .encodes (c-past file p) maxNest _ _ (omega (arith, normal-fields .past, long)) (indexed.action-got file table shape tables p x m (c-past file p) a refl) .0
 
 -- gates of a cell's parts
 pub event-emits : (l : Layout) (s : Slots) (m st : ℕ) (event : BoolExpr) (x k : Bits) (q v r : Literal) {n : ℕ} {x0 x1 x2 x3 : List ℤ} {c0 c1 c2 c3 v1 v2 v3 : ℕ} → x ≡ integerAt s (statusSlot l m) → k ≡ constantBits 16 st

@@ -9,9 +9,7 @@ use lib.IntN.{ℤ}
 use Rattle.design.specs.Tree.{Design, Mover, movers}
 use Rattle.design.specs.State.{Layout, widths}
 use Rattle.design.specs.WellFormed.{MoversOk, WellFormed}
-use Rattle.design.specs.DesignFile.{kind, at8, variableAt}
-use Rattle.design.specs.Check.{trailer, variableCount, matrixCount}
-use Rattle.design.specs.Sections.{Run, Parts}
+use Rattle.design.specs.Sections.{Parts}
 use Rattle.design.proofs.Places.{read}
 use Rattle.design.specs.Limits.{maxBits}
 use Rattle.design.specs.declared.shape.Shape.{Shape}
@@ -24,7 +22,7 @@ use Rattle.clauses.specs.Action.{movers! }
 use Rattle.clauses.specs.Formula.{total, variablesFrom, slotsFrom, flat, ties, allTies, S, stateAt}
 use Rattle.clauses.specs.Cost.{gatesIn, moverCost, moversCost}
 use Rattle.clauses.specs.Writing.{fromCodes, variableLimit, Puts}
-use Rattle.clauses.specs.FlatState.{widthsFrom, widthsOf, widthsIn, cut, slotsOf, layoutOf}
+use Rattle.clauses.specs.FlatState.{widthsFrom, widthsIn, cut, slotsOf, layoutOf}
 use Rattle.clauses.specs.Ready.{ShapedFile, resultFrom}
 use Rattle.clauses.proofs.Costs.{movers-costs, gates-counted}
 use Rattle.clauses.proofs.StateBits.{length-variables, variables-append, flat-slots}

@@ -18,7 +18,7 @@ use Rattle.design.specs.Sections.{Parts}
 use Rattle.design.proofs.Sections.{need-inv, item-same}
 use Rattle.design.proofs.Positions.{variable-stands}
 use Rattle.design.proofs.Places.{read}
-use Rattle.design.specs.Limits.{maxBits}
+use Rattle.design.specs.Limits.{maxVariables, maxMatrices, maxBits}
 use Rattle.design.specs.declared.shape.Shape.{Shape}
 use Rattle.design.proofs.Indexed.{variables-inside}
 use Rattle.step.specs.Property.{Property, propertyOf}
@@ -74,7 +74,7 @@ valuing-start file nv xs cur = record {
 }
 
 module _ (file : List ℕ) (a : Accepted file) (nv : ℕ) (e : nv ≡ variableCount file) where
-  pub values-inside : (v : ℕ) → v < nv → (3 * v + 1 + 1 < length file) × (nv ≤ 32)
+  pub values-inside : (v : ℕ) → v < nv → (3 * v + 1 + 1 < length file) × (nv ≤ maxVariables)
   values-inside v l = let b = variables-inside file a in let t = read file a .all in (omega (arith, t .long), omega (arith, t .variables))
 
   pub valuing-on : {xs₀ : List ℤ} {cur₀ : ℕ} {xs : List ℤ} {cur x v : ℕ} → v < nv → Valuing file nv xs₀ cur₀ xs cur x v → (n value y : ℕ) → n ≡ cond (eqb (getD file (3 * v) 0) 1) 16 1 → value ≡ at16 file (3 * v + 1) → y ≡ x + n
@@ -125,7 +125,7 @@ units-apart x (a ∷ ws) rs (v ∷ vs) us h =
     ∙ sym (append-assoc (unitsOf (variablesFrom x a) v) (initialUnits (slotsFrom (x + a) ws) vs) (initialUnits (slotsFrom (x + (a + total ws)) rs) us))
 
 module _ (file : List ℕ) (h : Accepted file) (nv nm : ℕ) (e : nv ≡ variableCount file) (q : nm ≡ matrixCount file) (x : ℕ) (at : x ≡ total (widthsFrom file 0 nv)) where
-  pub first-small : (x ≤ 512) × (nm ≤ 8) × (nv ≤ 32) × (3 * nv ≤ length file)
+  pub first-small : (x ≤ 16 * maxVariables) × (nm ≤ maxMatrices) × (nv ≤ maxVariables) × (3 * nv ≤ length file)
   first-small = let b = variables-inside file h in let t = read file h .all in (omega (arith, variables-small file 0 nv, t .variables), omega (arith, t .matrices), omega (arith, t .variables), omega (arith, t .long))
 
   pub first-puts : {x0 x1 x2 x3 : List ℤ} {c0 c1 c2 c3 : ℕ} (y : ℕ) → y ≡ 2 + x → Puts (clauseWords (fromCode 2 ∷ [])) x0 x1 c0 c1 → ((d : Design) (w : Parts file d) → Puts (unitsIn 2 (d .variables)) x1 x2 c1 c2)

@@ -30,6 +30,7 @@ use Rattle.clauses.specs.declared.movers.Stepped.{Stepped}
 use Rattle.clauses.specs.declared.frame.FrameSizes.{FrameSizes}
 use Rattle.clauses.specs.declared.instance.Instance.{Instance}
 
+-- an accepted file with its shape, and with its table of events
 pub record ShapedFile (file : List ℕ) (shape : Shape) : Type 0 where
   pub accepted : Accepted file
   pub counts : Shaped file shape

@@ -19,7 +19,11 @@ fn long_flag(b: bool) -> u64
 }
 
 #[no_mangle]
-pub extern "C" fn stm_start(file: &[u8], values: &mut [i16; MAX_VARIABLES], statuses: &mut [u16; MAX_MATRICES]) -> u64
+pub extern "C" fn stm_start(
+    file: &[u8],
+    values: &mut [i16; MAX_VARIABLES],
+    statuses: &mut [u16; MAX_MATRICES],
+) -> u64
     ensures { λ r. ⌜ record { code = r; values = now (values .exit); statuses = now (statuses .exit) } ≡ startEntry (now (file .entry)) (now (values .entry)) (now (statuses .entry)) ⌝ }
 {
     let told = step::start(file);

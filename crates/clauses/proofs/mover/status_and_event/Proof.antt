@@ -1,8 +1,8 @@
 use native.Mathlib.Omega.{arith}
-use Prim.Native.Nat.{ℕ, _+_, _<_}
-use mathlib.Core.Path.{refl, sym, ap, subst, _∙_}
-use Rattle.design.specs.DesignFile.{c-matrix, c-status, c-event, events as eventCount}
-use Rattle.design.specs.Check.{matricesOffset, eventIn}
+use Prim.Native.Nat.{ℕ, _+_}
+use mathlib.Core.Path.{refl, ap, _∙_}
+use Rattle.design.specs.DesignFile.{c-matrix, c-status, c-event}
+use Rattle.design.specs.Check.{eventIn}
 use Rattle.clauses.specs.Expression.{constantBits, integerAt}
 use Rattle.clauses.specs.FlatState.{slotsOf, layoutOf}
 use Rattle.clauses.proofs.EmitCells.{sizes, slotted, event-slot, event-inside, event-here, event-writes, event-emits}
@@ -70,133 +70,37 @@ mul-at : tie.Need-mul-at
 mul-at c =
     let at-wide = c .before .before .before .before .before .before .before .before .before .before in
     let entry = at-wide .before .before .before in
-    omega (
-      arith,
-      event-slot (entry .pre .0) (at-wide .wide .result) (c .wide3 .result) (omega (
-        arith,
-        at-wide .wide
-            .ensures .0,
-        entry .pre .2 .matrix,
-        (entry .pre .0 .shaped) .counts .matrices,
-      )) (subst (λ (k : ℕ). c .wide3 .result < eventCount (entry .args .file
-          .now) (matricesOffset (entry .args .file .now)) k) (sym (at-wide .wide .ensures .0)) (omega (
-            arith,
-            entry .pre .2 .event,
-            c .wide3 .ensures
-                .0,
-          ))),
-      sizes (entry .pre .0 .shaped),
-    )
+    omega (arith, event-slot (entry .pre .0) (entry .pre .2) (at-wide .wide .ensures .0) (c .wide3 .ensures .0), sizes (entry .pre .0 .shaped))
 
 add-at : tie.Need-add-at
 add-at c =
     let at-wide = c .before .before .before .before .before .before .before .before .before .before in
     let entry = at-wide .before .before .before in
-    omega (
-      arith,
-      event-slot (entry .pre .0) (at-wide .wide .result) (c .wide3 .result) (omega (
-        arith,
-        at-wide .wide
-            .ensures .0,
-        entry .pre .2 .matrix,
-        (entry .pre .0 .shaped) .counts .matrices,
-      )) (subst (λ (k : ℕ). c .wide3 .result < eventCount (entry .args .file
-          .now) (matricesOffset (entry .args .file .now)) k) (sym (at-wide .wide .ensures .0)) (omega (
-            arith,
-            entry .pre .2 .event,
-            c .wide3 .ensures
-                .0,
-          ))),
-      sizes (entry .pre .0 .shaped),
-    )
+    omega (arith, event-slot (entry .pre .0) (entry .pre .2) (at-wide .wide .ensures .0) (c .wide3 .ensures .0), sizes (entry .pre .0 .shaped))
 
 mul-at-2 : tie.Need-mul-at-2
 mul-at-2 c =
     let at-wide = c .before .before .before .before .before .before .before .before .before .before in
     let entry = at-wide .before .before .before in
-    omega (
-      arith,
-      event-slot (entry .pre .0) (at-wide .wide .result) (c .wide3 .result) (omega (
-        arith,
-        at-wide .wide
-            .ensures .0,
-        entry .pre .2 .matrix,
-        (entry .pre .0 .shaped) .counts .matrices,
-      )) (subst (λ (k : ℕ). c .wide3 .result < eventCount (entry .args .file
-          .now) (matricesOffset (entry .args .file .now)) k) (sym (at-wide .wide .ensures .0)) (omega (
-            arith,
-            entry .pre .2 .event,
-            c .wide3 .ensures
-                .0,
-          ))),
-      sizes (entry .pre .0 .shaped),
-    )
+    omega (arith, event-slot (entry .pre .0) (entry .pre .2) (at-wide .wide .ensures .0) (c .wide3 .ensures .0), sizes (entry .pre .0 .shaped))
 
 element-copy-out-at : tie.Need-element-copy-out-at
 element-copy-out-at c =
     let at-wide = c .before .before .before .before .before .before .before .before .before .before in
     let entry = at-wide .before .before .before in
-    omega (
-      arith,
-      event-slot (entry .pre .0) (at-wide .wide .result) (c .wide3 .result) (omega (
-        arith,
-        at-wide .wide
-            .ensures .0,
-        entry .pre .2 .matrix,
-        (entry .pre .0 .shaped) .counts .matrices,
-      )) (subst (λ (k : ℕ). c .wide3 .result < eventCount (entry .args .file
-          .now) (matricesOffset (entry .args .file .now)) k) (sym (at-wide .wide .ensures .0)) (omega (
-            arith,
-            entry .pre .2 .event,
-            c .wide3 .ensures
-                .0,
-          ))),
-      sizes (entry .pre .0 .shaped),
-    )
+    omega (arith, event-slot (entry .pre .0) (entry .pre .2) (at-wide .wide .ensures .0) (c .wide3 .ensures .0), sizes (entry .pre .0 .shaped))
 
 cast-at : tie.Need-cast-at
 cast-at c =
     let at-wide = c .before .before .before .before .before .before .before .before .before .before .before in
     let entry = at-wide .before .before .before in
-    omega (
-      arith,
-      event-inside (entry .pre .0) (at-wide .wide .result) (c .before .wide3 .result) (omega (
-        arith,
-        at-wide
-            .wide .ensures .0,
-        entry .pre .2 .matrix,
-        (entry .pre .0 .shaped) .counts .matrices,
-      )) (subst (λ (k : ℕ). c .before .wide3 .result < eventCount (entry
-          .args .file .now) (matricesOffset (entry .args .file .now)) k) (sym (at-wide .wide .ensures .0)) (omega (
-            arith,
-            entry .pre .2 .event,
-            c
-                .before .wide3 .ensures .0,
-          ))),
-      sizes (entry .pre .0 .shaped),
-    )
+    omega (arith, event-inside (entry .pre .0) (entry .pre .2) (at-wide .wide .ensures .0) (c .before .wide3 .ensures .0), sizes (entry .pre .0 .shaped))
 
 add-encode-bool : tie.Need-add-encode-bool
 add-encode-bool c =
     let at-wide = c .before .before .before .before .before .before .before .before .before .before .before in
     let entry = at-wide .before .before .before in
-    omega (
-      arith,
-      event-inside (entry .pre .0) (at-wide .wide .result) (c .before .wide3 .result) (omega (
-        arith,
-        at-wide
-            .wide .ensures .0,
-        entry .pre .2 .matrix,
-        (entry .pre .0 .shaped) .counts .matrices,
-      )) (subst (λ (k : ℕ). c .before .wide3 .result < eventCount (entry
-          .args .file .now) (matricesOffset (entry .args .file .now)) k) (sym (at-wide .wide .ensures .0)) (omega (
-            arith,
-            entry .pre .2 .event,
-            c
-                .before .wide3 .ensures .0,
-          ))),
-      sizes (entry .pre .0 .shaped),
-    )
+    omega (arith, event-inside (entry .pre .0) (entry .pre .2) (at-wide .wide .ensures .0) (c .before .wide3 .ensures .0), sizes (entry .pre .0 .shaped))
 
 encode-bool-requires : tie.Need-encode-bool-requires
 encode-bool-requires c κs =
@@ -204,10 +108,7 @@ encode-bool-requires c κs =
     let at-wide = at-wide3 .before .before .before .before .before .before .before .before .before .before in
     let entry = at-wide .before .before .before in (
       slotted (entry .pre .0 .shaped) _ (entry .pre .1),
-      event-here (entry .pre .0) (at-wide .wide .result) (at-wide3
-          .wide3 .result) (omega (arith, at-wide .wide .ensures .0, entry .pre .2 .matrix, (entry .pre .0 .shaped) .counts .matrices)) (subst (λ (k : ℕ).
-          at-wide3 .wide3 .result < eventCount (entry .args .file .now) (matricesOffset (entry .args .file .now)) k) (sym (at-wide .wide .ensures .0))
-          (omega (arith, entry .pre .2 .event, at-wide3 .wide3 .ensures .0))) _ refl,
+      event-here (entry .pre .0) (entry .pre .2) (at-wide .wide .ensures .0) (at-wide3 .wide3 .ensures .0) _ refl,
     )
 
 emit-and-requires : tie.Need-emit-and-requires
@@ -233,15 +134,7 @@ returns c =
     λ d w. event-emits (layoutOf shape) (slotsOf file shape bits) (c-matrix file p) (c-status file p) (eventIn (w .rows) (c-matrix file p) (c-event file
     p)) _ _ _ _ _ (at-load-status .load-status .ensures ∙ ap (λ (m : ℕ). integerAt (slotsOf file shape bits) (shape .variables + m)) (at-wide
     .wide .ensures .0)) (at-constant .constant .ensures ∙ ap (constantBits 16) (at-wide2 .wide2 .ensures .0)) (at-equal .equal .ensures)
-    (event-writes (entry .pre .0) (at-wide .wide .result) (at-wide3 .wide3 .result) (omega (
-      arith,
-      at-wide .wide
-          .ensures .0,
-      entry .pre .2 .matrix,
-      (entry .pre .0 .shaped) .counts .matrices,
-    )) (subst (λ (k : ℕ). at-wide3 .wide3 .result < eventCount file
-    (matricesOffset file) k) (sym (at-wide .wide .ensures .0)) (omega (arith, entry .pre .2 .event, at-wide3 .wide3 .ensures .0))) (c-matrix file
-    p) (c-event file p) _ (at-wide .wide .ensures .0) (at-wide3 .wide3 .ensures .0) refl bits (at-encode-bool .encode-bool .result)
+    (event-writes (entry .pre .0) (entry .pre .2) (at-wide .wide .ensures .0) (at-wide3 .wide3 .ensures .0) _ refl bits (at-encode-bool .encode-bool .result)
     (at-encode-bool .encode-bool .ensures) d w) (c .before .emit-and .ensures)
 
 pub status-and-event-spec : {M : Type 1} → statement M
