@@ -1,5 +1,5 @@
 -- Limits of the gates and sizes of an accepted file's formula, from the file's own (design/specs/Limits). The greatest property and bound of a
--- call stand in Answer, what variables and cursors are below in Writing.
+-- call stand in step/specs/Limits, what variables and cursors are below in Writing.
 use Prim.Native.Nat.{ℕ, _+_, _*_, _-_, _/_}
 use Rattle.design.specs.Limits.{maxBytes, trailerBytes, maxVariables, maxCells, maxMovers, maxBits}
 

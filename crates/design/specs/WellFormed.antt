@@ -89,7 +89,7 @@ module _ (ws : List ℕ) (l : Layout) where
   InvalidsOk [] = Unit {0}
   InvalidsOk (c ∷ cs) = InvalidOk c × InvalidsOk cs
 
--- "Matrix, 2 bytes: status count, event count, each 1..16."
+-- "Matrix, 2 bytes: status count, event count, each 1..16.": of the status counts
 abbrev pub CountsOk : List ℕ → Type 0
 CountsOk [] = Unit {0}
 CountsOk (n ∷ ns) = (1 ≤ n) × (n ≤ maxStatuses) × CountsOk ns

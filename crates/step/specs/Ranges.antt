@@ -1,4 +1,4 @@
--- Which states a design can be in, by the range of each slot, and the law that no step leaves them. Its proof is proofs/Ranges.
+-- Which states fit a design, by the range of each slot, and the law that no step leaves them. Its proof is proofs/Ranges.
 use mathlib.Core.Path.{_≡_}
 use mathlib.Core.Bool.{true}
 use mathlib.Core.List.{List, [], _∷_, _++_, map}
