@@ -14,6 +14,7 @@ use Rattle.design.specs.DesignFile.{Entry, normal, invalid, c-matrix, c-event, 
 use Rattle.design.specs.Check.{trailer, names, namesOf, matricesOffset, cellsOffset, cellCount, invariantOffset, eventIn}
 use Rattle.design.specs.declared.shape.Shape.{Shape}
 use Rattle.design.specs.Sections.{Parts, Cells, CellRead, NormalRead, Standing, CellFields}
+use Rattle.design.specs.Places.{Indexed}
 use Rattle.design.proofs.Positions.{cell-reads}
 use Rattle.design.proofs.Places.{Read as Tree, read, cell-fields}
 use Rattle.step.specs.Property.{propertyOf}
@@ -21,7 +22,8 @@ use Rattle.step.specs.Accepted.{isRead}
 use Rattle.design.specs.Sections.{NormalCell}
 use Rattle.design.proofs.Indexed as indexed
 use Rattle.clauses.specs.Cost.{Cost, cost, boolCost, statementsCost, statusAndEventCost, enableCost, effectCost, moverCost, propertyCost}
-use Rattle.clauses.specs.FrameSizes.{gatesAt, both, listGates, entryCost, entriesCost, HasGates, FewGates, Prepared, CellHere, PlaceCounted, CellCounted, noGates}
+use Rattle.clauses.specs.FrameSizes.{gatesAt, both, listGates, entryCost, entriesCost, HasGates, FewGates, CellHere, PlaceCounted, CellCounted, noGates}
+use Rattle.clauses.specs.Ready.{Ready}
 use Rattle.clauses.specs.Limits.{textGates, mostGates}
 use Rattle.clauses.specs.declared.cost.GatesAt.{GatesAt}
 use Rattle.clauses.proofs.Bounds.{bounded}
@@ -46,15 +48,18 @@ more-gates x e r n k p q =
 pub few-gates : (r : GatesAt) → Few r → FewGates mostGates r
 few-gates r f = record { ands = omega (arith, f .ands); wides = omega (arith, f .wides) }
 
-module _ (file table : List ℕ) (H : Shape) (h : Prepared file table H) where
+pub tables : {file table : List ℕ} {shape : Shape} → Ready file table shape → Indexed file table shape
+tables h = record { accepted = h .shaped .accepted; events = h .events; shaped = h .shaped .counts }
+
+module _ (file table : List ℕ) (H : Shape) (h : Ready file table H) where
   abbrev N : Names
   N = namesOf file H
 
   pub sizes : (16 ≤ length file) × (length file ≤ maxBytes) × (H .matrices ≤ maxMatrices) × (H .variables ≤ maxVariables)
-  sizes = indexed.sizes file (h .indexed .accepted) H (h .indexed .shaped)
+  sizes = indexed.sizes file (h .shaped .accepted) H (h .shaped .counts)
 
   pub kinds : 3 * H .variables ≤ length file
-  kinds = indexed.kinds file (h .indexed .accepted) H (h .indexed .shaped)
+  kinds = indexed.kinds file (h .shaped .accepted) H (h .shaped .counts)
 
   -- event e of matrix m
   module _ (m e : ℕ) (a : m < H .matrices) (b : e < events file (matricesOffset file) m) where
@@ -62,29 +67,29 @@ module _ (file table : List ℕ) (H : Shape) (h : Prepared file table H) where
     place = getD table (16 * m + e) 0
 
     pub event-slot : 16 * m + e < eventPlaces
-    event-slot = indexed.event-slot file table H (h .indexed) m e a b
+    event-slot = indexed.event-slot file table H (tables h) m e a b
 
     pub event-inside : place + 1 + getD file place 0 ≤ trailer file
-    event-inside = indexed.event-inside file table H (h .indexed) m e a b
+    event-inside = indexed.event-inside file table H (tables h) m e a b
 
     module _ (k : ℕ) (q : k ≡ getD file place 0) where
       past-is : place + 1 + k ≡ place + 1 + getD file place 0
       past-is = ap (λ (x : ℕ). place + 1 + x) q
 
       pub event-reads : isRead (boolExpr file N (place + 1 + k) maxDepth (place + 1)) ≡ true
-      event-reads = ap isRead (indexed.event-some file table H (h .indexed) m e a b (place + 1 + k) (place + 1) past-is refl .1)
+      event-reads = ap isRead (indexed.event-some file table H (tables h) m e a b (place + 1 + k) (place + 1) past-is refl .1)
 
       pub event-gates : (r : GatesAt) → r ≡ gatesAt boolCost (boolExpr file N (place + 1 + k) maxDepth (place + 1)) → FewGates textGates r × ((d : Design) (w : Parts file d) → HasGates r (boolCost (eventIn (w .rows) m e)))
       event-gates r z =
           let f = bool-few file N (place + 1 + k) (omega (arith, past-is, event-inside, sizes .1)) maxDepth (place + 1) r z in (
             record { ands = f .ands; wides = f .wides },
-            λ d w. known-gates boolCost _ _ _ r (indexed.event-got file table H (h .indexed) m e a b d w (place + 1 + k) (place + 1) past-is refl) z,
+            λ d w. known-gates boolCost _ _ _ r (indexed.event-got file table H (tables h) m e a b d w (place + 1 + k) (place + 1) past-is refl) z,
           )
 
   -- status and event of the cell at p
   module _ (p m e : ℕ) (a : m ≡ c-matrix file p) (b : e ≡ c-event file p) where
     pub place-range : CellFields file p → (m < H .matrices) × (e < events file (matricesOffset file) m)
-    place-range = indexed.cell-names file table H (h .indexed) p m e a b
+    place-range = indexed.cell-names file table H (tables h) p m e a b
 
     pub place-gates : (x r : GatesAt) → ((d : Design) (w : Parts file d) → HasGates x (boolCost (eventIn (w .rows) m e)))
         → r .ands ≡ x .ands + 17 → r .wides ≡ x .wides + 16 → PlaceCounted file p r
@@ -95,21 +100,21 @@ module _ (file table : List ℕ) (H : Shape) (h : Prepared file table H) where
   -- the property: the invariant, or the invalid cells
   module _ (at end : ℕ) (a : at ≡ invariantOffset file) (b : end ≡ trailer file) where
     pub invariant-reads : isRead (boolExpr file N end maxDepth at) ≡ true
-    invariant-reads = ap isRead (indexed.invariant-some file (h .indexed .accepted) H (h .indexed .shaped) at end a b .1)
+    invariant-reads = ap isRead (indexed.invariant-some file (h .shaped .accepted) H (h .shaped .counts) at end a b .1)
 
     pub invariant-gates : (p : ℕ) → p ≡ 0 → (r : GatesAt) → r ≡ gatesAt boolCost (boolExpr file N end maxDepth at) → FewGates mostGates r × ((d : Design) → Parts file d → HasGates r (propertyCost d (propertyOf d p)))
     invariant-gates p z r e = (
       few-gates r (bool-few file N end (omega (arith, sizes .1)) maxDepth at r e),
-      λ d w. subst (HasGates r) (sym (property-invariant file d w (H .bits) (h .bits .state d w) p z)) (known-gates boolCost _ _ _ r (indexed.invariant-got file (h .indexed .accepted) H (h .indexed .shaped) at end a b d w) e),
+      λ d w. subst (HasGates r) (sym (property-invariant file d w (H .bits) (h .shaped .bits .state d w) p z)) (known-gates boolCost _ _ _ r (indexed.invariant-got file (h .shaped .accepted) H (h .shaped .counts) at end a b d w) e),
     )
 
   pub property-gates : (p : ℕ) → (p ≡ 0 → ⊥) → (r : GatesAt) → ((d : Design) (w : Parts file d) → HasGates r (entriesCost (H .bits) true (w .entries))) → (d : Design) → Parts file d → HasGates r (propertyCost d (propertyOf d p))
-  property-gates p z r k d w = subst (HasGates r) (sym (property-cells file d w (H .bits) (h .bits .state d w) p z)) (k d w)
+  property-gates p z r k d w = subst (HasGates r) (sym (property-cells file d w (H .bits) (h .shaped .bits .state d w) p z)) (k d w)
 
   -- a normal cell
   module _ (p : ℕ) (x : NormalCell file p) where
     pub normal-fields : CellFields file p
-    normal-fields = indexed.normal-fields file table H (h .indexed) p x
+    normal-fields = indexed.normal-fields file table H (tables h) p x
 
     module _ (n : ℕ) (q : n ≡ c-guard file p) where
       pub guard-inside : p + 8 + n ≤ trailer file
@@ -118,19 +123,19 @@ module _ (file table : List ℕ) (H : Shape) (h : Prepared file table H) where
       pub guard-none : n ≡ 0 → (r : GatesAt) → r .ands ≡ 0 → r .wides ≡ 0 → HasGates r (boolCost (x .cell .guard))
       unfolding boolCost
       guard-none z r u v =
-          let g = ap boolCost (indexed.guard-none file table H (h .indexed) p x (sym q ∙ z)) in
+          let g = ap boolCost (indexed.guard-none file table H (tables h) p x (sym q ∙ z)) in
           record { ands = u ∙ sym (ap (λ (k : Cost). k .ands) g); wides = v ∙ sym (ap (λ (k : Cost). k .wides) g) }
 
       module _ (z : n ≡ 0 → ⊥) where
         pub guard-reads : isRead (boolExpr file N (p + 8 + n) maxDepth (p + 8)) ≡ true
-        guard-reads = ap isRead (indexed.guard-got file table H (h .indexed) p x n q z)
+        guard-reads = ap isRead (indexed.guard-got file table H (tables h) p x n q z)
 
         pub guard-gates : (r : GatesAt) → r ≡ gatesAt boolCost (boolExpr file N (p + 8 + n) maxDepth (p + 8)) → HasGates r (boolCost (x .cell .guard))
-        guard-gates r k = known-gates boolCost _ _ _ r (indexed.guard-got file table H (h .indexed) p x n q z) k
+        guard-gates r k = known-gates boolCost _ _ _ r (indexed.guard-got file table H (tables h) p x n q z) k
 
     module _ (m n : ℕ) (a : m ≡ c-middle file p) (b : n ≡ c-past file p) where
       pub action-reads : isRead (list file N n maxNest m) ≡ true
-      action-reads = ap isRead (indexed.action-got file table H (h .indexed) p x m n a b)
+      action-reads = ap isRead (indexed.action-got file table H (tables h) p x m n a b)
 
       -- enable, the action, and the muxes
       pub normal-gates : (e g s t r : GatesAt) → PlaceCounted file p e
@@ -140,7 +145,7 @@ module _ (file table : List ℕ) (H : Shape) (h : Prepared file table H) where
           let is : NormalRead file (trailer file) (names file) (matricesOffset file) (eventIn (x .parts .rows)) p (x .cell) = x .stands .1 .entry .1 in
           let ev = ap statusAndEventCost (is .event) in
           let i = f (x .tree) (x .parts) in
-          let j = known-gates (λ (y : Stmts). statementsCost y (H .bits)) _ _ _ s (indexed.action-got file table H (h .indexed) p x m n a b) q in
+          let j = known-gates (λ (y : Stmts). statementsCost y (H .bits)) _ _ _ s (indexed.action-got file table H (tables h) p x m n a b) q in
           record {
             ands = omega (arith, ap (λ (y : Cost). y .ands) ev, i .ands, k .ands, j .ands, ap (λ (y : GatesAt). y .ands) u, ap (λ (y : GatesAt). y .ands) v);
             wides = omega (arith, ap (λ (y : Cost). y .wides) ev, i .wides, k .wides, j .wides, ap (λ (y : GatesAt). y .wides) u, ap (λ (y : GatesAt). y .wides) v);
@@ -289,12 +294,12 @@ module _ (file : List ℕ) (bits : ℕ) (t : Bool) where
       go (x ∷ xs) c a v = absurd (omega arith)
 
 -- the sums of the loop are few
-module _ (file table : List ℕ) (H : Shape) (h : Prepared file table H) (bytes : (i : ℕ) → getD file i 0 < 256) where
+module _ (file table : List ℕ) (H : Shape) (h : Ready file table H) (bytes : (i : ℕ) → getD file i 0 < 256) where
   tree : Tree file
-  tree = read file (h .indexed .accepted)
+  tree = read file (h .shaped .accepted)
 
   total-few : (t : Bool) → (entriesCost (H .bits) t (tree .all .parts .entries) .ands ≤ mostGates) × (entriesCost (H .bits) t (tree .all .parts .entries) .wides ≤ mostGates)
-  total-few t = entries-few file (tree .tree) (tree .all .parts) (H .bits) (h .bits .state (tree .tree) (tree .all .parts)) (bounded file bytes (tree .tree) (tree .is)) t
+  total-few t = entries-few file (tree .tree) (tree .all .parts) (H .bits) (h .shaped .bits .state (tree .tree) (tree .all .parts)) (bounded file bytes (tree .tree) (tree .is)) t
 
   module _ (t : Bool) (left : ℕ) (g : GatesAt) where
     pub cell-here : 0 < left → Walking file (H .bits) t left g → CellHere file (g .next)

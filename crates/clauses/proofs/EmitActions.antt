@@ -25,7 +25,7 @@ use Rattle.clauses.specs.Expression.{Slots, int!, bool! }
 use Rattle.clauses.specs.Action.{muxes!, statement!, statements! }
 use Rattle.clauses.specs.Writing.{fromCode, fromCodes, Emits}
 use Rattle.clauses.specs.FlatState.{slotsOf, layoutOf}
-use Rattle.clauses.specs.Encoded.{Writes, Here, Encodes, intsAt, boolsAt, assignsAt, stmtsAt, listsAt, IntHere, BoolHere}
+use Rattle.clauses.specs.Encoders.{Writes, Here, Encodes, intsAt, boolsAt, assignsAt, stmtsAt, listsAt, IntHere, BoolHere}
 use Rattle.clauses.specs.declared.gate.Cursor.{Cursor}
 use Rattle.clauses.proofs.EmitBuilds.{emits-same, emits-bind, Left, left-start, left-on, left-same, left-end}
 use Rattle.clauses.proofs.EmitReads.{provided-got, Bound, bind-got, got-same, OneRead, one-read}

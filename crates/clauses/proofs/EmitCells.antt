@@ -14,7 +14,6 @@ use Rattle.design.specs.Reading.{got}
 use Rattle.design.specs.Expression.{boolExpr}
 use Rattle.design.specs.DesignFile.{c-matrix, c-status, c-event, c-guard, c-middle, c-past, events}
 use Rattle.design.specs.Check.{namesOf, names, trailer, matricesOffset, eventIn}
-use Rattle.design.specs.Places.{Indexed}
 use Rattle.design.specs.declared.shape.Shape.{Shape}
 use Rattle.design.specs.Sections.{Parts, NormalRead, CellFields}
 use Rattle.design.proofs.Places.{Read as Tree, read}
@@ -27,11 +26,12 @@ use Rattle.clauses.specs.Action.{muxBits!, muxes!, statements!, statusAn
 use Rattle.clauses.specs.Formula.{total, variablesFrom}
 use Rattle.clauses.specs.Writing.{fromCode, fromCodes, Emits}
 use Rattle.clauses.specs.FlatState.{widthsFrom, widthsIn, layoutOf, cut, slotsOf, over, Slotted}
-use Rattle.clauses.specs.Encoded.{Writes, Here, listsAt, BoolHere, BoolEncoded, ListEncoded}
+use Rattle.clauses.specs.Encoders.{Writes, Here, listsAt, BoolHere, BoolEncoded, ListEncoded}
 use Rattle.clauses.specs.Ready.{ShapedFile, Ready, resultFrom}
 use Rattle.clauses.specs.declared.gate.Cursor.{Cursor}
 use Rattle.clauses.specs.declared.expression.BoolOut.{BoolOut}
 use Rattle.clauses.specs.declared.action.Done.{Done}
+use Rattle.clauses.proofs.CellCounts.{tables}
 use Rattle.clauses.proofs.EmitWords.{code-yes}
 use Rattle.clauses.proofs.EmitLists.{codes-length, codes-take}
 use Rattle.clauses.proofs.EmitBuilds.{emits-same, emits-result, emits-give, emits-bind, emits-map}
@@ -58,9 +58,6 @@ module _ {file : List ℕ} {shape : Shape} (h : ShapedFile file shape) where
   }
 
 module _ {file table : List ℕ} {shape : Shape} (h : Ready file table shape) where
-  tables : Indexed file table shape
-  tables = record { accepted = h .shaped .accepted; events = h .events; shaped = h .shaped .counts }
-
   long : length file ≤ maxBytes
   long = sizes (h .shaped) .1
 
@@ -73,16 +70,16 @@ module _ {file table : List ℕ} {shape : Shape} (h : Ready file table shape) wh
     place = getD table (16 * m + e) 0
 
     named : (m < shape .matrices) × (e < events file (matricesOffset file) m)
-    named = indexed.cell-names file table shape tables p m e a b g
+    named = indexed.cell-names file table shape (tables h) p m e a b g
 
     pub event-slot : 16 * m + e < eventPlaces
-    event-slot = indexed.event-slot file table shape tables m e (named .0) (named .1)
+    event-slot = indexed.event-slot file table shape (tables h) m e (named .0) (named .1)
 
     pub event-inside : place + 1 + getD file place 0 ≤ trailer file
-    event-inside = indexed.event-inside file table shape tables m e (named .0) (named .1)
+    event-inside = indexed.event-inside file table shape (tables h) m e (named .0) (named .1)
 
     event-got : (d : Design) (w : Parts file d) (at : ℕ) → at ≡ place → boolExpr file (namesOf file shape) (place + 1 + getD file place 0) maxDepth (at + 1) ≡ got (eventIn (w .rows) m e) (place + 1 + getD file place 0)
-    event-got d w at q = indexed.event-got file table shape tables m e (named .0) (named .1) d w _ (at + 1) refl (ap (λ (k : ℕ). k + 1) q)
+    event-got d w at q = indexed.event-got file table shape (tables h) m e (named .0) (named .1) d w _ (at + 1) refl (ap (λ (k : ℕ). k + 1) q)
 
     pub event-here : (at : ℕ) → at ≡ place → BoolHere file file shape (at + 1)
     event-here at q = record {
@@ -102,28 +99,28 @@ module _ {file table : List ℕ} {shape : Shape} (h : Ready file table shape) wh
   -- a normal cell
   module _ (p : ℕ) (x : NormalCell file p) where
     pub normal-fields : CellFields file p
-    normal-fields = indexed.normal-fields file table shape tables p x
+    normal-fields = indexed.normal-fields file table shape (tables h) p x
 
     pub is : NormalRead file (trailer file) (names file) (matricesOffset file) (eventIn (x .parts .rows)) p (x .cell)
-    is = indexed.cell-is file table shape tables p x
+    is = indexed.cell-is file table shape (tables h) p x
 
     pub guard-none : c-guard file p ≡ 0 → x .cell .guard ≡ constantB true
-    guard-none = indexed.guard-none file table shape tables p x
+    guard-none = indexed.guard-none file table shape (tables h) p x
 
     -- a guard that is there, and the action
     pub guard-here : (n : ℕ) → n ≡ c-guard file p → (n ≡ 0 → ⊥) → BoolHere file file shape (p + 8)
-    guard-here n e z = record { end = p + 8 + n; levels = maxDepth; inside = omega (arith, normal-fields .past, long); read = record { tree = x .cell .guard; past = c-middle file p; reads = indexed.guard-got file table shape tables p x n e z } }
+    guard-here n e z = record { end = p + 8 + n; levels = maxDepth; inside = omega (arith, normal-fields .past, long); read = record { tree = x .cell .guard; past = c-middle file p; reads = indexed.guard-got file table shape (tables h) p x n e z } }
 
     pub guard-writes : (n : ℕ) → n ≡ c-guard file p → (n ≡ 0 → ⊥) → (codes : List ℕ) {pen : Cursor} {xs ys : List ℤ} (r : BoolOut) → BoolEncoded file file shape codes (p + 8) pen xs ys r
         → Writes pen (bool! (layoutOf shape) (slotsOf file shape codes) (x .cell .guard)) xs ys (fromCode (r .lit)) (r .pen)
-    guard-writes n e z codes r k = k .encodes (p + 8 + n) maxDepth _ _ (omega (arith, normal-fields .past, long)) (indexed.guard-got file table shape tables p x n e z) .0
+    guard-writes n e z codes r k = k .encodes (p + 8 + n) maxDepth _ _ (omega (arith, normal-fields .past, long)) (indexed.guard-got file table shape (tables h) p x n e z) .0
 
     pub action-here : (m : ℕ) → m ≡ c-middle file p → Here file (listsAt file file shape) m
-    action-here m a = record { end = c-past file p; levels = maxNest; inside = omega (arith, normal-fields .past, long); read = record { tree = x .cell .action; past = c-past file p; reads = indexed.action-got file table shape tables p x m (c-past file p) a refl } }
+    action-here m a = record { end = c-past file p; levels = maxNest; inside = omega (arith, normal-fields .past, long); read = record { tree = x .cell .action; past = c-past file p; reads = indexed.action-got file table shape (tables h) p x m (c-past file p) a refl } }
 
     pub action-writes : (m : ℕ) → m ≡ c-middle file p → (codes after : List ℕ) {pen : Cursor} {xs ys : List ℤ} (r : Done) → ListEncoded file shape codes after m pen xs ys r
         → Writes pen (statements! (x .cell .action) (layoutOf shape) (slotsOf file shape codes)) xs ys (slotsOf file shape after) (r .pen)
-    action-writes m a codes after r k = k .encodes (c-past file p) maxNest _ _ (omega (arith, normal-fields .past, long)) (indexed.action-got file table shape tables p x m (c-past file p) a refl) .0
+    action-writes m a codes after r k = k .encodes (c-past file p) maxNest _ _ (omega (arith, normal-fields .past, long)) (indexed.action-got file table shape (tables h) p x m (c-past file p) a refl) .0
 
 -- gates of a cell's parts
 pub event-emits : (l : Layout) (s : Slots) (m st : ℕ) (event : BoolExpr) (x k : Bits) (q v r : Literal) {n : ℕ} {x0 x1 x2 x3 : List ℤ} {c0 c1 c2 c3 v1 v2 v3 : ℕ} → x ≡ integerAt s (statusSlot l m) → k ≡ constantBits 16 st

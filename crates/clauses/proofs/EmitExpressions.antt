@@ -22,7 +22,7 @@ use Rattle.clauses.specs.Expression.{Slots, constantBits, integerAt, boo
 use Rattle.clauses.specs.Writing.{Emits}
 use Rattle.clauses.specs.Piece.{arithmetic!, logic!, compare! }
 use Rattle.clauses.specs.FlatState.{slotsOf, layoutOf, Reads}
-use Rattle.clauses.specs.Encoded.{Writes, Here, Encodes, intsAt, boolsAt, IntHere, BoolHere}
+use Rattle.clauses.specs.Encoders.{Writes, Here, Encodes, intsAt, boolsAt, IntHere, BoolHere}
 use Rattle.clauses.specs.declared.gate.Cursor.{Cursor}
 use Rattle.clauses.proofs.EmitBuilds.{emits-same, emits-result, emits-give, emits-bind, emits-map}
 use Rattle.clauses.proofs.EmitReads.{OneRead, TwoRead, arithmeticOf, logicOf, compareOf, int-live, bool-live, int-ahead, read-constant, read-variable, read-status, is-status, read-arithmetic, read-truth, read-flag, is-flag, read-not, read-logic, read-compare}

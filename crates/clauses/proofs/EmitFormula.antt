@@ -27,7 +27,8 @@ use Rattle.clauses.specs.Words.{clauseWords, words}
 use Rattle.clauses.specs.Expression.{Slots}
 use Rattle.clauses.specs.Action.{movers! }
 use Rattle.clauses.specs.Formula.{variablesFrom, flat, pairs, allTies, S, w, P, G, F, n, property!, stateAt, frame, firstPart, propertyClauses, stepClauses, framePart, lastClause, part, partsFrom, formula}
-use Rattle.clauses.specs.Writing.{strideLimit, variableLimit, fromCodes, Puts, Emits}
+use Rattle.clauses.specs.Limits.{frameLimit}
+use Rattle.clauses.specs.Writing.{variableLimit, fromCodes, Puts, Emits}
 use Rattle.clauses.specs.FlatState.{slotsOf, layoutOf}
 use Rattle.clauses.specs.FrameSizes.{frameSizes, SmallFrame, frameLength}
 use Rattle.clauses.specs.Ready.{FrameReady, resultFrom}
@@ -64,11 +65,11 @@ unfolding frame F
 frame-starts d p s wf e j = ap (λ (k : ℕ). 2 + j * k) (numbers d p s wf e .length)
 
 -- where frame j starts, as a product of machine numbers
-pub start-is : (s : FrameSizes) → SmallFrame s → (j l t : ℕ) → j ≤ maxBound → l ≡ frameLength s → t ≡ j * l → (t ≡ j * frameLength s) × (t ≤ maxBound * strideLimit)
+pub start-is : (s : FrameSizes) → SmallFrame s → (j l t : ℕ) → j ≤ maxBound → l ≡ frameLength s → t ≡ j * l → (t ≡ j * frameLength s) × (t ≤ maxBound * frameLimit)
 start-is s h j l t few e q =
     let z : t ≡ j * frameLength s = q ∙ ap (λ (k : ℕ). j * k) e in
-    let f : frameLength s ≤ strideLimit = omega (arith, h .bits, h .movers, h .gates) in
-    let m : j * frameLength s ≤ maxBound * strideLimit = mul-le-mul few f in
+    let f : frameLength s ≤ frameLimit = omega (arith, h .bits, h .movers, h .gates) in
+    let m : j * frameLength s ≤ maxBound * frameLimit = mul-le-mul few f in
     (z, omega arith)
 
 module _ {file events cells : List ℕ} {shape : Shape} {s : FrameSizes} (h : FrameReady file events cells shape s) where

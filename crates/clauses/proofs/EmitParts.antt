@@ -28,7 +28,8 @@ use Rattle.clauses.specs.Words.{wordOf, clauseWords, words}
 use Rattle.clauses.specs.Circuit.{Bits}
 use Rattle.clauses.specs.Expression.{Slots}
 use Rattle.clauses.specs.Formula.{total, variablesFrom, slotsFrom, unitsOf, initialUnits, S, stateAt, property!, propertyAt, P, F, frame, n, firstPart, negatedFrom, lastClause}
-use Rattle.clauses.specs.Writing.{fromCode, fromCodes, gateWords, variableLimit, strideLimit, Puts, Emits}
+use Rattle.clauses.specs.Limits.{frameLimit}
+use Rattle.clauses.specs.Writing.{fromCode, fromCodes, gateWords, variableLimit, Puts, Emits}
 use Rattle.clauses.specs.FlatState.{widthsFrom, slotsOf}
 use Rattle.clauses.specs.Ready.{ShapedFile}
 use Rattle.clauses.proofs.Costs.{gates-counted, words-counted}
@@ -165,7 +166,7 @@ next-frame d p stride x y j e at ey = ey ∙ ap₂ (λ (a b : ℕ). a + b) at e 
 
 pub record Closing (file : List ℕ) (p stride bound : ℕ) (xs₀ : List ℤ) (cur₀ : ℕ) (xs : List ℤ) (cur x j : ℕ) : Type 0 where
   pub within : j ≤ bound + 1
-  pub small : x ≤ 2 + strideLimit * j
+  pub small : x ≤ 2 + frameLimit * j
   pub here : (d : Design) → stride ≡ F d (propertyOf d p) → x ≡ frame d (propertyOf d p) j
   pub left : (d : Design) (w : Parts file d) → stride ≡ F d (propertyOf d p) → n d (propertyOf d p) bound < variableLimit → PutsLeft (clauseWords (lastClause d (propertyOf d p) bound)) xs₀ cur₀ (clauseWords (negatedFrom d (propertyOf d p) (bound + 1 - j) j)) xs cur
 
@@ -179,7 +180,7 @@ module _ (file : List ℕ) (p stride bound : ℕ) (xs₀ : List ℤ) (cur₀ : �
     left = λ d w e k. subst (λ (m : ℕ). PutsLeft (clauseWords (negatedFrom d (propertyOf d p) (suc bound) 0)) xs₀ cur₀ (clauseWords (negatedFrom d (propertyOf d p) m 0)) xs₀ cur₀) (let q : suc bound ≡ bound + 1 - 0 = omega arith in q) (puts-start _ xs₀ cur₀);
   }
 
-  pub closing-on : {xs : List ℤ} {cur x j : ℕ} → j ≤ bound → stride ≤ strideLimit → Closing file p stride bound xs₀ cur₀ xs cur x j → (n y : ℕ) (l m : Literal) → ((d : Design) (w : Parts file d) → n ≡ S d) → y ≡ x + stride
+  pub closing-on : {xs : List ℤ} {cur x j : ℕ} → j ≤ bound → stride ≤ frameLimit → Closing file p stride bound xs₀ cur₀ xs cur x j → (n y : ℕ) (l m : Literal) → ((d : Design) (w : Parts file d) → n ≡ S d) → y ≡ x + stride
       → ((d : Design) (w : Parts file d) → x + n + P d (propertyOf d p) ≤ variableLimit → l ≡ (propertyAt d (propertyOf d p) x) .out) → m ≡ negate l → {ys : List ℤ} {c : ℕ} → Puts (wordOf m ∷ []) xs ys cur c → Closing file p stride bound xs₀ cur₀ ys c y (j + 1)
   unfolding negatedFrom
   closing-on {xs} {cur} {x} {j} le few k bits y l m eb ey el em {ys} {c} puts = record {

@@ -37,7 +37,7 @@ use Rattle.clauses.specs.Writing.{fromCode, Emits}
 use Rattle.clauses.specs.Piece.{link! }
 use Rattle.clauses.specs.FlatState.{slotsOf, layoutOf}
 use Rattle.clauses.specs.Ready.{ShapedFile, resultFrom}
-use Rattle.clauses.specs.Encoded.{Writes, BoolHere, BoolEncoded}
+use Rattle.clauses.specs.Encoders.{Writes, BoolHere, BoolEncoded}
 use Rattle.clauses.specs.declared.gate.Cursor.{Cursor}
 use Rattle.clauses.specs.declared.expression.BoolOut.{BoolOut}
 use Rattle.clauses.proofs.EmitWords.{append-nil}

@@ -9,9 +9,8 @@ use lib.ListN.{length, getD, drop}
 use lib.IntN.{ℤ}
 use borrow.Author.Tests.{le-leb, lt-leb}
 use Rattle.design.specs.Tree.{Design}
-use Rattle.design.specs.Check.{Checked, check}
+use Rattle.design.specs.Check.{Checked, check, refusal}
 use Rattle.design.specs.Places.{Accepted}
-use Rattle.design.specs.Answers.{refusal}
 use Rattle.design.specs.declared.Refusal.{Refusal}
 use Rattle.design.proofs.WellFormed.{well-formed}
 use Rattle.design.proofs.Places.{read}

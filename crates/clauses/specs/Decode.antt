@@ -48,15 +48,15 @@ choicesToWrite file p k values room =
     (chosenFrom d q values k 0)
 
 -- the answer, which holds nothing, and the choices after the call
-pub record Decoded : Type 0 where
+pub record AfterDecode : Type 0 where
   pub answer : Answer (Unit {0})
   pub choices : List ℕ
 
 -- "DECODE writes k choices." "All else keeps."
-abbrev pub written : Answer (List ℕ) → List ℕ → Decoded
+abbrev pub written : Answer (List ℕ) → List ℕ → AfterDecode
 written (refused number place) choices = record { answer = refused number place; choices = choices }
 written (answer cs) choices = record { answer = answer tt; choices = cs ++ drop (length cs) choices }
 
 -- of a file, a property, a bound, the values and the lent choices
-unfoldable pub decode : List ℕ → ℕ → ℕ → List ℕ → List ℕ → Decoded
+unfoldable pub decode : List ℕ → ℕ → ℕ → List ℕ → List ℕ → AfterDecode
 decode file p k values choices = written (choicesToWrite file p k values (length choices)) choices

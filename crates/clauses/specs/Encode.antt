@@ -18,15 +18,15 @@ wordsToWrite file p k i room =
     (answer (words (part d q k i))))
 
 -- the answer, and the buffer after the call
-pub record Encoded : Type 0 where
+pub record AfterEncode : Type 0 where
   pub answer : Answer ℕ
   pub buffer : List ℤ
 
 -- "ENCODE fills its part's words and answers their number." "All else keeps." A refusal "leaves all lent memory unchanged".
-abbrev pub filled : Answer (List ℤ) → List ℤ → Encoded
+abbrev pub filled : Answer (List ℤ) → List ℤ → AfterEncode
 filled (refused number place) buffer = record { answer = refused number place; buffer = buffer }
 filled (answer ws) buffer = record { answer = answer (length ws); buffer = ws ++ drop (length ws) buffer }
 
 -- of a file, a property, a bound, a part and the lent buffer
-unfoldable pub encode : List ℕ → ℕ → ℕ → ℕ → List ℤ → Encoded
+unfoldable pub encode : List ℕ → ℕ → ℕ → ℕ → List ℤ → AfterEncode
 encode file p k i buffer = filled (wordsToWrite file p k i (length buffer)) buffer

@@ -160,5 +160,7 @@ module _ (d : Design) where
 
 -- Not part of the formula: to unfold this is to unfold all of it, for facts about given designs.
 unfoldable pub encoding : ℕ
-unfolding give _>>=_ and! xor! mux! or! sum! difference! less! xors! chain! equal! int! bool! muxBits! muxes! statement! statements! statusAndEvent! enable! effect! mover! movers! noInvalid! movers layout widths start S w propertyOf property! step! stateAt propertyAt flagsAt stepAt P G F frame n firstPart propertyClauses stepClauses framePart negatedFrom lastClause part partsFrom formula choicesFrom choices
+unfolding give _>>=_ and! xor! mux! or! sum! difference! less! xors! chain! equal! int! bool! muxBits! muxes! statement! statements! statusAndEvent!
+    enable! effect! mover! movers! noInvalid! movers layout widths start S w propertyOf property! step! stateAt propertyAt flagsAt stepAt P G F frame
+    n firstPart propertyClauses stepClauses framePart negatedFrom lastClause part partsFrom formula choicesFrom choices
 encoding = 0

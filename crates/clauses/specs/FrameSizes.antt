@@ -10,11 +10,8 @@ use Rattle.design.specs.Reading.{Read, got, bad}
 use Rattle.design.specs.DesignFile.{Entry, normal, invalid, c-matrix, c-event}
 use Rattle.design.specs.Limits.{maxMovers, maxBits}
 use Rattle.design.specs.Check.{eventIn}
-use Rattle.design.specs.Places.{StateBits, Indexed}
 use Rattle.design.specs.Sections.{Parts, Standing}
 use Rattle.step.specs.Property.{Property}
-use Rattle.design.specs.declared.shape.Shape.{Shape}
-use Rattle.design.specs.Places.{externalsFrom}
 use Rattle.clauses.specs.Formula.{S, w}
 use Rattle.clauses.specs.Cost.{Cost, cost, addCosts, gatesIn, clausesIn, wordsIn, pairCount, statementCost, statementsCost, statusAndEventCost, moverCost, propertyCost, stepCost}
 use Rattle.clauses.specs.Limits.{mostGates}
@@ -62,11 +59,6 @@ pub record FewGates (most : ℕ) (r : GatesAt) : Type 0 where
   pub ands : r .ands ≤ most
   pub wides : r .wides ≤ most
 
--- an accepted file with its table of events, and its shape with the state bits
-pub record Prepared (file table : List ℕ) (h : Shape) : Type 0 where
-  pub indexed : Indexed file table h
-  pub bits : StateBits file h
-
 -- a cell that stands at p
 pub record CellHere (file : List ℕ) (p : ℕ) : Type 0 where
   pub tree : Design
@@ -77,11 +69,11 @@ pub record CellHere (file : List ℕ) (p : ℕ) : Type 0 where
 -- the gates of status and event of the cell at p; and of that cell, where the normal cells count, or the invalid ones
 abbrev pub PlaceCounted : List ℕ → ℕ → GatesAt → Type 0
 PlaceCounted file p r =
-    (d : Design) (w : Parts file d) → HasGates r (statusAndEventCost (eventIn (w .rows) (c-matrix file p) (c-event file p)))
+    (d : Design) (parts : Parts file d) → HasGates r (statusAndEventCost (eventIn (parts .rows) (c-matrix file p) (c-event file p)))
 
 abbrev pub CellCounted : List ℕ → ℕ → Bool → ℕ → GatesAt → Type 0
 CellCounted file bits t p r =
-    (d : Design) (w : Parts file d) (x : Entry) → Standing file (eventIn (w .rows)) p x → HasGates r (entryCost bits t x)
+    (d : Design) (parts : Parts file d) (x : Entry) → Standing file (eventIn (parts .rows)) p x → HasGates r (entryCost bits t x)
 
 -- What a frame holds, as the code has it.
 abbrev pub gatesOf : Cost → Gates

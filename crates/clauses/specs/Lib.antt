@@ -22,7 +22,7 @@ pub mod Limits
 pub mod Writing
 pub mod Piece
 pub mod FlatState
-pub mod Encoded
+pub mod Encoders
 pub mod FrameSizes
 pub mod Ready
 pub mod Chosen

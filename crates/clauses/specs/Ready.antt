@@ -17,10 +17,11 @@ use Rattle.clauses.specs.Words.{words}
 use Rattle.clauses.specs.Formula.{total, variablesFrom, slotsFrom, flat, initialUnits, ties, allTies, property!, F, n, frame, stepClauses, framePart, lastClause, part, formula}
 use Rattle.clauses.specs.Expression.{Slots, bool! }
 use Rattle.clauses.specs.Action.{statusAndEvent!, enable!, mover!, movers!, noInvalid! }
-use Rattle.clauses.specs.Writing.{variableLimit, strideLimit, fromCode, Puts, Emits}
+use Rattle.clauses.specs.Limits.{frameLimit}
+use Rattle.clauses.specs.Writing.{variableLimit, fromCode, Puts, Emits}
 use Rattle.clauses.specs.Piece.{link! }
 use Rattle.clauses.specs.FlatState.{widthsIn, layoutOf, cut, slotsOf}
-use Rattle.clauses.specs.Encoded.{Gives, Writes}
+use Rattle.clauses.specs.Encoders.{Gives, Writes}
 use Rattle.clauses.specs.FrameSizes.{frameSizes, SmallFrame}
 use Rattle.step.specs.Limits.{lastProperty, maxBound}
 use Rattle.clauses.specs.declared.gate.Cursor.{Cursor}
@@ -61,7 +62,7 @@ module _ (file : List ℕ) (shape : Shape) (codes : List ℕ) where
 
   abbrev pub AllMove : Cursor → List ℤ → List ℤ → Stepped → Type 0
   AllMove pen xs ys r =
-      (d : Design) (w : Parts file d) → Writes pen (movers! (layoutOf shape) (slotsOf file shape codes) (movers d)) xs ys (map (resultFrom file shape) (take (shape .normals + shape .externals) (r .firsts))) (r .pen)
+      (d : Design) (parts : Parts file d) → Writes pen (movers! (layoutOf shape) (slotsOf file shape codes) (movers d)) xs ys (map (resultFrom file shape) (take (shape .normals + shape .externals) (r .firsts))) (r .pen)
 
   -- a cell's link of property 1's chain, the chain, and either property
   abbrev pub LinkGates : ℕ → (ℕ → ℕ → BoolExpr) → Out → List ℤ → List ℤ → Out → Type 0
@@ -90,7 +91,7 @@ module _ (n b : ℕ) (xs ys : List ℤ) (cur cur′ : ℕ) where
 module _ (file : List ℕ) (xs ys : List ℤ) (cur cur′ : ℕ) where
   abbrev pub ValuesPut : Type 0
   ValuesPut =
-      (d : Design) (w : Parts file d) → Puts (words (initialUnits (slotsFrom 2 (map (λ (x : Variable). width (x .kind)) (d .variables))) (map (λ (x : Variable). x .initial) (d .variables)))) xs ys cur cur′
+      (d : Design) (parts : Parts file d) → Puts (words (initialUnits (slotsFrom 2 (map (λ (x : Variable). width (x .kind)) (d .variables))) (map (λ (x : Variable). x .initial) (d .variables)))) xs ys cur cur′
 
   abbrev pub StepPut : FrameSizes → ℕ → Type 0
   StepPut s v =
@@ -98,7 +99,7 @@ module _ (file : List ℕ) (xs ys : List ℤ) (cur cur′ : ℕ) where
       → Puts (words (stepClauses d (propertyOf d p) j)) xs ys cur cur′
 
   abbrev pub LastPut : ℕ → ℕ → ℕ → Type 0
-  LastPut p k stride = (d : Design) (w : Parts file d) → stride ≡ F d (propertyOf d p) → n d (propertyOf d p) k < variableLimit → Puts (words (lastClause d (propertyOf d p) k ∷ [])) xs ys cur cur′
+  LastPut p k stride = (d : Design) (parts : Parts file d) → stride ≡ F d (propertyOf d p) → n d (propertyOf d p) k < variableLimit → Puts (words (lastClause d (propertyOf d p) k ∷ [])) xs ys cur cur′
 
   -- a frame's part, any part, and all, of the formula that is written
   abbrev pub FramePut : Instance → ℕ → Type 0
@@ -112,7 +113,7 @@ module _ (file : List ℕ) (xs ys : List ℤ) (cur cur′ : ℕ) where
 
 -- no frame starts above this
 abbrev pub startLimit : ℕ
-startLimit = 2 + maxBound * strideLimit
+startLimit = 2 + maxBound * frameLimit
 
 -- what the writer of parts is given beside: both tables, that bytes are bytes, and the sizes of a frame
 pub record FrameReady (file events cells : List ℕ) (shape : Shape) (s : FrameSizes) : Type 0 where

@@ -4,8 +4,8 @@ use Prim.Native.Nat.{ℕ}
 use lib.IntN.{ℤ}
 use Rattle.design.specs.Answer.{Answer, refused, answer}
 use Rattle.clauses.specs.Size.{Sizes}
-use Rattle.clauses.specs.Encode.{Encoded, encode}
-use Rattle.clauses.specs.Decode.{Decoded, decode}
+use Rattle.clauses.specs.Encode.{AfterEncode, encode}
+use Rattle.clauses.specs.Decode.{AfterDecode, decode}
 use Rattle.clauses.specs.declared.frame.FormulaSizes.{FormulaSizes}
 use Rattle.clauses.specs.declared.size.SizeReply.{SizeReply}
 use Rattle.clauses.specs.declared.size.SizeReply.the-variants.{Sized}
@@ -42,7 +42,7 @@ pub record EncodeExit : Type 0 where
   pub reply : EncodeReply
   pub buffer : List ℤ
 
-abbrev pub encodeExit : Encoded → EncodeExit
+abbrev pub encodeExit : AfterEncode → EncodeExit
 encodeExit e = record { reply = encodeReply (e .answer); buffer = e .buffer }
 
 abbrev pub ENCODE : List ℕ → ℕ → ℕ → ℕ → List ℤ → EncodeExit
@@ -57,7 +57,7 @@ pub record DecodeExit : Type 0 where
   pub reply : DecodeReply
   pub choices : List ℕ
 
-abbrev pub exitOf : Decoded → DecodeExit
+abbrev pub exitOf : AfterDecode → DecodeExit
 exitOf d = record { reply = decodeReply (d .answer); choices = d .choices }
 
 abbrev pub DECODE : List ℕ → ℕ → ℕ → List ℕ → List ℕ → DecodeExit

@@ -30,10 +30,6 @@ gateWords gs = words (gatesClauses gs)
 abbrev pub variableLimit : ℕ
 variableLimit = 2147483648
 
--- no frame is longer: 101 of them stay below the limit of variables
-abbrev pub strideLimit : ℕ
-strideLimit = 16777216
-
 abbrev pub wordLimit : ℕ
 wordLimit = 4611686018427387904
 

@@ -6,7 +6,7 @@ ghost use lib.ListN.{length, take};
 ghost use Rattle.design.specs.Limits.{maxBits};
 ghost use Rattle.clauses.specs.Formula.{total};
 ghost use Rattle.clauses.specs.FlatState.{widthsOf, over, Slotted};
-ghost use Rattle.clauses.specs.Encoded.{MuxesWritten, Here, assignsAt, stmtsAt, listsAt, AssignEncoded, StmtEncoded, ListEncoded};
+ghost use Rattle.clauses.specs.Encoders.{MuxesWritten, Here, assignsAt, stmtsAt, listsAt, AssignEncoded, StmtEncoded, ListEncoded};
 use super::expression::encode_bool;
 use super::expression::encode_int;
 use super::gate::Cursor;

@@ -5,10 +5,10 @@ ghost use Prim.Native.Nat.{ℕ, _<_};
 ghost use Rattle.design.specs.Tree.{Design, cell};
 ghost use Rattle.design.specs.DesignFile.{c-past, events as eventCount};
 ghost use Rattle.design.specs.Check.{matricesOffset, eventIn};
-ghost use Rattle.design.specs.Sections.{Parts, CellFields};
-ghost use Rattle.design.specs.Sections.{NormalCell};
+ghost use Rattle.design.specs.Sections.{Parts, CellFields, NormalCell};
 ghost use Rattle.clauses.specs.Cost.{boolCost, moverCost};
-ghost use Rattle.clauses.specs.FrameSizes.{HasGates, FewGates, Prepared, CellHere, PlaceCounted, CellCounted, entriesCost};
+ghost use Rattle.clauses.specs.FrameSizes.{HasGates, FewGates, CellHere, PlaceCounted, CellCounted, entriesCost};
+ghost use Rattle.clauses.specs.Ready.{Ready};
 ghost use Rattle.clauses.specs.Limits.{textGates, mostGates};
 use super::cost::GatesAt;
 use super::cost::join;
@@ -33,8 +33,8 @@ pub fn size_event(
     m: usize,
     e: usize,
 ) -> GatesAt
-    requires { ⌜ Prepared (now file) (now events) shape × (m < shape .matrices) × (e < eventCount (now file) (matricesOffset (now file)) m) ⌝ }
-    ensures { λ r. ⌜ FewGates textGates r × ((d : Design) (w : Parts (now (file .entry)) d) → HasGates r (boolCost (eventIn (w .rows) m e))) ⌝ }
+    requires { ⌜ Ready (now file) (now events) shape × (m < shape .matrices) × (e < eventCount (now file) (matricesOffset (now file)) m) ⌝ }
+    ensures { λ r. ⌜ FewGates textGates r × ((d : Design) (parts : Parts (now (file .entry)) d) → HasGates r (boolCost (eventIn (parts .rows) m e))) ⌝ }
 {
     let at = events[16 * m + e] as usize;
     let past = at + 1 + wide(file[at]);
@@ -43,7 +43,7 @@ pub fn size_event(
 
 // Status and event of a cell: equal, the event, and an and.
 pub fn size_place(file: &[u8], events: &[u16; EVENT_PLACES], shape: Shape, p: usize) -> GatesAt
-    requires { ⌜ Prepared (now file) (now events) shape × CellFields (now file) p ⌝ }
+    requires { ⌜ Ready (now file) (now events) shape × CellFields (now file) p ⌝ }
     ensures { λ r. ⌜ FewGates mostGates r × PlaceCounted (now (file .entry)) p r ⌝ }
 {
     let m = wide(file[p]);
@@ -58,7 +58,7 @@ pub fn size_place(file: &[u8], events: &[u16; EVENT_PLACES], shape: Shape, p: us
 
 // The guard of a normal cell, which may be empty.
 pub fn size_guard(file: &[u8], shape: Shape, p: usize) -> GatesAt
-    requires { ⌜ ((table : List ℕ) × Prepared (now file) table shape) × NormalCell (now file) p ⌝ }
+    requires { ⌜ ((table : List ℕ) × Ready (now file) table shape) × NormalCell (now file) p ⌝ }
     ensures { λ r. ⌜ FewGates mostGates r × ((x : NormalCell (now (file .entry)) p) → HasGates r (boolCost (x .cell .guard))) ⌝ }
 {
     let n = wide(file[p + 5]);
@@ -70,7 +70,7 @@ pub fn size_guard(file: &[u8], shape: Shape, p: usize) -> GatesAt
 
 // The mover of a normal cell: enable, the action, and a mux for each of the state's bits.
 pub fn size_normal(file: &[u8], events: &[u16; EVENT_PLACES], shape: Shape, p: usize) -> GatesAt
-    requires { ⌜ Prepared (now file) (now events) shape × NormalCell (now file) p ⌝ }
+    requires { ⌜ Ready (now file) (now events) shape × NormalCell (now file) p ⌝ }
     ensures { λ r. ⌜ ((x : NormalCell (now (file .entry)) p) → HasGates r (moverCost (shape .bits) (cell (x .cell)))) ⌝ }
 {
     let event = size_place(file, events, shape, p);
@@ -89,7 +89,7 @@ pub fn size_cell(
     invalid: bool,
     p: usize,
 ) -> GatesAt
-    requires { ⌜ Prepared (now file) (now events) shape × CellHere (now file) p ⌝ }
+    requires { ⌜ Ready (now file) (now events) shape × CellHere (now file) p ⌝ }
     ensures { λ r. ⌜ (r .next ≡ c-past (now (file .entry)) p) × CellCounted (now (file .entry)) (shape .bits) invalid p r ⌝ }
 {
     let none = no_gates(p + 8 + wide(file[p + 5]) + word(file, p + 6));
@@ -108,8 +108,8 @@ pub fn size_cell(
 
 // All normal cells, or all invalid ones.
 pub fn size_cells(file: &[u8], events: &[u16; EVENT_PLACES], shape: Shape, invalid: bool) -> GatesAt
-    requires { ⌜ Prepared (now file) (now events) shape ⌝ }
-    ensures { λ r. ⌜ FewGates mostGates r × ((d : Design) (w : Parts (now (file .entry)) d) → HasGates r (entriesCost (shape .bits) invalid (w .entries))) ⌝ }
+    requires { ⌜ Ready (now file) (now events) shape ⌝ }
+    ensures { λ r. ⌜ FewGates mostGates r × ((d : Design) (parts : Parts (now (file .entry)) d) → HasGates r (entriesCost (shape .bits) invalid (parts .entries))) ⌝ }
 {
     let mut left = trailer_word(file, CELLS);
     let mut sum = no_gates(trailer_word(file, CELLS_AT));

@@ -5,7 +5,7 @@ ghost use Rattle.clauses.specs.Literal.{negate as negated};
 ghost use Rattle.clauses.specs.Circuit.{negateTop, sum!, difference!, less!, xors!, chain!, equal! };
 ghost use Rattle.clauses.specs.Writing.{fromCode, fromCodes, Emits};
 ghost use Rattle.clauses.specs.Piece.{sumBit! };
-ghost use Rattle.clauses.specs.Encoded.{Sums, SumsBit};
+ghost use Rattle.clauses.specs.Encoders.{Sums, SumsBit};
 use super::gate::Out;
 use super::gate::emit_and;
 use super::gate::emit_or;

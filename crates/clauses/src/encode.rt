@@ -1,7 +1,6 @@
 // ENCODE, and the whole formula for VERDICT.
 ghost use mathlib.Core.Path.{_≡_};
 ghost use Prim.Native.Nat.{_+_, _-_, _≤_};
-ghost use Rattle.step.specs.Limits.{lastProperty, maxBound};
 ghost use Rattle.step.specs.Property.{propertyOf};
 ghost use Rattle.design.specs.Tree.{Design};
 ghost use Rattle.design.specs.Check.{check, accepted, variableCount, matrixCount};

@@ -14,7 +14,7 @@ ghost use Rattle.clauses.specs.Formula.{total};
 ghost use Rattle.clauses.specs.Writing.{fromCode, fromCodes};
 ghost use Rattle.clauses.specs.Piece.{arithmetic!, logic!, compare! };
 ghost use Rattle.clauses.specs.FlatState.{widthsFrom, slotsOf, Slotted};
-ghost use Rattle.clauses.specs.Encoded.{Writes, IntHere, BoolHere, IntEncoded, BoolEncoded};
+ghost use Rattle.clauses.specs.Encoders.{Writes, IntHere, BoolHere, IntEncoded, BoolEncoded};
 use super::circuit::difference;
 use super::circuit::equal;
 use super::circuit::less;

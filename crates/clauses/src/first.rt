@@ -36,7 +36,7 @@ pub fn put_values(file: &[u8], shape: Shape, buf: &mut [i32], cur: usize) -> usi
 // The statuses' bits follow the variables' and are all 0.
 pub fn put_first(file: &[u8], shape: Shape, buf: &mut [i32], cur: usize) -> usize
     requires { ⌜ ShapedFile (now file) shape ⌝ }
-    ensures { λ r. ⌜ ((d : Design) (w : Parts (now (file .entry)) d) (p : Property) → Puts (words (firstPart d p)) (now (buf .entry)) (now (buf .exit)) cur r) ⌝ }
+    ensures { λ r. ⌜ ((d : Design) (parts : Parts (now (file .entry)) d) (p : Property) → Puts (words (firstPart d p)) (now (buf .entry)) (now (buf .exit)) cur r) ⌝ }
 {
     let a = clause1(buf, cur, TRUE);
     let b = put_values(file, shape, buf, a);

@@ -12,7 +12,8 @@ ghost use Rattle.clauses.specs.Writing.{variableLimit};
 ghost use Rattle.step.specs.Limits.{maxBound};
 ghost use Rattle.clauses.specs.Limits.{mostGates, frameLimit, countLimit, sizeLimit};
 ghost use Rattle.clauses.specs.Cost.{pairCount, propertyCost};
-ghost use Rattle.clauses.specs.FrameSizes.{HasGates, FewGates, Prepared, frameSizes, SmallFrame, frameLength, stepClausesOf, stepWordsOf, partWordsOf, variablesOf, formulaSizes};
+ghost use Rattle.clauses.specs.FrameSizes.{HasGates, FewGates, frameSizes, SmallFrame, frameLength, stepClausesOf, stepWordsOf, partWordsOf, variablesOf, formulaSizes};
+ghost use Rattle.clauses.specs.Ready.{Ready};
 use super::cells::size_cells;
 use super::cost::GatesAt;
 use super::cost::size_bool;
@@ -57,7 +58,7 @@ pub fn size_property(
     shape: Shape,
     property: u64,
 ) -> GatesAt
-    requires { ⌜ Prepared (now file) (now events) shape ⌝ }
+    requires { ⌜ Ready (now file) (now events) shape ⌝ }
     ensures { λ r. ⌜ FewGates mostGates r × ((d : Design) → Parts (now (file .entry)) d → HasGates r (propertyCost d (propertyOf d property))) ⌝ }
 {
     if property == 0 {

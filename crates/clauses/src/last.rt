@@ -29,7 +29,8 @@ pub fn property_literal(
     v: u32,
 ) -> u32
     requires { ⌜ Ready (now file) (now events) shape × (v ≤ variableLimit) ⌝ }
-    ensures { λ r. ⌜ ((d : Design) (w : Parts (now (file .entry)) d) → v + shape .bits + P d (propertyOf d property) ≤ variableLimit → fromCode r ≡ (propertyAt d (propertyOf d property) v) .out) ⌝ }
+    ensures { λ r. ⌜ ((d : Design) (parts : Parts (now (file .entry)) d) → v + shape .bits + P d (propertyOf d property) ≤ variableLimit
+        → fromCode r ≡ (propertyAt d (propertyOf d property) v) .out) ⌝ }
 {
     let bits = variables(v, shape.bits);
     let mut none = [0i32; 1];

@@ -47,7 +47,8 @@ pub fn status_and_event(
     pen: Cursor,
 ) -> Out
     requires { ⌜ Ready (now file) (now events) shape × (length (now bits) ≡ maxBits) × CellFields (now file) p ⌝ }
-    ensures { λ r. ⌜ ((d : Design) (w : Parts (now (file .entry)) d) → CellGates (now (file .entry)) shape (now (bits .entry)) p (eventIn (w .rows)) pen (now (buf .entry)) (now (buf .exit)) r) ⌝ }
+    ensures { λ r. ⌜ ((d : Design) (parts : Parts (now (file .entry)) d)
+        → CellGates (now (file .entry)) shape (now (bits .entry)) p (eventIn (parts .rows)) pen (now (buf .entry)) (now (buf .exit)) r) ⌝ }
 {
     let m = wide(file[p]);
     let x = load_status(file, m, shape, bits);

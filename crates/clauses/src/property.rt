@@ -34,7 +34,8 @@ pub fn encode_link(
     chain: Out,
 ) -> Out
     requires { ⌜ Ready (now file) (now events) shape × (length (now bits) ≡ maxBits) × CellFields (now file) p ⌝ }
-    ensures { λ r. ⌜ ((d : Design) (w : Parts (now (file .entry)) d) → LinkGates (now (file .entry)) shape (now (bits .entry)) p (eventIn (w .rows)) chain (now (buf .entry)) (now (buf .exit)) r) ⌝ }
+    ensures { λ r. ⌜ ((d : Design) (parts : Parts (now (file .entry)) d)
+        → LinkGates (now (file .entry)) shape (now (bits .entry)) p (eventIn (parts .rows)) chain (now (buf .entry)) (now (buf .exit)) r) ⌝ }
 {
     let kind = wide(file[p + 3]);
     if kind == 0 {
@@ -59,7 +60,7 @@ pub fn encode_invalid(
     pen: Cursor,
 ) -> Out
     requires { ⌜ Ready (now file) (now events) shape × (length (now bits) ≡ maxBits) ⌝ }
-    ensures { λ r. ⌜ ((d : Design) (w : Parts (now (file .entry)) d) → InvalidGates (now (file .entry)) shape (now (bits .entry)) (d .invalid) pen (now (buf .entry)) (now (buf .exit)) r) ⌝ }
+    ensures { λ r. ⌜ ((d : Design) (parts : Parts (now (file .entry)) d) → InvalidGates (now (file .entry)) shape (now (bits .entry)) (d .invalid) pen (now (buf .entry)) (now (buf .exit)) r) ⌝ }
 {
     let count = trailer_word(file, CELLS);
     let mut p = trailer_word(file, CELLS_AT);
@@ -97,7 +98,7 @@ pub fn encode_property(
     pen: Cursor,
 ) -> Out
     requires { ⌜ Ready (now file) (now events) shape × (length (now bits) ≡ maxBits) ⌝ }
-    ensures { λ r. ⌜ ((d : Design) (w : Parts (now (file .entry)) d) → PropertyGates (now (file .entry)) shape (now (bits .entry)) d property pen (now (buf .entry)) (now (buf .exit)) r) ⌝ }
+    ensures { λ r. ⌜ ((d : Design) (parts : Parts (now (file .entry)) d) → PropertyGates (now (file .entry)) shape (now (bits .entry)) d property pen (now (buf .entry)) (now (buf .exit)) r) ⌝ }
 {
     if property == 0 {
         let at = trailer_word(file, INVARIANT_AT);

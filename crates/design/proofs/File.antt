@@ -12,11 +12,11 @@ use Rattle.design.specs.Tree.{BoolExpr, Variable, Kind, boolean, integer
 use Rattle.design.specs.Limits.{maxBytes, trailerBytes, maxVariables, maxMatrices, maxCells, maxMovers, lengthRight, countsRight, moversRight}
 use Rattle.design.specs.Expression.{Names}
 use Rattle.design.specs.DesignFile.{Item, item, refused, Walk, need, after, items, offset, Matrix, Entry, normal, invalid, variableAt, matrixAt, eventAt, events, eventsFrom, cellAt, cellsFrom, invariantAt}
-use Rattle.design.specs.Check.{eventIn, normals, invalids, sections, trailer, version, variableCount, matricesOffset, matrixCount, eventsOffset, cellsOffset, cellCount, invariantOffset, body, last, check, namesOf, sectionNames, trailerCounts, trailerOffsets}
+use Rattle.design.specs.Check.{eventIn, normals, invalids, sections, trailer, version, variableCount, matricesOffset, matrixCount, eventsOffset, cellsOffset, cellCount, invariantOffset, body, last, check, refusal, namesOf, namesBy, trailerCounts, trailerOffsets}
 use Rattle.design.specs.declared.shape.Shape.{Shape}
 use Rattle.design.specs.declared.shape.Counts.{Counts}
 use Rattle.design.specs.declared.shape.Offsets.{Offsets}
-use Rattle.design.specs.Answers.{walked, sumOf, counted, raises, moves, bodied, VariablesRight, MatricesRight, EventsRight, refusal, shapeOf}
+use Rattle.design.specs.Answers.{walked, sumOf, counted, raises, moves, bodied, VariablesRight, MatricesRight, EventsRight, shapeOf}
 use Rattle.design.specs.declared.item.Walked.{Walked}
 use Rattle.design.specs.declared.item.Walked.the-variants.{Past, Refused}
 use Rattle.design.specs.declared.item.Counted.{Counted}
@@ -97,7 +97,7 @@ module _ (file : List ℕ) (end : ℕ) (cs : Counts) (os : Offsets) where
   io = os .invariant
 
   abbrev N : Names
-  N = sectionNames file end cs os
+  N = namesBy file cs
 
   abbrev D : Item Design
   D = sections file end cs os 0

@@ -12,10 +12,9 @@ use Rattle.design.specs.Reading.{Read, got, bad}
 use Rattle.design.specs.Expression.{Names, boolExpr}
 use Rattle.design.specs.Action.{list}
 use Rattle.design.specs.DesignFile.{Item, item, refused, Walk, need, filling, after, items, offset, variableAt, matrixAt, eventAt, eventsFrom, events, guard, action, entry, cellAt, cellsFrom, c-guard, c-kind, c-middle, c-past, at8, at16, fields, ordered, invariantAt}
-use Rattle.design.specs.Check.{Checked, accepted, sections, last, check, trailer, version, variableCount, matricesOffset, matrixCount, eventsOffset, cellsOffset, cellCount, invariantOffset, body, sectionNames, trailerCounts, trailerOffsets}
+use Rattle.design.specs.Check.{Checked, accepted, sections, last, check, trailer, version, variableCount, matricesOffset, matrixCount, eventsOffset, cellsOffset, cellCount, invariantOffset, body, namesBy, trailerCounts, trailerOffsets, refusal}
 use Rattle.design.specs.declared.shape.Counts.{Counts}
 use Rattle.design.specs.declared.shape.Offsets.{Offsets}
-use Rattle.design.specs.Answers.{refusal}
 use Rattle.design.proofs.File.{counts, R2, R3}
 
 abbrev Number : ℕ → Type 0
@@ -107,11 +106,11 @@ module _ (file : List ℕ) (end : ℕ) where
       n-after (offset (os .matrices) p) _ (n-offset (os .matrices) p) λ u₁ a₁.
       n-after (items (matrixAt file end) (cs .matrices) a₁) _ (n-items (matrixAt file end) n-matrix (cs .matrices) a₁) λ ms q.
       n-after (offset (os .events) q) _ (n-offset (os .events) q) λ u₂ a₂.
-      n-after (eventsFrom file end (sectionNames file end cs os) (os .matrices) 0 (cs .matrices) a₂) _ (n-events (sectionNames file end cs os) (os .matrices) 0 (cs .matrices) a₂) λ rows s.
+      n-after (eventsFrom file end (namesBy file cs) (os .matrices) 0 (cs .matrices) a₂) _ (n-events (namesBy file cs) (os .matrices) 0 (cs .matrices) a₂) λ rows s.
       n-after (offset (os .cells) s) _ (n-offset (os .cells) s) λ u₃ a₃.
-      n-after (cellsFrom file end (sectionNames file end cs os) (os .matrices) (λ m e. getD (getD rows m []) e (constantB false)) (cs .cells) a₃ a₃) _ (n-cells (sectionNames file end cs os) (os .matrices) (λ m e. getD (getD rows m []) e (constantB false)) (cs .cells) a₃ a₃) λ es t.
+      n-after (cellsFrom file end (namesBy file cs) (os .matrices) (λ m e. getD (getD rows m []) e (constantB false)) (cs .cells) a₃ a₃) _ (n-cells (namesBy file cs) (os .matrices) (λ m e. getD (getD rows m []) e (constantB false)) (cs .cells) a₃ a₃) λ es t.
       n-after (offset (os .invariant) t) _ (n-offset (os .invariant) t) λ u₄ a₄.
-      n-after (invariantAt file end (sectionNames file end cs os) a₄) _ (n-invariant (sectionNames file end cs os) a₄) λ inv n.
+      n-after (invariantAt file end (namesBy file cs) a₄) _ (n-invariant (namesBy file cs) a₄) λ inv n.
       n-item _ n
 
 -- an answer of number 0 is an accepted file

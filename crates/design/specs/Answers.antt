@@ -7,9 +7,8 @@ use lib.Dec.{eqb}
 use Rattle.design.specs.Tree.{Variable, ifExternal, Design, movers}
 use Rattle.design.specs.Reading.{Read, got, bad}
 use Rattle.design.specs.DesignFile.{Item, item, refused, items, Entry, normal, invalid, variableAt, matrixAt, eventsFrom}
-use Rattle.design.specs.Check.{Checked, accepted, sectionNames}
+use Rattle.design.specs.Check.{namesBy}
 use lib.ListN.{length}
-use Rattle.design.specs.declared.Refusal.{Refusal}
 use Rattle.design.specs.declared.shape.Shape.{Shape}
 use Rattle.design.specs.declared.shape.Counts.{Counts}
 use Rattle.design.specs.declared.shape.Offsets.{Offsets}
@@ -65,7 +64,7 @@ module _ (file : List ℕ) (end : ℕ) (counts : Counts) (offsets : Offsets) whe
   MatricesRight = Past (offsets .events) ≡ walked (items (matrixAt file end) (counts .matrices) (offsets .matrices))
 
   abbrev pub EventsRight : Type 0
-  EventsRight = Past (offsets .cells) ≡ walked (eventsFrom file end (sectionNames file end counts offsets) (offsets .matrices) 0 (counts .matrices) (offsets .events))
+  EventsRight = Past (offsets .cells) ≡ walked (eventsFrom file end (namesBy file counts) (offsets .matrices) 0 (counts .matrices) (offsets .events))
 
 -- counts are two-byte numbers
 pub record SmallCounts (counts : Counts) : Type 0 where
@@ -75,8 +74,3 @@ pub record SmallCounts (counts : Counts) : Type 0 where
 -- while CHECK reads, the counts that the trailer does not have are 0
 abbrev pub shapeOf : Counts → Shape
 shapeOf counts = record { variables = counts .variables; matrices = counts .matrices; normals = 0; externals = 0; bits = 0 }
-
--- of the whole, the refusal's number and place; 0 and 0 where it is accepted
-abbrev pub refusal : Checked → Refusal
-refusal (Checked.refused number place) = record { number = number; place = place }
-refusal (accepted d) = record { number = 0; place = 0 }

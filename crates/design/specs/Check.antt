@@ -8,17 +8,21 @@ use Rattle.design.specs.Tree.{BoolExpr, constantB, Cell, InvalidCell, De
 use Rattle.design.specs.Limits.{trailerBytes, lengthRight, countsRight, moversRight}
 use Rattle.design.specs.Expression.{Names, intOp, boolOp, intExpr, boolExpr}
 use Rattle.design.specs.Action.{stmtOp, assignment, statements, listOf, statement}
+use Rattle.design.specs.declared.Refusal.{Refusal}
 use Rattle.design.specs.declared.shape.Shape.{Shape}
 use Rattle.design.specs.declared.shape.Counts.{Counts}
 use Rattle.design.specs.declared.shape.Offsets.{Offsets}
 use Rattle.design.specs.DesignFile.{Item, item, Walk, give, need, _>>=_, _>>_, items, offset, Matrix, Entry, normal, invalid, at16, variableAt, matrixAt, eventAt, eventsFrom, cellAt, cellsFrom, invariantAt as invariantItem}
 
--- what an expression names in a file with so many variables and matrices, and with a shape
+-- what an expression names in a file with so many variables and matrices; with a shape; with a trailer's counts
 abbrev pub namesIn : List ℕ → ℕ → ℕ → Names
 namesIn file variables matrices = record { variables = variables; kindOf = λ v. getD file (3 * v) 0; matrices = matrices }
 
 abbrev pub namesOf : List ℕ → Shape → Names
 namesOf file shape = namesIn file (shape .variables) (shape .matrices)
+
+abbrev pub namesBy : List ℕ → Counts → Names
+namesBy file counts = namesIn file (counts .variables) (counts .matrices)
 
 pub data Checked : Type 0 where
   refused : ℕ → ℕ → Checked
@@ -40,20 +44,17 @@ eventIn rows m e = getD (getD rows m []) e (constantB false)
 
 -- the items in file order, with what the trailer says of them: its counts and its offsets; they end at `end`
 module _ (file : List ℕ) (end : ℕ) (counts : Counts) (offsets : Offsets) where
-  abbrev pub sectionNames : Names
-  sectionNames = namesIn file (counts .variables) (counts .matrices)
-
   unfoldable pub sections : Walk Design
   sections = do
     vs ← items (variableAt file end) (counts .variables)
     offset (offsets .matrices)
     ms ← items (matrixAt file end) (counts .matrices)
     offset (offsets .events)
-    rows ← eventsFrom file end sectionNames (offsets .matrices) 0 (counts .matrices)
+    rows ← eventsFrom file end (namesBy file counts) (offsets .matrices) 0 (counts .matrices)
     offset (offsets .cells)
-    es ← (λ at. cellsFrom file end sectionNames (offsets .matrices) (eventIn rows) (counts .cells) at at)
+    es ← (λ at. cellsFrom file end (namesBy file counts) (offsets .matrices) (eventIn rows) (counts .cells) at at)
     offset (offsets .invariant)
-    invariant ← invariantItem file end sectionNames
+    invariant ← invariantItem file end (namesBy file counts)
     give (record {
       variables = vs;
       statuses = map (λ (m : Matrix). m .statuses) ms;
@@ -91,11 +92,11 @@ module _ (file : List ℕ) where
   abbrev pub invariantOffset : ℕ
   invariantOffset = at16 file (trailer + 14)
 
-  abbrev pub names : Names
-  names = namesIn file variableCount matrixCount
-
   abbrev pub trailerCounts : Counts
   trailerCounts = record { variables = variableCount; matrices = matrixCount; cells = cellCount }
+
+  abbrev pub names : Names
+  names = namesBy file trailerCounts
 
   abbrev pub trailerOffsets : Offsets
   trailerOffsets = record { matrices = matricesOffset; events = eventsOffset; cells = cellsOffset; invariant = invariantOffset }
@@ -119,6 +120,11 @@ module _ (file : List ℕ) where
       (need (eqb version 1) 2 trailer
       (need (countsRight variableCount matrixCount cellCount) 3 trailer
       (body 0))))
+
+-- of the whole, the refusal's number and place; 0 and 0 where it is accepted
+abbrev pub refusal : Checked → Refusal
+refusal (Checked.refused number place) = record { number = number; place = place }
+refusal (accepted d) = record { number = 0; place = 0 }
 
 -- Not part of CHECK: to unfold this is to unfold all that a check computes, for facts about given bytes.
 unfoldable pub checking : ℕ

@@ -11,8 +11,7 @@ use Rattle.design.specs.State.{widthsOf, total, S}
 use Rattle.design.specs.Sections.{Parts}
 use Rattle.design.specs.DesignFile.{at8, events, c-kind, c-past}
 use Rattle.design.specs.declared.shape.Shape.{Shape}
-use Rattle.design.specs.Check.{check, variableCount, matricesOffset, matrixCount, eventsOffset, cellsOffset, cellCount}
-use Rattle.design.specs.Answers.{refusal}
+use Rattle.design.specs.Check.{check, variableCount, matricesOffset, matrixCount, eventsOffset, cellsOffset, cellCount, refusal}
 
 -- CHECK refuses nothing
 abbrev pub Accepted : List ℕ → Type 0

@@ -11,8 +11,7 @@ mod section;
 pub mod shape;
 
 ghost use mathlib.Core.Path.{_≡_};
-ghost use Rattle.design.specs.Check.{check as checked, refused};
-ghost use Rattle.design.specs.Answers.{refusal};
+ghost use Rattle.design.specs.Check.{check as checked, refused, refusal};
 use bytes::word;
 use index::trailer_counts;
 use index::trailer_offsets;

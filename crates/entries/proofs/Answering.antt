@@ -12,7 +12,7 @@ use Rattle.step.specs.declared.Stepped.{Stepped}
 use Rattle.step.specs.declared.Held.{Held}
 use Rattle.step.specs.declared.Replayed.{Replayed}
 use Rattle.entries.specs.Code.{codeOf, answered}
-use Rattle.entries.specs.Step.{StartReturn, startExit, StepReturn, stepExit, HoldsReturn, holdsExit, ReplayReturn, replayExit}
+use Rattle.entries.specs.Step.{StartReturn, startReturn, StepReturn, stepReturn, HoldsReturn, holdsReturn, ReplayReturn, replayReturn}
 
 module _ {A : Type 0} (r : Refusal) (answer : A) (refused : ℕ → A) where
   pub refused-exit : (k : ℕ) → (r .number ≡ 0 → ⊥) → k ≡ codeOf r → refused k ≡ answered r answer refused
@@ -22,33 +22,33 @@ module _ {A : Type 0} (r : Refusal) (answer : A) (refused : ℕ → A) where
   answer-exit h = sym (ap (λ (t : Bool). cond t answer (refused (codeOf r))) (eq-eqb (r .number) 0 h))
 
 module _ (r after : Started) (says : r ≡ after) (values : List ℤ) (statuses : List ℕ) where
-  pub start-refused : (k : ℕ) → (r .refusal .number ≡ 0 → ⊥) → k ≡ codeOf (r .refusal) → _≡_ {A = StartReturn} (record { code = k; values = values; statuses = statuses }) (startExit after values statuses)
-  start-refused k h e = refused-exit (r .refusal) _ (λ (j : ℕ). record { code = j; values = values; statuses = statuses }) k h e ∙ ap (λ (x : Started). startExit x values statuses) says
+  pub start-refused : (k : ℕ) → (r .refusal .number ≡ 0 → ⊥) → k ≡ codeOf (r .refusal) → _≡_ {A = StartReturn} (record { code = k; values = values; statuses = statuses }) (startReturn after values statuses)
+  start-refused k h e = refused-exit (r .refusal) _ (λ (j : ℕ). record { code = j; values = values; statuses = statuses }) k h e ∙ ap (λ (x : Started). startReturn x values statuses) says
 
-  pub start-told : r .refusal .number ≡ 0 → _≡_ {A = StartReturn} (record { code = 0; values = r .values; statuses = r .statuses }) (startExit after values statuses)
-  start-told h = answer-exit (r .refusal) _ (λ (j : ℕ). record { code = j; values = values; statuses = statuses }) h ∙ ap (λ (x : Started). startExit x values statuses) says
+  pub start-told : r .refusal .number ≡ 0 → _≡_ {A = StartReturn} (record { code = 0; values = r .values; statuses = r .statuses }) (startReturn after values statuses)
+  start-told h = answer-exit (r .refusal) _ (λ (j : ℕ). record { code = j; values = values; statuses = statuses }) h ∙ ap (λ (x : Started). startReturn x values statuses) says
 
 module _ (r after : Stepped) (says : r ≡ after) (values : List ℤ) (statuses idle : List ℕ) where
-  pub step-refused : (k : ℕ) → (r .refusal .number ≡ 0 → ⊥) → k ≡ codeOf (r .refusal) → _≡_ {A = StepReturn} (record { code = k; values = values; statuses = statuses; idle = idle }) (stepExit after values statuses idle)
-  step-refused k h e = refused-exit (r .refusal) _ (λ (j : ℕ). record { code = j; values = values; statuses = statuses; idle = idle }) k h e ∙ ap (λ (x : Stepped). stepExit x values statuses idle) says
+  pub step-refused : (k : ℕ) → (r .refusal .number ≡ 0 → ⊥) → k ≡ codeOf (r .refusal) → _≡_ {A = StepReturn} (record { code = k; values = values; statuses = statuses; idle = idle }) (stepReturn after values statuses idle)
+  step-refused k h e = refused-exit (r .refusal) _ (λ (j : ℕ). record { code = j; values = values; statuses = statuses; idle = idle }) k h e ∙ ap (λ (x : Stepped). stepReturn x values statuses idle) says
 
-  pub step-told : (i : ℕ) → r .refusal .number ≡ 0 → i ≡ bit (r .idle) → _≡_ {A = StepReturn} (record { code = 0; values = r .values; statuses = r .statuses; idle = i ∷ [] }) (stepExit after values statuses idle)
+  pub step-told : (i : ℕ) → r .refusal .number ≡ 0 → i ≡ bit (r .idle) → _≡_ {A = StepReturn} (record { code = 0; values = r .values; statuses = r .statuses; idle = i ∷ [] }) (stepReturn after values statuses idle)
   step-told i h e =
       ap {B = StepReturn} (λ (j : ℕ). record { code = 0; values = r .values; statuses = r .statuses; idle = j ∷ [] }) e
-      ∙ answer-exit (r .refusal) _ (λ (j : ℕ). record { code = j; values = values; statuses = statuses; idle = idle }) h ∙ ap (λ (x : Stepped). stepExit x values statuses idle) says
+      ∙ answer-exit (r .refusal) _ (λ (j : ℕ). record { code = j; values = values; statuses = statuses; idle = idle }) h ∙ ap (λ (x : Stepped). stepReturn x values statuses idle) says
 
 module _ (r after : Held) (says : r ≡ after) (holds : List ℕ) where
-  pub holds-refused : (k : ℕ) → (r .refusal .number ≡ 0 → ⊥) → k ≡ codeOf (r .refusal) → _≡_ {A = HoldsReturn} (record { code = k; holds = holds }) (holdsExit after holds)
-  holds-refused k h e = refused-exit (r .refusal) _ (λ (j : ℕ). record { code = j; holds = holds }) k h e ∙ ap (λ (x : Held). holdsExit x holds) says
+  pub holds-refused : (k : ℕ) → (r .refusal .number ≡ 0 → ⊥) → k ≡ codeOf (r .refusal) → _≡_ {A = HoldsReturn} (record { code = k; holds = holds }) (holdsReturn after holds)
+  holds-refused k h e = refused-exit (r .refusal) _ (λ (j : ℕ). record { code = j; holds = holds }) k h e ∙ ap (λ (x : Held). holdsReturn x holds) says
 
-  pub holds-told : (i : ℕ) → r .refusal .number ≡ 0 → i ≡ bit (r .holds) → _≡_ {A = HoldsReturn} (record { code = 0; holds = i ∷ [] }) (holdsExit after holds)
-  holds-told i h e = ap {B = HoldsReturn} (λ (j : ℕ). record { code = 0; holds = j ∷ [] }) e ∙ answer-exit (r .refusal) _ (λ (j : ℕ). record { code = j; holds = holds }) h ∙ ap (λ (x : Held). holdsExit x holds) says
+  pub holds-told : (i : ℕ) → r .refusal .number ≡ 0 → i ≡ bit (r .holds) → _≡_ {A = HoldsReturn} (record { code = 0; holds = i ∷ [] }) (holdsReturn after holds)
+  holds-told i h e = ap {B = HoldsReturn} (λ (j : ℕ). record { code = 0; holds = j ∷ [] }) e ∙ answer-exit (r .refusal) _ (λ (j : ℕ). record { code = j; holds = holds }) h ∙ ap (λ (x : Held). holdsReturn x holds) says
 
 module _ (r after : Replayed) (says : r ≡ after) (answer : List ℕ) where
-  pub replay-refused : (k : ℕ) → (r .refusal .number ≡ 0 → ⊥) → k ≡ codeOf (r .refusal) → _≡_ {A = ReplayReturn} (record { code = k; answer = answer }) (replayExit after answer)
-  replay-refused k h e = refused-exit (r .refusal) _ (λ (j : ℕ). record { code = j; answer = answer }) k h e ∙ ap (λ (x : Replayed). replayExit x answer) says
+  pub replay-refused : (k : ℕ) → (r .refusal .number ≡ 0 → ⊥) → k ≡ codeOf (r .refusal) → _≡_ {A = ReplayReturn} (record { code = k; answer = answer }) (replayReturn after answer)
+  replay-refused k h e = refused-exit (r .refusal) _ (λ (j : ℕ). record { code = j; answer = answer }) k h e ∙ ap (λ (x : Replayed). replayReturn x answer) says
 
-  pub replay-told : (i : ℕ) → r .refusal .number ≡ 0 → i ≡ bit (r .broken) → _≡_ {A = ReplayReturn} (record { code = 0; answer = i ∷ r .step ∷ [] }) (replayExit after answer)
+  pub replay-told : (i : ℕ) → r .refusal .number ≡ 0 → i ≡ bit (r .broken) → _≡_ {A = ReplayReturn} (record { code = 0; answer = i ∷ r .step ∷ [] }) (replayReturn after answer)
   replay-told i h e =
       ap {B = ReplayReturn} (λ (j : ℕ). record { code = 0; answer = j ∷ r .step ∷ [] }) e
-      ∙ answer-exit (r .refusal) _ (λ (j : ℕ). record { code = j; answer = answer }) h ∙ ap (λ (x : Replayed). replayExit x answer) says
+      ∙ answer-exit (r .refusal) _ (λ (j : ℕ). record { code = j; answer = answer }) h ∙ ap (λ (x : Replayed). replayReturn x answer) says

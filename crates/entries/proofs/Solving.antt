@@ -7,11 +7,11 @@ use Rattle.search.specs.declared.Solved.{Solved}
 use Rattle.search.specs.declared.Reply.{Reply}
 use Rattle.search.specs.declared.Reply.the-variants.{Refused, Done}
 use Rattle.entries.specs.Code.{code}
-use Rattle.entries.specs.Solve.{answerNumber, solveCode, replyWords, SolveReturn}
+use Rattle.entries.specs.Solve.{answerNumber, solveCode, solveWords, SolveReturn}
 
 module _ (after : After) (reply : Reply) (values trail : List ℕ) (says : record { reply = reply; values = values; trail = trail } ≡ after) (r : ℕ) where
   abbrev exit : After → List ℕ → SolveReturn
-  exit x answer = record { code = solveCode (x .reply); values = x .values; trail = x .trail; answer = replyWords (x .reply) answer }
+  exit x answer = record { code = solveCode (x .reply); values = x .values; trail = x .trail; answer = solveWords (x .reply) answer }
 
   pub refused-exit : (number place : ℕ) (answer : List ℕ) → reply ≡ Refused number place → r ≡ code number place
       → record { code = r; values = values; trail = trail; answer = answer } ≡ exit after answer

@@ -15,15 +15,15 @@ use Rattle.clauses.specs.declared.decode.DecodeReply.{DecodeReply}
 use Rattle.clauses.specs.declared.decode.DecodeReply.the-variants.{Done}
 use Rattle.clauses.specs.declared.decode.DecodeReply.the-variants as decode-reply
 use Rattle.entries.specs.Code.{code}
-use Rattle.entries.specs.Clauses.{sizeWords, SizeReturn, sizeExit, encodeCode, encodeWords, EncodeReturn, decodeCode, DecodeReturn}
+use Rattle.entries.specs.Clauses.{sizeWords, SizeReturn, sizeReturn, encodeCode, encodeWords, EncodeReturn, decodeCode, DecodeReturn}
 
 module _ (reply after : SizeReply) (says : reply ≡ after) (answer : List ℕ) where
-  pub size-refused : (number place r : ℕ) → reply ≡ size-reply.Refused number place → r ≡ code number place → record { code = r; answer = answer } ≡ sizeExit after answer
+  pub size-refused : (number place r : ℕ) → reply ≡ size-reply.Refused number place → r ≡ code number place → record { code = r; answer = answer } ≡ sizeReturn after answer
   size-refused number place r e q =
-      ap {B = SizeReturn} (λ (k : ℕ). record { code = k; answer = answer }) q ∙ ap (λ (x : SizeReply). sizeExit x answer) (sym e ∙ says)
+      ap {B = SizeReturn} (λ (k : ℕ). record { code = k; answer = answer }) q ∙ ap (λ (x : SizeReply). sizeReturn x answer) (sym e ∙ says)
 
-  pub size-told : (s : FormulaSizes) → reply ≡ Sized s → record { code = 0; answer = sizeWords s } ≡ sizeExit after answer
-  size-told s e = ap (λ (x : SizeReply). sizeExit x answer) (sym e ∙ says)
+  pub size-told : (s : FormulaSizes) → reply ≡ Sized s → record { code = 0; answer = sizeWords s } ≡ sizeReturn after answer
+  size-told s e = ap (λ (x : SizeReply). sizeReturn x answer) (sym e ∙ says)
 
 module _ (after : replies.EncodeExit) (reply : EncodeReply) (buffer : List ℤ) (says : record { reply = reply; buffer = buffer } ≡ after) (answer : List ℕ) where
   abbrev encodeExit : replies.EncodeExit → EncodeReturn

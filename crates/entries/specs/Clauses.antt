@@ -24,12 +24,12 @@ pub record SizeReturn : Type 0 where
   pub code : ℕ
   pub answer : List ℕ
 
-abbrev pub sizeExit : SizeReply → List ℕ → SizeReturn
-sizeExit (size-reply.Refused number place) answer = record { code = code number place; answer = answer }
-sizeExit (Sized s) answer = record { code = 0; answer = sizeWords s }
+abbrev pub sizeReturn : SizeReply → List ℕ → SizeReturn
+sizeReturn (size-reply.Refused number place) answer = record { code = code number place; answer = answer }
+sizeReturn (Sized s) answer = record { code = 0; answer = sizeWords s }
 
 unfoldable pub sizeEntry : List ℕ → ℕ → ℕ → List ℕ → SizeReturn
-sizeEntry file p k answer = sizeExit (sizeReply (size file p k)) answer
+sizeEntry file p k answer = sizeReturn (sizeReply (size file p k)) answer
 
 -- ENCODE tells the number of words, and leaves the buffer
 abbrev pub encodeCode : EncodeReply → ℕ

@@ -20,9 +20,9 @@ solveCode (Refused number place) = code number place
 solveCode (Done s) = 0
 
 -- which answer, and the tries
-abbrev pub replyWords : Reply → List ℕ → List ℕ
-replyWords (Refused number place) old = old
-replyWords (Done s) old = answerNumber (s .answer) ∷ s .tries ∷ []
+abbrev pub solveWords : Reply → List ℕ → List ℕ
+solveWords (Refused number place) old = old
+solveWords (Done s) old = answerNumber (s .answer) ∷ s .tries ∷ []
 
 pub record SolveReturn : Type 0 where
   pub code : ℕ
@@ -33,4 +33,4 @@ pub record SolveReturn : Type 0 where
 unfoldable pub solveEntry : ℕ → List ℤ → List ℕ → List ℕ → ℕ → List ℕ → SolveReturn
 solveEntry n words values trail budget answer =
     let after = solve n words values trail budget in
-    record { code = solveCode (after .reply); values = after .values; trail = after .trail; answer = replyWords (after .reply) answer }
+    record { code = solveCode (after .reply); values = after .values; trail = after .trail; answer = solveWords (after .reply) answer }

@@ -16,14 +16,14 @@ pub record StartReturn : Type 0 where
   pub values : List ℤ
   pub statuses : List ℕ
 
-abbrev pub startExit : Started → List ℤ → List ℕ → StartReturn
-startExit r values statuses =
+abbrev pub startReturn : Started → List ℤ → List ℕ → StartReturn
+startReturn r values statuses =
     answered (r .refusal)
     (record { code = 0; values = r .values; statuses = r .statuses })
     (λ (k : ℕ). record { code = k; values = values; statuses = statuses })
 
 unfoldable pub startEntry : List ℕ → List ℤ → List ℕ → StartReturn
-startEntry file values statuses = startExit (START file) values statuses
+startEntry file values statuses = startReturn (START file) values statuses
 
 -- STEP replaces the state, and tells whether the choice was idle
 pub record StepReturn : Type 0 where
@@ -32,33 +32,33 @@ pub record StepReturn : Type 0 where
   pub statuses : List ℕ
   pub idle : List ℕ
 
-abbrev pub stepExit : Stepped → List ℤ → List ℕ → List ℕ → StepReturn
-stepExit r values statuses idle =
+abbrev pub stepReturn : Stepped → List ℤ → List ℕ → List ℕ → StepReturn
+stepReturn r values statuses idle =
     answered (r .refusal)
     (record { code = 0; values = r .values; statuses = r .statuses; idle = bit (r .idle) ∷ [] })
     (λ (k : ℕ). record { code = k; values = values; statuses = statuses; idle = idle })
 
 unfoldable pub stepEntry : List ℕ → List ℤ → List ℕ → ℕ → List ℕ → StepReturn
-stepEntry file values statuses choice idle = stepExit (STEP file values statuses choice) values statuses idle
+stepEntry file values statuses choice idle = stepReturn (STEP file values statuses choice) values statuses idle
 
 -- HOLDS tells whether the property is true
 pub record HoldsReturn : Type 0 where
   pub code : ℕ
   pub holds : List ℕ
 
-abbrev pub holdsExit : Held → List ℕ → HoldsReturn
-holdsExit r holds = answered (r .refusal) (record { code = 0; holds = bit (r .holds) ∷ [] }) (λ (k : ℕ). record { code = k; holds = holds })
+abbrev pub holdsReturn : Held → List ℕ → HoldsReturn
+holdsReturn r holds = answered (r .refusal) (record { code = 0; holds = bit (r .holds) ∷ [] }) (λ (k : ℕ). record { code = k; holds = holds })
 
 unfoldable pub holdsEntry : List ℕ → List ℤ → List ℕ → ℕ → List ℕ → HoldsReturn
-holdsEntry file values statuses p holds = holdsExit (HOLDS file values statuses p) holds
+holdsEntry file values statuses p holds = holdsReturn (HOLDS file values statuses p) holds
 
 -- REPLAY tells 1 and the first breaking step, or 0 and 0
 pub record ReplayReturn : Type 0 where
   pub code : ℕ
   pub answer : List ℕ
 
-abbrev pub replayExit : Replayed → List ℕ → ReplayReturn
-replayExit r answer = answered (r .refusal) (record { code = 0; answer = bit (r .broken) ∷ r .step ∷ [] }) (λ (k : ℕ). record { code = k; answer = answer })
+abbrev pub replayReturn : Replayed → List ℕ → ReplayReturn
+replayReturn r answer = answered (r .refusal) (record { code = 0; answer = bit (r .broken) ∷ r .step ∷ [] }) (λ (k : ℕ). record { code = k; answer = answer })
 
 unfoldable pub replayEntry : List ℕ → ℕ → List ℕ → List ℕ → ReplayReturn
-replayEntry file p choices answer = replayExit (REPLAY file p choices) answer
+replayEntry file p choices answer = replayReturn (REPLAY file p choices) answer

@@ -1,7 +1,6 @@
 // CHECK.
 ghost use mathlib.Core.Path.{_≡_};
-ghost use Rattle.design.specs.Check.{check};
-ghost use Rattle.design.specs.Answers.{refusal};
+ghost use Rattle.design.specs.Check.{check, refusal};
 ghost use Rattle.entries.specs.Code.{codeOf};
 use super::code::code_of;
 

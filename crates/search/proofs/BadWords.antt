@@ -12,7 +12,7 @@ use lib.Seq.{drop-cons}
 use borrow.Author.Tests.{lt-ltb, le-ltb, ltb-false}
 use Rattle.clauses.specs.Words.{isEnd}
 use Rattle.search.specs.Search.{none, at}
-use Rattle.search.specs.Answers.{spotCode}
+use Rattle.search.specs.Answers.{declaredSpot}
 use Rattle.search.specs.Solve.{outside, badWord}
 use Rattle.search.specs.Memory.{AllIn, closedFrom}
 use Rattle.search.specs.declared.words.Spot.the-variants.{At}
@@ -39,13 +39,13 @@ reads-next n ws i begun r l h =
           ∙ r .same;
     })
 
-pub reads-bad : (n : ℕ) (ws : List ℤ) (i : ℕ) (begun : Bool) → Reads n ws i begun → i < length ws → n < natAbs (getD ws i (pos 0)) → At i ≡ spotCode (badWord n 0 false ws)
+pub reads-bad : (n : ℕ) (ws : List ℤ) (i : ℕ) (begun : Bool) → Reads n ws i begun → i < length ws → n < natAbs (getD ws i (pos 0)) → At i ≡ declaredSpot (badWord n 0 false ws)
 reads-bad n ws i begun r l h =
-    ap spotCode (sym (reads-one n ws i begun l
+    ap declaredSpot (sym (reads-one n ws i begun l
     ∙ ap (λ (t : Bool). cond t (at i) (badWord n (suc i) (not (isEnd (getD ws i (pos 0)))) (drop (suc i) ws))) (lt-ltb n (natAbs (getD ws i (pos 0))) h)) ∙ r .same)
 
-pub reads-all : (n : ℕ) (ws : List ℤ) (i : ℕ) (begun : Bool) → Reads n ws i begun → length ws ≤ i → spotCode (cond begun (at i) none) ≡ spotCode (badWord n 0 false ws)
-reads-all n ws i begun r l = ap spotCode (ap (badWord n i begun) (sym (drop-of-length-le ws {i = i} l)) ∙ r .same)
+pub reads-all : (n : ℕ) (ws : List ℤ) (i : ℕ) (begun : Bool) → Reads n ws i begun → length ws ≤ i → declaredSpot (cond begun (at i) none) ≡ declaredSpot (badWord n 0 false ws)
+reads-all n ws i begun r l = ap declaredSpot (ap (badWord n i begun) (sym (drop-of-length-le ws {i = i} l)) ∙ r .same)
 
 -- what a list that is not refused has
 pub good-words : (n i : ℕ) (begun : Bool) (ws : List ℤ) → badWord n i begun ws ≡ none → AllIn n ws × (closedFrom begun ws ≡ true)

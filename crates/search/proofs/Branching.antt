@@ -11,7 +11,7 @@ use borrow.Author.Tests.{eqb-true, eqb-false, lt-ltb}
 use Rattle.clauses.specs.Literal.{Clause}
 use Rattle.search.specs.Search.{unset, is, Setting, Settings, valueOf, Place, none, at, isUnset, lowestUnset, Turn, sets, takes, satisfied, refuted, forced, branchFalse, branchTrue, undo, branch}
 use Rattle.search.specs.AnyOrder.{Move, by-conflict, by-unit, by-branch}
-use Rattle.search.specs.Memory.{valueOfByte, settingsOf, Shaped, SetTo}
+use Rattle.search.specs.Memory.{valueOfByte, settingsOf, TrailAgrees, SetTo}
 use Rattle.search.proofs.Scans.{AllSet, LowestRight, lowest-right}
 use Rattle.search.proofs.Counting.{valueOf-other, valueOf-same}
 use Rattle.search.proofs.Sound.{Good}
@@ -64,7 +64,7 @@ set-bit (suc zero) e = le-refl 1
 set-bit (suc (suc x)) e =
     absurd (true≢false (ap (λ (c : Bool). isUnset (cond c unset (is (eqb (suc (suc x)) 1)))) (sym (lt-ltb 1 (suc (suc x)) (omega arith))) ∙ e))
 
-module _ (n : ℕ) (vs tr : List ℕ) (t : ℕ) (h : Shaped n vs tr t) where
+module _ (n : ℕ) (vs tr : List ℕ) (t : ℕ) (h : TrailAgrees n vs tr t) where
   pub byte-here : (i : ℕ) → i < n → valueOf (settingsOf vs tr t) (1 + i) ≡ valueOfByte (getD vs i 0)
   byte-here i l = h .looks (1 + i) (omega arith) (omega arith) ∙ ap (λ (k : ℕ). valueOfByte (getD vs k 0)) (let e : 1 + i - 1 ≡ i = omega arith in e)
 
@@ -81,7 +81,7 @@ pub record Latest (n : ℕ) (vs tr : List ℕ) (k : ℕ) : Type 0 where
   pub set : AllSet (getD tr (k - 1) 0 / 2) (settingsOf vs tr k)
   pub high : getD tr (k - 1) 0 / 2 ≤ n
 
-pub latest-set : (n : ℕ) (vs tr : List ℕ) (k : ℕ) → Shaped n vs tr k → Reaches (settingsOf vs tr k) → Latest n vs tr k
+pub latest-set : (n : ℕ) (vs tr : List ℕ) (k : ℕ) → TrailAgrees n vs tr k → Reaches (settingsOf vs tr k) → Latest n vs tr k
 latest-set n vs tr zero h a = absurd a
 latest-set n vs tr (suc k) h a =
     let m = named n vs tr (suc k) (omega arith) h in

@@ -9,7 +9,7 @@ use lib.Dec.{eqb}
 use Rattle.clauses.specs.Literal.{Literal, positive, negative, Clause}
 use Rattle.clauses.specs.Meaning.{Within}
 use Rattle.search.specs.Search.{Value, is, Setting, Settings, Values, valueOf, conflict, Place, none, at, isUnset, lowestUnset, Turn, sets, takes, satisfied, refuted, forced, branchFalse, branchTrue, undo, branch, turn, noBudget, upTo, Answer, SAT, UNSAT, SPENT, Outcome, run, solved}
-use Rattle.search.specs.Answers.{answerCode}
+use Rattle.search.specs.Answers.{declaredAnswer}
 use Rattle.search.specs.Solve.{bitOf, valuesFrom, valuesLeft}
 use Rattle.search.specs.AnyOrder.{IsUnit, Quiet, Move, by-conflict, by-unit, by-branch}
 use Rattle.search.proofs.Counting.{ahead}
@@ -220,11 +220,11 @@ pub joins-move : (n : ℕ) (cs : List Clause) (ss : Settings) (t : ℕ) → Join
 joins-move n cs ss t j m a r d = j a r (any-step n cs ss t r a m d)
 
 pub record Comes (n : ℕ) (cs : List Clause) (b : ℕ) (a : Answer) (r : ℕ) : Type 0 where
-  pub code : answerCode (solved n cs (upTo b) .answer) ≡ answerCode a
+  pub code : declaredAnswer (solved n cs (upTo b) .answer) ≡ declaredAnswer a
   pub tries : solved n cs (upTo b) .tries ≡ r
   pub values : valuesLeft n (solved n cs (upTo b) .answer) ≡ valuesLeft n a
 
-pub alike-code : (a b : Answer) → Alike a b → answerCode a ≡ answerCode b
+pub alike-code : (a b : Answer) → Alike a b → declaredAnswer a ≡ declaredAnswer b
 alike-code (SAT ss) (SAT ts) h = refl
 alike-code (SAT ss) UNSAT h = absurd h
 alike-code (SAT ss) SPENT h = absurd h
@@ -242,7 +242,7 @@ any-ends n cs w b {a} {r} d l =
     let q = o .tries in
     let e : solved n cs (upTo b) ≡ solved n cs noBudget = search-budget n cs b .0 (omega arith) in
     record {
-      code = ap (λ (x : Outcome). answerCode (x .answer)) e ∙ sym (alike-code a (solved n cs noBudget .answer) (o .answers));
+      code = ap (λ (x : Outcome). declaredAnswer (x .answer)) e ∙ sym (alike-code a (solved n cs noBudget .answer) (o .answers));
       tries = ap (λ (x : Outcome). x .tries) e ∙ sym q;
       values = ap (λ (x : Outcome). valuesLeft n (x .answer)) e ∙ sym (alike-values n a (solved n cs noBudget .answer) (o .answers));
     }

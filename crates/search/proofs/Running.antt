@@ -11,10 +11,10 @@ use lib.Seq.{ext-getD}
 use Rattle.clauses.specs.Meaning.{Within}
 use Rattle.clauses.specs.Words.{clausesOf}
 use Rattle.search.specs.Search.{Turn, upTo, Answer, SAT, UNSAT, SPENT, Outcome, solved}
-use Rattle.search.specs.Answers.{answerCode, solvedCode}
+use Rattle.search.specs.Answers.{declaredAnswer, declaredSolved}
 use Rattle.search.specs.Solve.{bitOf, valuesFrom, valuesLeft}
 use Rattle.search.specs.AnyOrder.{Move}
-use Rattle.search.specs.Memory.{valueOfByte, settingsOf, unsetCount, Starts, Shaped, ReadyTrail, Stepped, Fresh, AllUnset, Kept, Ran}
+use Rattle.search.specs.Memory.{valueOfByte, settingsOf, unsetCount, Starts, TrailAgrees, ReadyTrail, Stepped, Fresh, AllUnset, Kept, Ran}
 use Rattle.search.proofs.Scans.{AllSet}
 use Rattle.search.proofs.Counting.{count-none, ahead}
 use Rattle.search.proofs.Sound.{Good, Ok, move-ok}
@@ -33,7 +33,7 @@ bit-back zero l = refl
 bit-back (suc zero) l = refl
 bit-back (suc (suc x)) l = absurd (omega arith)
 
-values-are : (n : ℕ) (vs tr : List ℕ) (t : ℕ) → Shaped n vs tr t → AllSet n (settingsOf vs tr t) → vs ≡ valuesFrom (settingsOf vs tr t) 1 n
+values-are : (n : ℕ) (vs tr : List ℕ) (t : ℕ) → TrailAgrees n vs tr t → AllSet n (settingsOf vs tr t) → vs ≡ valuesFrom (settingsOf vs tr t) 1 n
 values-are n vs tr t h a =
     let ss = settingsOf vs tr t in
     let s = set-to n vs tr t h n (le-refl n) a in
@@ -102,7 +102,7 @@ module _ {n : ℕ} {ws : List ℤ} {b : ℕ} {vs tr : List ℕ} {t from low u : 
         (subst (λ (x : Step). Stepped (length vs) ws (settingsOf vs tr t) x vs vs′ tr′) e s)
 
     -- the loop's facts after it, where the scan reads on at next and 1, 2, .., low′ are set
-    on : {k next low′ : ℕ} → Starts ws next → Shaped n vs′ tr′ k → low′ ≤ n → AllSet low′ (settingsOf vs′ tr′ k) → ReadyTrail n ws vs′ tr′ k next low′
+    on : {k next low′ : ℕ} → Starts ws next → TrailAgrees n vs′ tr′ k → low′ ≤ n → AllSet low′ (settingsOf vs′ tr′ k) → ReadyTrail n ws vs′ tr′ k next low′
     on {k} {next} {low′} s p l a = record {
       small = h .ready .small;
       inside = h .ready .inside;
@@ -154,13 +154,13 @@ module _ {n : ℕ} {ws : List ℤ} {b : ℕ} {vs tr : List ℕ} {t from low u : 
         let j : Joins n (clausesOf ws) (settingsOf vs′ tr′ k) (suc b) = subst (λ (y : ℕ). Joins n (clausesOf ws) (settingsOf vs′ tr′ k) (suc y)) q (λ a r d. reached (x .0) a r d) in
         let g = any-spends n (clausesOf ws) w b (settingsOf vs′ tr′ k) (ok (x .0) .0) j in
         record {
-          result = ap {B = Solved} (λ (y : ℕ). record { answer = Spent; tries = y }) q ∙ ap solvedCode (sym g);
+          result = ap {B = Solved} (λ (y : ℕ). record { answer = Spent; tries = y }) q ∙ ap declaredSolved (sym g);
           kept = subst (λ (o : Outcome). Kept n (o .answer) vs′) (sym g) tt;
         }
 
     -- an answer within the budget
     ends-with : (a : Answer) → Any n (clausesOf ws) [] 0 a u → Kept n (solved n (clausesOf ws) (upTo b) .answer) vs′
-        → Ran (solved n (clausesOf ws) (upTo b)) n (record { answer = answerCode a; tries = u }) vs′
+        → Ran (solved n (clausesOf ws) (upTo b)) n (record { answer = declaredAnswer a; tries = u }) vs′
     ends-with a d k =
         let c = any-ends n (clausesOf ws) w b d (h .within) in
         record { result = ap₂ {C = Solved} (λ (x : Answered) (y : ℕ). record { answer = x; tries = y }) (sym (c .code)) (sym (c .tries)); kept = k }
@@ -184,7 +184,7 @@ module _ {n : ℕ} {ws : List ℤ} {b : ℕ} {vs tr : List ℕ} {t from low u : 
         let c = any-ends n (clausesOf ws) w b d (h .within) in
         ends-with UNSAT d (kept (solved n (clausesOf ws) (upTo b) .answer) (c .code))
       where
-        kept : (a : Answer) → answerCode a ≡ Unsat → Kept n a vs′
+        kept : (a : Answer) → declaredAnswer a ≡ Unsat → Kept n a vs′
         kept (SAT ss) e = absurd (let z : _≡_ {A = ℕ} 0 1 = cc in omega arith)
         kept UNSAT e = tt
         kept SPENT e = tt

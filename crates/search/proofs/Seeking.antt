@@ -8,7 +8,7 @@ use native.Mathlib.Numerals.{add-one}
 use lib.ListN.{length, getD}
 use borrow.Author.Tests.{lt-ltb, le-ltb}
 use Rattle.search.specs.Search.{Value, at, isUnset, lowestUnset}
-use Rattle.search.specs.Answers.{spotCode}
+use Rattle.search.specs.Answers.{declaredSpot}
 use Rattle.search.specs.Memory.{valueOfByte, valueAt, SetTo}
 use Rattle.search.specs.declared.words.Spot.the-variants.{Nowhere, At}
 
@@ -43,10 +43,10 @@ seeks-start vs zero h = seeks-zero vs
 seeks-start vs (suc i) h =
     seeks-suc vs i (seeks-start vs i (record { within = omega (arith, h .within); bits = λ j l. h .bits j (omega arith) })) (h .within) (h .bits i (omega arith))
 
-pub seeks-here : (vs : List ℕ) (i : ℕ) → Seeks vs i → i < length vs → 1 < getD vs i 0 → At (i + 1) ≡ spotCode (lowestUnset (valueAt vs) 1 (length vs))
+pub seeks-here : (vs : List ℕ) (i : ℕ) → Seeks vs i → i < length vs → 1 < getD vs i 0 → At (i + 1) ≡ declaredSpot (lowestUnset (valueAt vs) 1 (length vs))
 seeks-here vs i s l h =
-    ap At (add-one i) ∙ ap spotCode (sym (seeks-one vs i l ∙ (let e : cond (isUnset (valueOfByte (getD vs i 0))) (at (suc i)) (lowestUnset (valueAt vs) (suc (suc i)) (length vs - suc i)) ≡ at (suc i) = rw (lt-ltb 1 (getD vs i 0) h) in e)) ∙ s .same)
+    ap At (add-one i) ∙ ap declaredSpot (sym (seeks-one vs i l ∙ (let e : cond (isUnset (valueOfByte (getD vs i 0))) (at (suc i)) (lowestUnset (valueAt vs) (suc (suc i)) (length vs - suc i)) ≡ at (suc i) = rw (lt-ltb 1 (getD vs i 0) h) in e)) ∙ s .same)
 
-pub seeks-none : (vs : List ℕ) (i : ℕ) → Seeks vs i → length vs ≤ i → Nowhere ≡ spotCode (lowestUnset (valueAt vs) 1 (length vs))
+pub seeks-none : (vs : List ℕ) (i : ℕ) → Seeks vs i → length vs ≤ i → Nowhere ≡ declaredSpot (lowestUnset (valueAt vs) 1 (length vs))
 seeks-none vs i s l =
-    ap spotCode ((let e : lowestUnset (valueAt vs) (suc i) 0 ≡ lowestUnset (valueAt vs) (suc i) (length vs - i) = ap (lowestUnset (valueAt vs) (suc i)) (let q : 0 ≡ length vs - i = omega arith in q) in e) ∙ s .same)
+    ap declaredSpot ((let e : lowestUnset (valueAt vs) (suc i) 0 ≡ lowestUnset (valueAt vs) (suc i) (length vs - i) = ap (lowestUnset (valueAt vs) (suc i)) (let q : 0 ≡ length vs - i = omega arith in q) in e) ∙ s .same)

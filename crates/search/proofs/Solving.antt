@@ -13,7 +13,7 @@ use types.Run.{OneOf, miss}
 use denote.Enum.Declared.{tagOf}
 use Rattle.clauses.specs.Words.{clausesOf}
 use Rattle.search.specs.Search.{unset, Place, none, at, upTo, Answer, SAT, UNSAT, SPENT, solved}
-use Rattle.search.specs.Answers.{answerCode, spotCode}
+use Rattle.search.specs.Answers.{declaredAnswer, declaredSpot}
 use Rattle.search.specs.Solve.{badWord, valuesLeft, After, refuses, leaves, atPlace, solve}
 use Rattle.search.specs.Memory.{Fresh, AllUnset, outcome, Kept, Ran, Leaves}
 use Rattle.search.proofs.Signed.{wide}
@@ -58,7 +58,7 @@ module _
         let o = solved n (clausesOf ws) (upTo b) in
         record { result = here .result; values = go (o .answer) (sym (ap (λ (x : Solved). x .answer) (here .result)) ∙ q) (here .kept); trail = trail }
       where
-        go : (a : Answer) → answerCode a ≡ Sat → Kept n a vs₃ → vs₃ ≡ valuesLeft n a
+        go : (a : Answer) → declaredAnswer a ≡ Sat → Kept n a vs₃ → vs₃ ≡ valuesLeft n a
         go (SAT ss) e k = k
         go UNSAT e k = absurd (let z : _≡_ {A = ℕ} 0 1 = cc in omega arith)
         go SPENT e k = absurd (let z : _≡_ {A = ℕ} 0 1 = cc in omega arith)
@@ -72,13 +72,13 @@ module _
           trail = trail;
         }
       where
-        go : (a : Answer) → NotSat (answerCode a) → replicate n 0 ≡ valuesLeft n a
+        go : (a : Answer) → NotSat (declaredAnswer a) → replicate n 0 ≡ valuesLeft n a
         go (SAT ss) k = absurd k
         go UNSAT k = refl
         go SPENT k = refl
 
 -- SOLVE's cases
-no-place : (p : Place) → Nowhere ≡ spotCode p → p ≡ none
+no-place : (p : Place) → Nowhere ≡ declaredSpot p → p ≡ none
 no-place none e = refl
 no-place (at i) e = absurd (let z : _≡_ {A = ℕ} 0 1 = cc in omega arith)
 
@@ -92,15 +92,15 @@ module _ (n : ℕ) (ws : List ℤ) (vs tr : List ℕ) (b : ℕ) where
   solve-large h = rw (lt-ltb 2147483647 n h)
 
   module _ (small : n ≤ 2147483647) where
-    pub solve-word : {i : ℕ} → At i ≡ spotCode (badWord n 0 false ws) → refuses 17 i vs tr ≡ solve n ws vs tr b
+    pub solve-word : {i : ℕ} → At i ≡ declaredSpot (badWord n 0 false ws) → refuses 17 i vs tr ≡ solve n ws vs tr b
     unfolding solve rest
     solve-word {i} e = rw (le-ltb 2147483647 n small) (go (badWord n 0 false ws) e)
       where
-        go : (p : Place) → At i ≡ spotCode p → refuses 17 i vs tr ≡ atPlace p (λ i. refuses 17 i vs tr) (cond (ltb (length vs) n || ltb (length tr) n) (refuses 16 0 vs tr) (leaves n (solved n (clausesOf ws) (upTo b)) vs tr))
+        go : (p : Place) → At i ≡ declaredSpot p → refuses 17 i vs tr ≡ atPlace p (λ i. refuses 17 i vs tr) (cond (ltb (length vs) n || ltb (length tr) n) (refuses 16 0 vs tr) (leaves n (solved n (clausesOf ws) (upTo b)) vs tr))
         go none e = absurd (let z : _≡_ {A = ℕ} 0 1 = cc in omega arith)
         go (at j) e = let q : i ≡ j = cc in ap (λ (k : ℕ). refuses 17 k vs tr) q
 
-    module _ (good : Nowhere ≡ spotCode (badWord n 0 false ws)) where
+    module _ (good : Nowhere ≡ declaredSpot (badWord n 0 false ws)) where
       past : rest ≡ solve n ws vs tr b
       unfolding solve rest
       past = rw (le-ltb 2147483647 n small, no-place (badWord n 0 false ws) good)

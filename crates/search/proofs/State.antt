@@ -10,7 +10,7 @@ use lib.ListN.{length, getD, set, length-set}
 use lib.Seq.{getD-set-same, getD-set-other, set-set}
 use borrow.Author.Tests.{eqb-true, eqb-false, eq-eqb, ne-eqb}
 use Rattle.search.specs.Search.{unset, is, Setting, Settings, valueOf, takes, refuted, undo}
-use Rattle.search.specs.Memory.{valueOfByte, valueAt, settingAt, settingsOf, Proper₁, Proper, unsetCount, Shaped, Assigned, Undone}
+use Rattle.search.specs.Memory.{valueOfByte, valueAt, settingAt, settingsOf, Proper₁, Proper, unsetCount, TrailAgrees, Assigned, Undone}
 use Rattle.search.proofs.Counting.{valueOf-other, valueOf-same, count-set}
 
 unset-other : (s : Setting) (ss : Settings) (v : ℕ) → valueOf (s ∷ ss) v ≡ unset → v ≡ s .variable → ⊥
@@ -50,9 +50,9 @@ value-same vs v b hv hl = ap valueOfByte (getD-set-same vs (v - 1) b 0 (omega ar
 -- one more setting
 pub record Grown (n : ℕ) (vs tr vs′ tr′ : List ℕ) (t v b f : ℕ) : Type 0 where
   pub is : settingsOf vs′ tr′ (suc t) ≡ record { variable = v; value = eqb b 1; first = eqb f 1 } ∷ settingsOf vs tr t
-  pub shaped : Shaped n vs′ tr′ (suc t)
+  pub shaped : TrailAgrees n vs′ tr′ (suc t)
 
-grow : (n : ℕ) (vs tr : List ℕ) (t v b f : ℕ) → Shaped n vs tr t → 0 < v → v ≤ n → valueOf (settingsOf vs tr t) v ≡ unset → b ≤ 1 → f ≤ 1
+grow : (n : ℕ) (vs tr : List ℕ) (t v b f : ℕ) → TrailAgrees n vs tr t → 0 < v → v ≤ n → valueOf (settingsOf vs tr t) v ≡ unset → b ≤ 1 → f ≤ 1
     → Grown n vs tr (set vs (v - 1) b) (set tr t (2 * v + f)) t v b f
 grow n vs tr t v b f h lo hi u hb hf =
     record {
@@ -111,7 +111,7 @@ grow n vs tr t v b f h lo hi u hb hf =
         let q = eqb-false w v e in
         ap (λ (z : Settings). valueOf z w) eq ∙ valueOf-other s ss w q ∙ h .looks w a c ∙ sym (value-other vs v w b lo a q)
 
-pub grown : {n : ℕ} {vs tr vs′ tr′ : List ℕ} {t v b f : ℕ} → Assigned vs tr t v b f vs′ tr′ → Shaped n vs tr t → 0 < v → v ≤ n → valueOf (settingsOf vs tr t) v ≡ unset → b ≤ 1 → f ≤ 1
+pub grown : {n : ℕ} {vs tr vs′ tr′ : List ℕ} {t v b f : ℕ} → Assigned vs tr t v b f vs′ tr′ → TrailAgrees n vs tr t → 0 < v → v ≤ n → valueOf (settingsOf vs tr t) v ≡ unset → b ≤ 1 → f ≤ 1
     → Grown n vs tr vs′ tr′ t v b f
 grown {n} {vs} {tr} {vs′} {tr′} {t} {v} {b} {f} a h lo hi u hb hf =
     subst₂ (λ (x y : List ℕ). Grown n vs tr x y t v b f) (sym (a .values)) (sym (a .trail)) (grow n vs tr t v b f h lo hi u hb hf)
@@ -119,9 +119,9 @@ grown {n} {vs} {tr} {vs′} {tr′} {t} {v} {b} {f} a h lo hi u hb hf =
 -- one setting less
 pub record Shrunk (n : ℕ) (vs tr vs′ : List ℕ) (t : ℕ) : Type 0 where
   pub is : settingsOf vs′ tr t ≡ settingsOf vs tr t
-  pub shaped : Shaped n vs′ tr t
+  pub shaped : TrailAgrees n vs′ tr t
 
-pub shrink : (n : ℕ) (vs tr : List ℕ) (t : ℕ) → Shaped n vs tr (suc t) → Shrunk n vs tr (set vs (getD tr t 0 / 2 - 1) 2) t
+pub shrink : (n : ℕ) (vs tr : List ℕ) (t : ℕ) → TrailAgrees n vs tr (suc t) → Shrunk n vs tr (set vs (getD tr t 0 / 2 - 1) 2) t
 shrink n vs tr t h =
     record {
       is = eq;
@@ -161,10 +161,10 @@ shrink n vs tr t h =
         ap (λ (z : Settings). valueOf z w) eq ∙ sym (valueOf-other s ss w q) ∙ h .looks w a c ∙ sym (value-other vs v w 2 (p .low) a q)
 
 pub record Undoing (n : ℕ) (ss : Settings) (vs tr : List ℕ) (k : ℕ) : Type 0 where
-  pub shaped : Shaped n vs tr k
+  pub shaped : TrailAgrees n vs tr k
   pub same : undo ss ≡ undo (settingsOf vs tr k)
 
-pub undo-start : (n : ℕ) (vs tr : List ℕ) (t : ℕ) → Shaped n vs tr t → Undoing n (settingsOf vs tr t) vs tr t
+pub undo-start : (n : ℕ) (vs tr : List ℕ) (t : ℕ) → TrailAgrees n vs tr t → Undoing n (settingsOf vs tr t) vs tr t
 undo-start n vs tr t h = record { shaped = h; same = refl }
 
 pub undo-none : (n : ℕ) (ss : Settings) (vs tr : List ℕ) (k : ℕ) → Undoing n ss vs tr k → k ≤ 0 → undo ss ≡ refuted
@@ -216,7 +216,7 @@ pub record Named (n : ℕ) (vs tr : List ℕ) (k : ℕ) : Type 0 where
   pub high : getD tr (k - 1) 0 / 2 ≤ n
   pub short : k ≤ n
 
-pub named : (n : ℕ) (vs tr : List ℕ) (k : ℕ) → 0 < k → Shaped n vs tr k → Named n vs tr k
+pub named : (n : ℕ) (vs tr : List ℕ) (k : ℕ) → 0 < k → TrailAgrees n vs tr k → Named n vs tr k
 named n vs tr zero l h = absurd (omega arith)
 named n vs tr (suc k) l h =
     record {

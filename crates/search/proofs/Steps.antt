@@ -14,7 +14,7 @@ use Rattle.clauses.specs.Literal.{Literal, positive, negative, variableOf, Clau
 use Rattle.clauses.specs.Meaning.{ClauseWithin, Within}
 use Rattle.clauses.specs.Words.{clausesOf}
 use Rattle.search.specs.Search.{Value, unset, Setting, Values, valueOf, opposite, literalValue, Scan, scanOne, join, scan, isFalse, conflict, orElse, firstUnit, Place, none, at, isUnset, lowestUnset, sets, takes, forced, branchTrue, undo, branch}
-use Rattle.search.specs.Answers.{spotCode}
+use Rattle.search.specs.Answers.{declaredSpot}
 use Rattle.search.specs.AnyOrder.{IsUnit, Quiet, Move, by-conflict, by-unit, by-branch}
 use Rattle.search.specs.Memory.{valueAt, literalFrom, Finds, settingsOf, Settable, Assigned, Undone, ReadyTrail, Stepped}
 use Rattle.search.proofs.Scans.{Free, unit-forced, LowestAt, LowestRight, lowest-right}
@@ -146,8 +146,8 @@ module _ {n : ℕ} {ws : List ℤ} {vs tr : List ℕ} {t from low : ℕ} (h : Re
           subst (λ (p : Place). Move n (clausesOf ws) (settingsOf vs tr t) (branch (settingsOf vs tr t) p)) lowest-same
           (by-branch (quiet-ext n (valueOf (settingsOf vs tr t)) (valueAt vs) agree (clausesOf ws) w (finds e)))
 
-      module _ {v : ℕ} (s : At v ≡ spotCode (lowestUnset (valueAt vs) 1 n)) where
-        is-lowest : (p : Place) → At v ≡ spotCode p → p ≡ at v
+      module _ {v : ℕ} (s : At v ≡ declaredSpot (lowestUnset (valueAt vs) 1 n)) where
+        is-lowest : (p : Place) → At v ≡ declaredSpot p → p ≡ at v
         is-lowest none s = absurd (let z : _≡_ {A = ℕ} 0 1 = cc in omega arith)
         is-lowest (at u) s = let p : u ≡ v = cc in ap at p
 
@@ -165,9 +165,9 @@ module _ {n : ℕ} {ws : List ℤ} {vs tr : List ℕ} {t from low : ℕ} (h : Re
               g .shaped,
             )
 
-      pub step-sat : Nowhere ≡ spotCode (lowestUnset (valueAt vs) 1 n) → Stepped n ws (settingsOf vs tr t) AllSat vs vs tr
+      pub step-sat : Nowhere ≡ declaredSpot (lowestUnset (valueAt vs) 1 n) → Stepped n ws (settingsOf vs tr t) AllSat vs vs tr
       step-sat s = go (lowestUnset (valueAt vs) 1 n) s branches
         where
-          go : (p : Place) → Nowhere ≡ spotCode p → Move n (clausesOf ws) (settingsOf vs tr t) (branch (settingsOf vs tr t) p) → Stepped n ws (settingsOf vs tr t) AllSat vs vs tr
+          go : (p : Place) → Nowhere ≡ declaredSpot p → Move n (clausesOf ws) (settingsOf vs tr t) (branch (settingsOf vs tr t) p) → Stepped n ws (settingsOf vs tr t) AllSat vs vs tr
           go none s m = (m, refl)
           go (at u) s m = absurd (let z : _≡_ {A = ℕ} 0 1 = cc in omega arith)

@@ -13,7 +13,7 @@ use Rattle.clauses.specs.Literal.{Clause}
 use Rattle.clauses.specs.Meaning.{satisfies, Satisfiable, Within}
 use Rattle.clauses.specs.Words.{clausesOf}
 use Rattle.search.specs.Search.{none, turn, Budget, noBudget, upTo, Answer, SAT, UNSAT, SPENT, Outcome, solved, Ends}
-use Rattle.search.specs.Answers.{answerCode}
+use Rattle.search.specs.Answers.{declaredAnswer}
 use Rattle.search.specs.Solve.{badWord, valuesLeft, assigned}
 use Rattle.search.proofs.Scans.{made}
 use Rattle.search.proofs.Ending.{Says, solved-ends, search-right, search-budget}
@@ -107,7 +107,7 @@ module _ (n : ℕ) (cs : List Clause) (w : Within n cs) where
   -- A search that sets units in any order, and goes back from a conflict as soon as it meets one, comes to the same answer,
   -- the same values and as many tries.
   pub any-order : {a : Answer} {r : ℕ} → Any n cs [] 0 a r
-      → (answerCode a ≡ answerCode (solved n cs noBudget .answer)) × (valuesLeft n a ≡ valuesLeft n (solved n cs noBudget .answer)) × (r ≡ solved n cs noBudget .tries)
+      → (declaredAnswer a ≡ declaredAnswer (solved n cs noBudget .answer)) × (valuesLeft n a ≡ valuesLeft n (solved n cs noBudget .answer)) × (r ≡ solved n cs noBudget .tries)
   any-order {a} d =
       let o = order-free n cs w d in
       (alike-code a (solved n cs noBudget .answer) (o .answers), alike-values n a (solved n cs noBudget .answer) (o .answers), o .tries)

@@ -7,14 +7,14 @@ use Rattle.search.specs.declared.Answered.the-variants.{Sat, Unsat, Spen
 use Rattle.search.specs.declared.Solved.{Solved}
 
 -- document 01's SAT, UNSAT and SPENT. What values SAT leaves is said by `valuesLeft`
-abbrev pub answerCode : Answer → Answered
-answerCode (SAT ss) = Sat
-answerCode UNSAT = Unsat
-answerCode SPENT = Spent
+abbrev pub declaredAnswer : Answer → Answered
+declaredAnswer (SAT ss) = Sat
+declaredAnswer UNSAT = Unsat
+declaredAnswer SPENT = Spent
 
-abbrev pub solvedCode : Outcome → Solved
-solvedCode o = record { answer = answerCode (o .answer); tries = o .tries }
+abbrev pub declaredSolved : Outcome → Solved
+declaredSolved o = record { answer = declaredAnswer (o .answer); tries = o .tries }
 
-abbrev pub spotCode : Place → Spot
-spotCode none = Nowhere
-spotCode (at i) = At i
+abbrev pub declaredSpot : Place → Spot
+declaredSpot none = Nowhere
+declaredSpot (at i) = At i

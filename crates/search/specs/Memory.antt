@@ -9,7 +9,7 @@ use lib.ListN.{length, getD, drop, set, replicate}
 use Rattle.clauses.specs.Literal.{Literal, positive, negative, Clause}
 use Rattle.clauses.specs.Words.{isEnd, literalOfWord, clausesOf}
 use Rattle.search.specs.Search.{Value, unset, is, Setting, Settings, Values, valueOf, conflict, isUnset, sets, takes, satisfied, refuted, undo, upTo, Answer, SAT, UNSAT, SPENT, Outcome, solved}
-use Rattle.search.specs.Answers.{solvedCode}
+use Rattle.search.specs.Answers.{declaredSolved}
 use Rattle.search.specs.Solve.{valuesFrom, valuesLeft}
 use Rattle.search.specs.AnyOrder.{IsUnit, Quiet, Move}
 use Rattle.search.specs.declared.scan.Found.{Found}
@@ -122,7 +122,7 @@ unsetCount ss v zero = 0
 unsetCount ss v (suc k) = bit (isUnset (valueOf ss v)) + unsetCount ss (suc v) k
 
 -- values and trail of n entries, t of the trail's in use, say the same
-pub record Shaped (n : ℕ) (vs tr : List ℕ) (t : ℕ) : Type 0 where
+pub record TrailAgrees (n : ℕ) (vs tr : List ℕ) (t : ℕ) : Type 0 where
   pub values : length vs ≡ n
   pub trail : length tr ≡ n
   pub proper : Proper n (settingsOf vs tr t)
@@ -143,7 +143,7 @@ pub record Assigned (vs tr : List ℕ) (t v value first : ℕ) (vs′ tr′ : Li
 -- what an undo leaves: r settings, or 0 where there is no branch at its first value
 abbrev pub Undone : ℕ → Settings → ℕ → List ℕ → List ℕ → Type 0
 Undone n ss zero vs tr = undo ss ≡ refuted
-Undone n ss (suc r) vs tr = (undo ss ≡ takes (settingsOf vs tr (suc r))) × Shaped n vs tr (suc r)
+Undone n ss (suc r) vs tr = (undo ss ≡ takes (settingsOf vs tr (suc r))) × TrailAgrees n vs tr (suc r)
 
 -- the values of 1, 2, .., low are set
 pub record SetTo (low : ℕ) (vs : List ℕ) : Type 0 where
@@ -156,13 +156,13 @@ pub record ReadyTrail (n : ℕ) (ws : List ℤ) (vs tr : List ℕ) (t from low :
   pub inside : AllIn n ws
   pub closes : closed ws ≡ true
   pub starts : Starts ws from
-  pub shaped : Shaped n vs tr t
+  pub shaped : TrailAgrees n vs tr t
   pub low-set : SetTo low vs
 
 -- what a turn leaves, from settings ss and values vs
 abbrev pub Stepped : ℕ → List ℤ → Settings → Step → List ℕ → List ℕ → List ℕ → Type 0
-Stepped n ws ss (Goes k next) vs vs′ tr′ = Move n (clausesOf ws) ss (sets (settingsOf vs′ tr′ k)) × Shaped n vs′ tr′ k × Starts ws next
-Stepped n ws ss (Tries k) vs vs′ tr′ = Move n (clausesOf ws) ss (takes (settingsOf vs′ tr′ k)) × Shaped n vs′ tr′ k
+Stepped n ws ss (Goes k next) vs vs′ tr′ = Move n (clausesOf ws) ss (sets (settingsOf vs′ tr′ k)) × TrailAgrees n vs′ tr′ k × Starts ws next
+Stepped n ws ss (Tries k) vs vs′ tr′ = Move n (clausesOf ws) ss (takes (settingsOf vs′ tr′ k)) × TrailAgrees n vs′ tr′ k
 Stepped n ws ss AllSat vs vs′ tr′ = Move n (clausesOf ws) ss (satisfied ss) × (vs′ ≡ vs)
 Stepped n ws ss NoneLeft vs vs′ tr′ = Move n (clausesOf ws) ss refuted
 
@@ -187,11 +187,11 @@ Kept n UNSAT vs = Unit {0}
 Kept n SPENT vs = Unit {0}
 
 pub record Ran (o : Outcome) (n : ℕ) (r : Solved) (vs : List ℕ) : Type 0 where
-  pub result : r ≡ solvedCode o
+  pub result : r ≡ declaredSolved o
   pub kept : Kept n (o .answer) vs
 
 -- the search's result and leavings, on just n entries
 pub record Leaves (o : Outcome) (n : ℕ) (r : Solved) (vs tr : List ℕ) : Type 0 where
-  pub result : r ≡ solvedCode o
+  pub result : r ≡ declaredSolved o
   pub values : vs ≡ valuesLeft n (o .answer)
   pub trail : tr ≡ replicate n 0

@@ -8,7 +8,7 @@ use lib.ListN.{length, getD, drop, replicate}
 use Rattle.clauses.specs.Meaning.{Assignment}
 use Rattle.clauses.specs.Words.{words, isEnd, clausesOf}
 use Rattle.search.specs.Search.{Value, unset, is, Settings, valueOf, Place, none, at, upTo, Answer, SAT, UNSAT, SPENT, Outcome, solved}
-use Rattle.search.specs.Answers.{solvedCode}
+use Rattle.search.specs.Answers.{declaredSolved}
 use Rattle.search.specs.declared.Reply.{Reply}
 use Rattle.search.specs.declared.Reply.the-variants.{Refused, Done}
 
@@ -54,7 +54,7 @@ refuses number place values trail = record { reply = Refused number place; value
 abbrev pub leaves : ℕ → Outcome → List ℕ → List ℕ → After
 leaves n o values trail =
     record {
-      reply = Done (solvedCode o);
+      reply = Done (declaredSolved o);
       values = valuesLeft n (o .answer) ++ drop n values;
       trail = replicate n 0 ++ drop n trail;
     }

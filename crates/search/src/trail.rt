@@ -3,8 +3,8 @@ ghost use mathlib.Core.Path.{_≡_};
 ghost use Prim.Native.Nat.{_-_, _/_, _<_, _≤_};
 ghost use lib.ListN.{length, getD};
 ghost use Rattle.search.specs.Search.{lowestUnset};
-ghost use Rattle.search.specs.Answers.{spotCode};
-ghost use Rattle.search.specs.Memory.{valueAt, SetTo, settingsOf, Shaped, Settable, Assigned, Undone};
+ghost use Rattle.search.specs.Answers.{declaredSpot};
+ghost use Rattle.search.specs.Memory.{valueAt, SetTo, settingsOf, TrailAgrees, Settable, Assigned, Undone};
 use super::words::Spot;
 
 // Gives a variable its value, and the trail its word: `first` is 1 for a branch at its first value, else 0.
@@ -27,7 +27,7 @@ pub fn latest(trail: &[u32], k: usize) -> usize
 // The lowest unset variable, where 1, 2, .., low are set.
 pub fn lowest(values: &[u8], low: usize) -> Spot
     requires { ⌜ SetTo low (now values) ⌝ }
-    ensures { λ r. ⌜ r ≡ spotCode (lowestUnset (valueAt (now (values .entry))) 1 (length (now (values .entry)))) ⌝ }
+    ensures { λ r. ⌜ r ≡ declaredSpot (lowestUnset (valueAt (now (values .entry))) 1 (length (now (values .entry)))) ⌝ }
 {
     let mut i = low;
     while i < values.len() {
@@ -42,7 +42,7 @@ pub fn lowest(values: &[u8], low: usize) -> Spot
 // Back to the latest branch still at its first value, which takes true. It answers how many settings are left, or 0 where
 // there is no such branch.
 pub fn undo(values: &mut [u8], trail: &mut [u32], t: usize) -> usize
-    requires { ⌜ Shaped (length (now values)) (now values) (now trail) t ⌝ }
+    requires { ⌜ TrailAgrees (length (now values)) (now values) (now trail) t ⌝ }
     ensures { λ r. ⌜ Undone (length (now (values .entry))) (settingsOf (now (values .entry)) (now (trail .entry)) t) r (now (values .exit)) (now (trail .exit)) ⌝ }
 {
     let mut k = t;

@@ -6,7 +6,7 @@ ghost use lib.IntN.{natAbs, pos};
 ghost use lib.ListN.{length, getD};
 ghost use Rattle.clauses.specs.Words.{isEnd};
 ghost use Rattle.search.specs.Solve.{badWord};
-ghost use Rattle.search.specs.Answers.{spotCode};
+ghost use Rattle.search.specs.Answers.{declaredSpot};
 ghost use Rattle.search.specs.Memory.{signOf};
 
 // A number, or none.
@@ -48,7 +48,7 @@ pub fn sign(words: &[i32], at: usize) -> u8
 
 // Where a word list is refused: the first word outside -n..n, or the length if the last clause does not end.
 pub fn bad_word(n: u64, words: &[i32]) -> Spot
-    ensures { λ r. ⌜ r ≡ spotCode (badWord n 0 false (now (words .entry))) ⌝ }
+    ensures { λ r. ⌜ r ≡ declaredSpot (badWord n 0 false (now (words .entry))) ⌝ }
 {
     let mut begun = false;
     let mut i = 0;

@@ -7,9 +7,8 @@ use native.Mathlib.Omega.{arith}
 use lib.Dec.{leb}
 use borrow.Author.Tests.{le-leb, lt-leb, leb-true}
 use Rattle.design.specs.Tree.{Design}
-use Rattle.design.specs.Check.{Checked, check}
+use Rattle.design.specs.Check.{Checked, check, refusal}
 use Rattle.design.specs.Answer.{Answer, refused, answer, need, ofChecked, onDesign}
-use Rattle.design.specs.Answers.{refusal}
 use Rattle.design.specs.Places.{Accepted}
 use Rattle.design.specs.declared.Refusal.{Refusal}
 use Rattle.design.proofs.Places.{read}

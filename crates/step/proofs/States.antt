@@ -11,9 +11,8 @@ use lib.Dec.{ltb, leb}
 use borrow.Author.Tests.{lt-ltb, le-ltb, le-leb, lt-leb, eq-eqb, ne-eqb}
 use Rattle.design.specs.Tree.{Design, movers}
 use Rattle.design.specs.State.{State, layout, start}
-use Rattle.design.specs.Check.{accepted, check, variableCount, matrixCount}
+use Rattle.design.specs.Check.{accepted, check, variableCount, matrixCount, refusal}
 use Rattle.design.specs.Answer.{Answer, refused, answer, need}
-use Rattle.design.specs.Answers.{refusal}
 use Rattle.design.specs.Places.{Accepted}
 use Rattle.design.specs.declared.Refusal.{Refusal}
 use Rattle.design.specs.Sections.{Parts}
@@ -24,7 +23,7 @@ use Rattle.step.specs.Pattern.{signed, wrap}
 use Rattle.step.specs.Limits.{lastProperty}
 use Rattle.step.specs.Property.{propertyOf}
 use Rattle.step.specs.OneStep.{step, idle, holds}
-use Rattle.step.specs.Interface.{valuesRight, statusesRight, firstWrong, entriesRight, slotsGiven, valuesOf, statusesOf, Entries}
+use Rattle.step.specs.Interface.{valuesRight, statusesRight, firstWrong, entriesRight, slotsGiven, valuesOf, statusesOf, StateEntries}
 use Rattle.step.specs.Operations.{refusedAt, allRight, started, START, next, stepped, STEP, held, HOLDS}
 use Rattle.step.specs.declared.Started.{Started}
 use Rattle.step.specs.declared.Stepped.{Stepped}
@@ -119,7 +118,7 @@ module _ (file : List ℕ) (values : List ℤ) (ss : List ℕ) (choice : ℕ) wh
     unfolding d
     c = read file x .is
 
-    abbrev ends : Answer (Entries × Bool)
+    abbrev ends : Answer (StateEntries × Bool)
     ends = need (ltb choice (length (movers d))) 12 0 (answer (next d (slotsGiven d values ss) choice))
 
     answers : stepped (need (allRight (entriesRight d values ss)) 11 (firstWrong (entriesRight d values ss)) ends) ≡ STEP file values ss choice

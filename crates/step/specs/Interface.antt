@@ -52,9 +52,9 @@ module _ (d : Design) where
   statusesOf s = statusesIn (layout d) s ++ replicate (maxMatrices - length (d .statuses)) 0
 
 -- a state as the calls give it
-pub record Entries : Type 0 where
+pub record StateEntries : Type 0 where
   pub values : List ℤ
   pub statuses : List ℕ
 
-abbrev pub entriesOf : Design → State → Entries
+abbrev pub entriesOf : Design → State → StateEntries
 entriesOf d s = record { values = valuesOf d s; statuses = statusesOf d s }

@@ -6,11 +6,12 @@ pub mod Evaluation
 pub mod Property
 pub mod OneStep
 pub mod Breaking
-pub mod Ranges
 -- the calls (document 01, "Turned-back calls")
 pub mod Gate
 pub mod Interface
 pub mod Operations
+-- every slot stays in its range
+pub mod Ranges
 -- inner functions
 pub mod Accepted
 pub mod Ready

@@ -16,7 +16,7 @@ use Rattle.step.specs.Limits.{lastProperty}
 use Rattle.step.specs.Property.{Property, propertyOf}
 use Rattle.step.specs.OneStep.{step, idle, holds}
 use Rattle.step.specs.Gate.{gate}
-use Rattle.step.specs.Interface.{firstWrong, entriesRight, slotsGiven, Entries, entriesOf}
+use Rattle.step.specs.Interface.{firstWrong, entriesRight, slotsGiven, StateEntries, entriesOf}
 use Rattle.step.specs.declared.Started.{Started}
 use Rattle.step.specs.declared.Stepped.{Stepped}
 use Rattle.step.specs.declared.Held.{Held}
@@ -31,10 +31,10 @@ abbrev pub allRight : List Bool → Bool
 allRight ts = eqb (firstWrong ts) (length ts)
 
 -- START "answers the first state".
-abbrev pub startAnswer : List ℕ → Answer Entries
+abbrev pub startAnswer : List ℕ → Answer StateEntries
 startAnswer file = onDesign file λ d. answer (entriesOf d (start d))
 
-abbrev pub started : Answer Entries → Started
+abbrev pub started : Answer StateEntries → Started
 started (refused number place) = record { refusal = refusedAt number place; values = replicate maxVariables (pos 0); statuses = replicate maxMatrices 0 }
 started (answer e) = record { refusal = refusedAt 0 0; values = e .values; statuses = e .statuses }
 
@@ -42,18 +42,18 @@ unfoldable pub START : List ℕ → Started
 START file = started (startAnswer file)
 
 -- STEP "answers the next state and whether the choice was idle".
-abbrev pub next : Design → State → ℕ → Entries × Bool
+abbrev pub next : Design → State → ℕ → StateEntries × Bool
 next d s choice = (entriesOf d (step d s choice), idle d s choice)
 
 -- STEP: 11; "12 choice not below w (place 0)".
-abbrev pub stepAnswer : List ℕ → List ℤ → List ℕ → ℕ → Answer (Entries × Bool)
+abbrev pub stepAnswer : List ℕ → List ℤ → List ℕ → ℕ → Answer (StateEntries × Bool)
 stepAnswer file values statuses choice =
     onDesign file λ d.
     need (allRight (entriesRight d values statuses)) 11 (firstWrong (entriesRight d values statuses))
     (need (ltb choice (length (movers d))) 12 0
     (answer (next d (slotsGiven d values statuses) choice)))
 
-abbrev pub stepped : Answer (Entries × Bool) → Stepped
+abbrev pub stepped : Answer (StateEntries × Bool) → Stepped
 stepped (refused number place) = record { refusal = refusedAt number place; values = replicate maxVariables (pos 0); statuses = replicate maxMatrices 0; idle = false }
 stepped (answer (e, i)) = record { refusal = refusedAt 0 0; values = e .values; statuses = e .statuses; idle = i }
 

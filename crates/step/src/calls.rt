@@ -178,7 +178,7 @@ pub fn holds_slots(
     slots: &mut [u16],
 ) -> bool
     requires { ⌜ ReadyState (now file) (now events) shape (now slots) ⌝ }
-    ensures { λ r. ⌜ ((d : Design) (w : Parts (now (file .entry)) d) → r ≡ holdsIn d (propertyOf d property) (take (shape .variables) ps ++ take (shape .matrices) ss)) ⌝ }
+    ensures { λ r. ⌜ ((d : Design) (parts : Parts (now (file .entry)) d) → r ≡ holdsIn d (propertyOf d property) (take (shape .variables) ps ++ take (shape .matrices) ss)) ⌝ }
 {
     load_entries(shape, ps, ss, slots);
     property_true(file, events, shape, property, slots)
@@ -193,7 +193,7 @@ pub fn holds_right(
     ss: [u16; MAX_MATRICES],
 ) -> bool
     requires { ⌜ Accepted (now file) × Shaped (now file) shape ⌝ }
-    ensures { λ r. ⌜ ((d : Design) (w : Parts (now (file .entry)) d) → r ≡ holdsIn d (propertyOf d property) (take (shape .variables) ps ++ take (shape .matrices) ss)) ⌝ }
+    ensures { λ r. ⌜ ((d : Design) (parts : Parts (now (file .entry)) d) → r ≡ holdsIn d (propertyOf d property) (take (shape .variables) ps ++ take (shape .matrices) ss)) ⌝ }
 {
     let mut events = [0u16; EVENT_PLACES];
     index_events(file, &mut events);

@@ -33,7 +33,7 @@ pub fn event_true(
     slots: &[u16],
 ) -> bool
     requires { ⌜ ReadyState (now file) (now events) shape (now slots) × (m < shape .matrices) × (e < eventCount (now file) (matricesOffset (now file)) m) ⌝ }
-    ensures { λ r. ⌜ ((d : Design) (w : Parts (now (file .entry)) d) → r ≡ evalBool (layoutOf shape) (now (slots .entry)) (eventIn (w .rows) m e)) ⌝ }
+    ensures { λ r. ⌜ ((d : Design) (parts : Parts (now (file .entry)) d) → r ≡ evalBool (layoutOf shape) (now (slots .entry)) (eventIn (parts .rows) m e)) ⌝ }
 {
     let at = events[16 * m + e] as usize;
     let past = at + 1 + wide(file[at]);
@@ -50,9 +50,9 @@ pub fn status_and_event(
     slots: &[u16],
 ) -> bool
     requires { ⌜ ReadyState (now file) (now events) shape (now slots) × CellFields (now file) p ⌝ }
-    ensures { λ r. ⌜ ((d : Design) (w : Parts (now (file .entry)) d) → r
+    ensures { λ r. ⌜ ((d : Design) (parts : Parts (now (file .entry)) d) → r
         ≡ statusAndEvent (layoutOf shape) (now (slots .entry)) (c-matrix (now (file .entry)) p) (c-status (now (file .entry)) p)
-        (eventIn (w .rows) (c-matrix (now (file .entry)) p) (c-event (now (file .entry)) p))) ⌝ }
+        (eventIn (parts .rows) (c-matrix (now (file .entry)) p) (c-event (now (file .entry)) p))) ⌝ }
 {
     let m = wide(file[p]);
     let status = wide(file[p + 1]);

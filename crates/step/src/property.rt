@@ -27,7 +27,7 @@ pub fn invariant_true(
     slots: &[u16],
 ) -> bool
     requires { ⌜ ReadyState (now file) (now events) shape (now slots) ⌝ }
-    ensures { λ r. ⌜ ((d : Design) (w : Parts (now (file .entry)) d) → r ≡ evalBool (layoutOf shape) (now (slots .entry)) (d .invariant)) ⌝ }
+    ensures { λ r. ⌜ ((d : Design) (parts : Parts (now (file .entry)) d) → r ≡ evalBool (layoutOf shape) (now (slots .entry)) (d .invariant)) ⌝ }
 {
     let stands = invariant(file);
     let x = eval_bool(file, file, stands.at, stands.end, shape, MAX_DEPTH, slots);
@@ -37,7 +37,7 @@ pub fn invariant_true(
 // Whether status and event hold together at no invalid cell.
 pub fn no_invalid(file: &[u8], events: &[u16; EVENT_PLACES], shape: Shape, slots: &[u16]) -> bool
     requires { ⌜ ReadyState (now file) (now events) shape (now slots) ⌝ }
-    ensures { λ r. ⌜ ((d : Design) (w : Parts (now (file .entry)) d) → r ≡ noInvalid (layoutOf shape) (now (slots .entry)) (d .invalid)) ⌝ }
+    ensures { λ r. ⌜ ((d : Design) (parts : Parts (now (file .entry)) d) → r ≡ noInvalid (layoutOf shape) (now (slots .entry)) (d .invalid)) ⌝ }
 {
     let count = trailer_word(file, CELLS);
     let mut p = trailer_word(file, CELLS_AT);
@@ -63,7 +63,7 @@ pub fn property_true(
     slots: &[u16],
 ) -> bool
     requires { ⌜ ReadyState (now file) (now events) shape (now slots) ⌝ }
-    ensures { λ r. ⌜ ((d : Design) (w : Parts (now (file .entry)) d) → r ≡ holds d (propertyOf d property) (now (slots .entry))) ⌝ }
+    ensures { λ r. ⌜ ((d : Design) (parts : Parts (now (file .entry)) d) → r ≡ holds d (propertyOf d property) (now (slots .entry))) ⌝ }
 {
     if property == 0 {
         invariant_true(file, events, shape, slots)

@@ -71,7 +71,7 @@ pub fn put_state(
     at: usize,
 ) -> usize
     requires { ⌜ ReadyState (now file) (now events) shape (now slots) × (at + maxLine ≤ length (now out)) ⌝ }
-    ensures { λ r. ⌜ ((d : Design) (w : Parts (now (file .entry)) d)
+    ensures { λ r. ⌜ ((d : Design) (parts : Parts (now (file .entry)) d)
         → TextWritten (stateLine d (propertyOf d property) step mover idle (now (slots .entry))) (now (out .entry)) (now (out .exit)) at r)
         × (r ≤ at + maxLine) × (length (now (out .exit)) ≡ length (now (out .entry))) ⌝ }
 {

@@ -17,7 +17,7 @@ use Rattle.step.specs.Limits.{lastProperty, maxBound}
 use Rattle.clauses.specs.Decode.{decode}
 use Rattle.search.specs.Search.{upTo, Answer, SAT, UNSAT, SPENT, Outcome}
 use Rattle.search.specs.Solve.{valuesLeft}
-use Rattle.search.specs.Answers.{answerCode}
+use Rattle.search.specs.Answers.{declaredAnswer}
 use Rattle.search.specs.declared.Answered.the-variants.{Sat, Unsat, Spent}
 use Rattle.search.specs.declared.Solved.{Solved}
 use Rattle.search.proofs.Values.{length-from}
@@ -93,7 +93,7 @@ module _ (d : Design) (wf : WellFormed d) (number k budget : ℕ) (lent : Memory
       unfolding o
       same-tries = ap (λ (y : Solved). y .tries) (x .result)
 
-      same-answer : r .answer ≡ answerCode (o .answer)
+      same-answer : r .answer ≡ declaredAnswer (o .answer)
       unfolding o
       same-answer = ap (λ (y : Solved). y .answer) (x .result)
 
@@ -108,7 +108,7 @@ module _ (d : Design) (wf : WellFormed d) (number k budget : ℕ) (lent : Memory
       on-sat : r .answer ≡ Sat → judge d p k budget ≡ judged (VIOLATED i) (t + r .tries) i o
       on-sat q = judge-is ∙ go (o .answer) (sym same-answer ∙ q) ∙ ap (λ (y : ℕ). judged (VIOLATED i) (t + y) i o) (sym same-tries)
         where
-          go : (a : Answer) → answerCode a ≡ Sat → decided a (t + o .tries) i o (rest (k - i) i t o) ≡ judged (VIOLATED i) (t + o .tries) i o
+          go : (a : Answer) → declaredAnswer a ≡ Sat → decided a (t + o .tries) i o (rest (k - i) i t o) ≡ judged (VIOLATED i) (t + o .tries) i o
           go (SAT ss) e = refl
           go UNSAT e = absurd (let z : _≡_ {A = ℕ} 0 1 = cc in omega arith)
           go SPENT e = absurd (let z : _≡_ {A = ℕ} 0 1 = cc in omega arith)
@@ -116,7 +116,7 @@ module _ (d : Design) (wf : WellFormed d) (number k budget : ℕ) (lent : Memory
       on-spent : r .answer ≡ Spent → judge d p k budget ≡ judged (SPENT-AT i) (t + r .tries) i o
       on-spent q = judge-is ∙ go (o .answer) (sym same-answer ∙ q) ∙ ap (λ (y : ℕ). judged (SPENT-AT i) (t + y) i o) (sym same-tries)
         where
-          go : (a : Answer) → answerCode a ≡ Spent → decided a (t + o .tries) i o (rest (k - i) i t o) ≡ judged (SPENT-AT i) (t + o .tries) i o
+          go : (a : Answer) → declaredAnswer a ≡ Spent → decided a (t + o .tries) i o (rest (k - i) i t o) ≡ judged (SPENT-AT i) (t + o .tries) i o
           go (SAT ss) e = absurd (let z : _≡_ {A = ℕ} 0 1 = cc in omega arith)
           go UNSAT e = absurd (let z : _≡_ {A = ℕ} 0 1 = cc in omega arith)
           go SPENT e = refl
@@ -124,7 +124,7 @@ module _ (d : Design) (wf : WellFormed d) (number k budget : ℕ) (lent : Memory
       on-unsat : r .answer ≡ Unsat → judge d p k budget ≡ rest (k - i) i t o
       on-unsat q = judge-is ∙ go (o .answer) (sym same-answer ∙ q)
         where
-          go : (a : Answer) → answerCode a ≡ Unsat → decided a (t + o .tries) i o (rest (k - i) i t o) ≡ rest (k - i) i t o
+          go : (a : Answer) → declaredAnswer a ≡ Unsat → decided a (t + o .tries) i o (rest (k - i) i t o) ≡ rest (k - i) i t o
           go (SAT ss) e = absurd (let z : _≡_ {A = ℕ} 0 1 = cc in omega arith)
           go UNSAT e = refl
           go SPENT e = absurd (let z : _≡_ {A = ℕ} 0 1 = cc in omega arith)

@@ -15,7 +15,7 @@ use Rattle.clauses.specs.Meaning.{satisfies}
 use Rattle.clauses.specs.Formula.{n, formula, choices}
 use Rattle.design.specs.Answer.{Answer, answer, onDesign}
 use Rattle.step.specs.Limits.{lastProperty, maxBound}
-use Rattle.clauses.specs.Decode.{Decoded, written, chosenFrom, choicesToWrite, decode}
+use Rattle.clauses.specs.Decode.{AfterDecode, written, chosenFrom, choicesToWrite, decode}
 use Rattle.clauses.specs.Theorem.{Theorem, Stored}
 use Rattle.search.specs.Search.{Value, unset, is, Settings, valueOf}
 use Rattle.search.specs.Solve.{bitOf, valuesFrom}
@@ -52,7 +52,7 @@ module _ (file : List ℕ) (d : Design) (e : check file ≡ Checked.accepted d) 
   decodes i few th ρ values cs s h room =
       decode-past i values cs few (h .long) room
       ∙ ap (λ (r : Answer (List ℕ)). written r cs) (th .decode ρ values s h)
-      ∙ ap {B = Decoded} (λ (m : ℕ). record { answer = answer tt; choices = choices d (propertyOf d p) ρ i ++ drop m cs }) (th .decodes ρ s .long)
+      ∙ ap {B = AfterDecode} (λ (m : ℕ). record { answer = answer tt; choices = choices d (propertyOf d p) ρ i ++ drop m cs }) (th .decodes ρ s .long)
 
   pub witness : (i : ℕ) (ss : Settings) (rest cs : List ℕ) → Theorem d (propertyOf d p) i → i ≤ maxBound → i ≤ length cs → NoneShorter d (propertyOf d p) i
       → satisfies (made ss) (formula d (propertyOf d p) i) ≡ true → Witness d (propertyOf d p) i cs ((decode file p i (valuesFrom ss 1 (n d (propertyOf d p) i) ++ rest) cs) .choices)
@@ -61,7 +61,7 @@ module _ (file : List ℕ) (d : Design) (e : check file ≡ Checked.accepted d) 
       let x = decodes i few th (made ss) (valuesFrom ss 1 (n d (propertyOf d p) i) ++ rest) cs s (values-hold (n d (propertyOf d p) i) ss rest) room in
       record {
         list = choices d (propertyOf d p) (made ss) i;
-        written = ap (λ (r : Decoded). r .choices) x;
+        written = ap (λ (r : AfterDecode). r .choices) x;
         long = b .long;
         movers = b .movers;
         breaks = breaks-at d (propertyOf d p) i (choices d (propertyOf d p) (made ss) i) b none;

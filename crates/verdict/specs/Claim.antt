@@ -1,5 +1,5 @@
 -- Demand 3 of document 01, whole: "one claim about such lists as wholes, not one for each choice". A list's choices are movers' numbers,
--- idle ones included (`AllBelow (length (movers d)) cs`). `Breaking d p k cs`: cs is a list of just k choices that breaks property p; `Breakable d p k`: some
+-- idle ones included (`AllBelow (length (movers d)) cs`). `Breaking d q k cs`: cs is a list of just k choices that breaks property q; `Breakable d q k`: some
 -- list of at most k does.
 use mathlib.Core.Path.{_≡_}
 use mathlib.Core.Logic.{_↔_}
@@ -22,26 +22,26 @@ use Rattle.search.specs.Search.{turn, Budget, noBudget, Ends}
 use Rattle.verdict.specs.Verdict.{Verdict, VIOLATED, CLEAN, SPENT-AT, Told, Memory, searched, verdict}
 
 -- just one satisfying assignment of the formula for bound k decodes to a list: any other gives each of the variables 1..n the same value
-pub record JustOne (d : Design) (p : Property) (k : ℕ) (cs : List ℕ) : Type 0 where
+pub record JustOne (d : Design) (q : Property) (k : ℕ) (cs : List ℕ) : Type 0 where
   pub assignment : Assignment
-  pub satisfying : satisfies assignment (formula d p k) ≡ true
-  pub decodes : choices d p assignment k ≡ cs
-  pub only : (ρ : Assignment) → satisfies ρ (formula d p k) ≡ true → choices d p ρ k ≡ cs → (v : ℕ) → 0 < v → v ≤ n d p k → ρ v ≡ assignment v
+  pub satisfying : satisfies assignment (formula d q k) ≡ true
+  pub decodes : choices d q assignment k ≡ cs
+  pub only : (ρ : Assignment) → satisfies ρ (formula d q k) ≡ true → choices d q ρ k ≡ cs → (v : ℕ) → 0 < v → v ≤ n d q k → ρ v ≡ assignment v
 
-pub record OfFormula (d : Design) (p : Property) (k : ℕ) : Type 0 where
+pub record OfFormula (d : Design) (q : Property) (k : ℕ) : Type 0 where
   -- the formula has a satisfying assignment exactly when some list of at most k choices breaks the property
-  pub satisfiable : Satisfiable (formula d p k) ↔ Breakable d p k
+  pub satisfiable : Satisfiable (formula d q k) ↔ Breakable d q k
   -- for every list of just k choices that breaks it, just one satisfying assignment decodes to it
-  pub decoded : (cs : List ℕ) → Breaking d p k cs → JustOne d p k cs
+  pub decoded : (cs : List ℕ) → Breaking d q k cs → JustOne d q k cs
   -- and every satisfying assignment decodes to such a list
-  pub decodes : (ρ : Assignment) → satisfies ρ (formula d p k) ≡ true → Breaking d p k (choices d p ρ k)
+  pub decodes : (ρ : Assignment) → satisfies ρ (formula d q k) ≡ true → Breaking d q k (choices d q ρ k)
   -- an assignment is one of variables 1..n: the formula names no other
-  pub within : Within (n d p k) (formula d p k)
+  pub within : Within (n d q k) (formula d q k)
   -- the words that ENCODE's parts come to say just these clauses
-  pub words : clausesOf (words (formula d p k)) ≡ formula d p k
+  pub words : clausesOf (words (formula d q k)) ≡ formula d q k
   -- The search of the formula ends by itself, with the budget given or with none: "Repeat" comes in finitely many turns to the answer, the tries and the
   -- values that `searched` tells, "SPENT exactly when a try beyond the budget would be needed", and never by a count of turns.
-  pub ends : (b : Budget) → Ends (n d p k) (formula d p k) b 0 (turn (n d p k) (formula d p k) []) (searched d p b k)
+  pub ends : (b : Budget) → Ends (n d q k) (formula d q k) b 0 (turn (n d q k) (formula d q k) []) (searched d q b k)
 
 -- DECODE's call: "It decodes to the k choices whose choice j, from 0, is the mover with the one true flag of frame j; DECODE, if not refused, writes them."
 -- On values that store a satisfying assignment, with room for k choices, it is not refused. "All else keeps."
@@ -49,10 +49,10 @@ abbrev pub Decodes : List ℕ → Design → ℕ → ℕ → Type 0
 Decodes file d p k = (ρ : Assignment) (values lent : List ℕ) → satisfies ρ (formula d (propertyOf d p) k) ≡ true → Stored (n d (propertyOf d p) k) ρ values
     → k ≤ length lent → decode file p k values lent ≡ record { answer = answer tt; choices = choices d (propertyOf d p) ρ k ++ drop k lent }
 
-module _ (d : Design) (p : Property) where
+module _ (d : Design) (q : Property) where
   -- "A bound's tries are those the search makes on its formula with no budget set." That search ends (`ends`).
   abbrev pub triesOf : ℕ → ℕ
-  triesOf i = (searched d p noBudget i) .tries
+  triesOf i = (searched d q noBudget i) .tries
 
   -- the tries of bounds 0, 1, .., i - 1
   abbrev pub triesBelow : ℕ → ℕ
@@ -61,12 +61,12 @@ module _ (d : Design) (p : Property) where
 
   -- no list of fewer than i choices breaks the property
   abbrev pub NoneShorter : ℕ → Type 0
-  NoneShorter i = (j : ℕ) → j < i → Breakable d p j → ⊥
+  NoneShorter i = (j : ℕ) → j < i → Breakable d q j → ⊥
 
   -- some list of i choices breaks it, and no shorter one
   pub record FirstBreak (k i : ℕ) : Type 0 where
     pub within : i ≤ k
-    pub some : Breakable d p i
+    pub some : Breakable d q i
     pub none : NoneShorter i
 
   -- "for some bound up to its own with no smaller one SAT, the tries of bounds 0 up to that one total more than the budget": of bound i
@@ -87,7 +87,7 @@ module _ (d : Design) (p : Property) where
   -- what each verdict says
   abbrev pub Says : ℕ → ℕ → Verdict → Type 0
   Says k budget (VIOLATED i) = Enough k budget × FirstBreak k i
-  Says k budget CLEAN = Enough k budget × (Breakable d p k → ⊥)
+  Says k budget CLEAN = Enough k budget × (Breakable d q k → ⊥)
   Says k budget (SPENT-AT i) = FirstExceeds k budget i
 
   -- "the tries answered are then the budget; otherwise they are the total over the bounds solved"
@@ -102,7 +102,7 @@ module _ (d : Design) (p : Property) where
     pub written : left ≡ list ++ drop i lent
     pub long : length list ≡ i
     pub movers : AllBelow (length (movers d)) list
-    pub breaks : breaksAt d p list i ≡ true
+    pub breaks : breaksAt d q list i ≡ true
 
   -- of an answer, and the choices before and after the call
   pub record OfVerdict (k budget : ℕ) (told : Told) (lent left : List ℕ) : Type 0 where

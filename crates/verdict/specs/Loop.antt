@@ -13,7 +13,7 @@ use Rattle.clauses.specs.Formula.{n, formula}
 use Rattle.step.specs.Limits.{lastProperty, maxBound}
 use Rattle.search.specs.Search.{upTo}
 use Rattle.search.specs.Solve.{valuesLeft}
-use Rattle.search.specs.Answers.{solvedCode}
+use Rattle.search.specs.Answers.{declaredSolved}
 use Rattle.search.specs.declared.Solved.{Solved}
 use Rattle.verdict.specs.Verdict.{Memory, searched, judgedFrom, judge, roomFor}
 
@@ -41,7 +41,7 @@ module _ (d : Design) (p : Property) (k budget : ℕ) (lent : Memory) where
 
   -- Bound i was tried: its formula was written, the search came to a result, and this is what they left.
   pub record Tried (i t : ℕ) (clauses : List ℤ) (values trail : List ℕ) (r : Solved) (clauses′ : List ℤ) (values′ trail′ : List ℕ) : Type 0 where
-    pub result : r ≡ solvedCode (searched d p (upTo (budget - t)) i)
+    pub result : r ≡ declaredSolved (searched d p (upTo (budget - t)) i)
     pub written : clauses′ ≡ words (formula d p i) ++ drop (length (words (formula d p i))) clauses
     pub values-left : values′ ≡ valuesLeft (n d p i) ((searched d p (upTo (budget - t)) i) .answer) ++ drop (n d p i) values
     pub trail-left : trail′ ≡ replicate (n d p i) 0 ++ drop (n d p i) trail

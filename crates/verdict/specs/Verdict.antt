@@ -42,10 +42,10 @@ decided (SAT settings) tries i o otherwise = judged (VIOLATED i) tries i o
 decided UNSAT tries i o otherwise = otherwise
 decided SPENT tries i o otherwise = judged (SPENT-AT i) tries i o
 
-module _ (d : Design) (p : Property) where
+module _ (d : Design) (q : Property) where
   -- the search on the formula for bound i
   unfoldable pub searched : Budget → ℕ → Outcome
-  searched b i = solved (n d p i) (formula d p i) b
+  searched b i = solved (n d q i) (formula d q i) b
 
   -- bound i and so many after it, once t tries are made: each "with what is left of one budget"
   unfoldable pub judgedFrom : ℕ → ℕ → ℕ → ℕ → Judged
@@ -93,10 +93,10 @@ module _ (file : List ℕ) (d : Design) (p : ℕ) where
 
 -- there is room for the full bound
 unfoldable pub roomFor : Design → Property → ℕ → Memory → Bool
-roomFor d p k lent =
-    leb (length (words (formula d p k))) (length (lent .clauses))
-    && leb (n d p k) (length (lent .values))
-    && leb (n d p k) (length (lent .trail))
+roomFor d q k lent =
+    leb (length (words (formula d q k))) (length (lent .clauses))
+    && leb (n d q k) (length (lent .values))
+    && leb (n d q k) (length (lent .trail))
     && leb k (length (lent .choices))
 
 -- a refusal "leaves all lent memory unchanged"

@@ -67,8 +67,7 @@ size-list-requires c κs =
           sizes _ _ _ (entry .pre .0),
         ),
         kinds _ _ _ (entry .pre .0),
-        entry .pre .0 .bits
-            .few,
+        entry .pre .0 .shaped .bits .few,
       ),
     )
 
@@ -87,7 +86,7 @@ join-requires-2 c κs =
       normal-fields _ _ _ (entry
           .pre .0) _ (entry .pre .1) .past,
       sizes _ _ _ (entry .pre .0),
-    )) _ (entry .pre .0 .bits .few) _ _ _ (c .before .size-list .ensures) in (
+    )) _ (entry .pre .0 .shaped .bits .few) _ _ _ (c .before .size-list .ensures) in (
       omega (
         arith,
         f .ands,
@@ -99,7 +98,7 @@ join-requires-2 c κs =
       omega (
         arith,
         f .wides,
-        entry .pre .0 .bits .few,
+        entry .pre .0 .shaped .bits .few,
         at-size-place .size-place .ensures .0 .wides,
         at-size-guard .size-guard
             .ensures .0 .wides,

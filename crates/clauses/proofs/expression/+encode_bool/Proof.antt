@@ -7,7 +7,7 @@ use Rattle.clauses.specs.Literal.{negate}
 use Rattle.clauses.specs.Expression.{bool! }
 use Rattle.clauses.specs.Piece.{logic! }
 use Rattle.clauses.specs.FlatState.{slotsOf, layoutOf}
-use Rattle.clauses.specs.Encoded.{boolsAt}
+use Rattle.clauses.specs.Encoders.{boolsAt}
 use Rattle.clauses.proofs.EmitReads.{logicOf}
 use Rattle.clauses.proofs.EmitExpressions.{bool-byte, bools-ahead, not-one, logic-pair, only-here, only-node, first-here, second-here, second-on, pair-node, not-tree, logic-tree}
 use Prim.Native.Nat.{ℕ, _<_}

@@ -5,7 +5,7 @@ use lib.ListN.{length, getD}
 use Rattle.clauses.specs.Expression.{int! }
 use Rattle.clauses.specs.Piece.{arithmetic! }
 use Rattle.clauses.specs.FlatState.{slotsOf, layoutOf}
-use Rattle.clauses.specs.Encoded.{intsAt}
+use Rattle.clauses.specs.Encoders.{intsAt}
 use Rattle.clauses.proofs.EmitReads.{arithmeticOf}
 use Rattle.clauses.proofs.EmitExpressions.{int-byte, ints-ahead, arithmetic-pair, first-here, second-here, second-on, pair-node, arithmetic-tree}
 use Prim.Native.Nat.{ℕ, _<_}

@@ -3,7 +3,7 @@ use lib.ListN.{getD}
 use Rattle.clauses.specs.Expression.{int!, bool! }
 use Rattle.clauses.specs.Piece.{compare! }
 use Rattle.clauses.specs.FlatState.{slotsOf, layoutOf}
-use Rattle.clauses.specs.Encoded.{intsAt, boolsAt}
+use Rattle.clauses.specs.Encoders.{intsAt, boolsAt}
 use Rattle.clauses.proofs.EmitReads.{compareOf}
 use Rattle.clauses.proofs.EmitExpressions.{bool-byte, compare-pair, first-here, second-here, pair-node, compare-tree}
 use borrow.Author.Needs.{needs}

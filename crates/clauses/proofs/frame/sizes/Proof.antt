@@ -18,13 +18,13 @@ shape-requires c κs = search needs
 size-property-requires : tie.Need-size-property-requires
 size-property-requires c κs =
     record {
-      indexed = record {
+      shaped = record {
         accepted = c .before .before .before .before .before .before .before .pre;
-        events = c .before .before .before .before
-            .index-events .ensures;
-        shaped = c .before .shape .ensures .shaped;
+        counts = c .before .shape .ensures .shaped;
+        externals = c .before .shape .ensures .externals;
+        bits = c .before .shape .ensures .bits;
       };
-      bits = c .before .shape .ensures .bits;
+      events = c .before .before .before .before .index-events .ensures;
     }
 
 size-cells-requires : tie.Need-size-cells-requires
@@ -32,13 +32,13 @@ size-cells-requires c κs =
     let at-shape = c .before .before .before in
     let entry = at-shape .before .before .before .before .before .before in
     record {
-      indexed = record {
+      shaped = record {
         accepted = entry .pre;
-        events = c .before .before .before .before .before .before .index-events .ensures;
-        shaped =
-            at-shape .shape .ensures .shaped;
+        counts = at-shape .shape .ensures .shaped;
+        externals = at-shape .shape .ensures .externals;
+        bits = at-shape .shape .ensures .bits;
       };
-      bits = at-shape .shape .ensures .bits;
+      events = c .before .before .before .before .before .before .index-events .ensures;
     }
 
 add-t11 : tie.Need-add-t11

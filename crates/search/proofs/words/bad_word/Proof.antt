@@ -5,7 +5,7 @@ use Prim.Native.Nat.{_+_, _-_}
 use native.Mathlib.Omega.{arith}
 use lib.ListN.{length}
 use Rattle.search.specs.Search.{none, at}
-use Rattle.search.specs.Answers.{spotCode}
+use Rattle.search.specs.Answers.{declaredSpot}
 use Rattle.search.specs.Solve.{badWord}
 use Rattle.search.proofs.BadWords.{Reads, reads-start, reads-next, reads-bad, reads-all}
 use Rattle.search.proofs.words.bad_word.Statement.{statement}
@@ -49,14 +49,14 @@ returns-2 : tie.Need-returns-2 Inv-loop μ-loop
 returns-2 c =
     let the-loop = c .before .before .loop in
     let the-args = c .before .before .before .args in
-    subst (λ b. spotCode (cond b (at (the-loop .i)) none) ≡ spotCode (badWord (the-args .n) 0 false (the-args .words .now))) (c .if2 .taken)
+    subst (λ b. declaredSpot (cond b (at (the-loop .i)) none) ≡ declaredSpot (badWord (the-args .n) 0 false (the-args .words .now))) (c .if2 .taken)
     (reads-all _ _ _ _ (the-loop .inv) (c .before .loop-test .left))
 
 returns-3 : tie.Need-returns-3 Inv-loop μ-loop
 returns-3 c =
     let the-loop = c .before .before .loop in
     let the-args = c .before .before .before .args in
-    subst (λ b. spotCode (cond b (at (the-loop .i)) none) ≡ spotCode (badWord (the-args .n) 0 false (the-args .words .now))) (c .if2 .left)
+    subst (λ b. declaredSpot (cond b (at (the-loop .i)) none) ≡ declaredSpot (badWord (the-args .n) 0 false (the-args .words .now))) (c .if2 .left)
     (reads-all _ _ _ _ (the-loop .inv) (c .before .loop-test .left))
 
 pub bad-word-spec : {M : Type 1} → statement M
