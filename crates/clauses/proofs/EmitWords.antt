@@ -78,18 +78,18 @@ word-back r c h e =
     let a : natAbs (wordOf (fromCode c)) ≡ c / 2 = abs-word (eqb (c % 2) 0) (c / 2) in
     ap (λ (z : ℤ). toZ w32 (ofZ w32 z)) e ∙ toZ-ofZ (fits (wordOf (fromCode c)) (rw a (omega arith)))
 
--- words put into a buffer
+-- words put into a buffer; the laws over any element serve text, too
 pub set-past : (xs : List ℤ) (i : ℕ) (w : ℤ) → length xs ≤ i → set xs i w ≡ xs
 set-past [] i w h = refl
 set-past (x ∷ xs) zero w h = absurd (omega arith)
 set-past (x ∷ xs) (suc i) w h = ap (λ (l : List ℤ). x ∷ l) (set-past xs i w (omega arith))
 
-pub put-length : (at : ℕ) (ws xs : List ℤ) → length (put at ws xs) ≡ length xs
+pub put-length : {A : Type 0} (at : ℕ) (ws xs : List A) → length (put at ws xs) ≡ length xs
 unfolding put
 put-length at [] xs = refl
 put-length at (w ∷ ws) xs = put-length (suc at) ws (set xs at w) ∙ length-set xs at w
 
-pub put-append : (at : ℕ) (ws vs xs : List ℤ) → put at (ws ++ vs) xs ≡ put (at + length ws) vs (put at ws xs)
+pub put-append : {A : Type 0} (at : ℕ) (ws vs xs : List A) → put at (ws ++ vs) xs ≡ put (at + length ws) vs (put at ws xs)
 unfolding put
 put-append at [] vs xs = ap (λ (k : ℕ). put k vs xs) (let q : at ≡ at + 0 = omega arith in q)
 put-append at (w ∷ ws) vs xs = put-append (suc at) ws vs (set xs at w) ∙ ap (λ (k : ℕ). put k vs (put (suc at) ws (set xs at w))) (let q : suc at + length ws ≡ at + suc (length ws) = omega arith in q)

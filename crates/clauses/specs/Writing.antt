@@ -18,8 +18,8 @@ fromCode c = cond (eqb (c % 2) 0) (positive (c / 2)) (negative (c / 2))
 abbrev pub fromCodes : List ℕ → Bits
 fromCodes cs = map fromCode cs
 
--- Words written from a position on. A buffer that is too short takes those that it has a place for: a buffer of one word serves to count.
-unfoldable pub put : ℕ → List ℤ → List ℤ → List ℤ
+-- Words, or other elements, written from a position on. A buffer that is too short takes those that it has a place for: a buffer of one word serves to count.
+unfoldable pub put : {A : Type 0} → ℕ → List A → List A → List A
 put at [] xs = xs
 put at (w ∷ ws) xs = put (suc at) ws (set xs at w)
 
@@ -33,8 +33,8 @@ variableLimit = 2147483648
 abbrev pub wordLimit : ℕ
 wordLimit = 4611686018427387904
 
--- the buffer and the cursor, after these words were written from the cursor on
-pub record Put (ws xs ys : List ℤ) (cur cur′ : ℕ) : Type 0 where
+-- the buffer and the cursor, after these were written from the cursor on
+pub record Put {A : Type 0} (ws xs ys : List A) (cur cur′ : ℕ) : Type 0 where
   pub written : ys ≡ put cur ws xs
   pub cursor : cur′ ≡ cur + length ws
 

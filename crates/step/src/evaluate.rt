@@ -1,9 +1,10 @@
 // The values of expressions in a state, over the bytes: a decision over the operator byte, with ranges for operators of one shape.
-// In every function: `text` holds the expression, `file` the variables' kinds; what is read starts at `at` and does not pass `end`;
-// `shape` has the numbers of variables and matrices; `slots` has the state.
+// In every function: `text` holds the expression; what is read starts at `at` and does not pass `end`; `shape` has the numbers of variables and
+// matrices; `slots` has the state. Kinds are not read: the reader has seen them, in whatever file the variables stand.
 ghost use mathlib.Core.Path.{_≡_};
 ghost use mathlib.Core.Bool.{true, cond, _&&_, _||_};
-ghost use Prim.Native.Nat.{_+_, _≤_};
+ghost use mathlib.Core.List.{List};
+ghost use Prim.Native.Nat.{ℕ, _+_, _≤_};
 ghost use lib.ListN.{length};
 ghost use lib.Dec.{eqb};
 ghost use Rattle.design.specs.Expression.{intExpr, boolExpr};
@@ -73,17 +74,16 @@ pub fn compare(op: u8, a: u16, b: u16) -> bool
 // The integer expression at `at`, which the reader accepts.
 pub fn eval_int(
     text: &[u8],
-    file: &[u8],
     at: usize,
     end: usize,
     shape: Shape,
     depth: usize,
     slots: &[u16],
 ) -> IntAt
-    requires { ⌜ (isRead (intExpr (now text) (namesOf (now file) shape) end depth at) ≡ true) × (end ≤ length (now text)) × (slotCount shape ≤ length (now slots)) ⌝ }
-    ensures { λ r. ⌜ (r .value
-        ≡ intValue (layoutOf shape) (now (slots .entry)) (intExpr (now (text .entry)) (namesOf (now (file .entry)) shape) end depth at)) × (r .next
-        ≡ past (intExpr (now (text .entry)) (namesOf (now (file .entry)) shape) end depth at)) ⌝ }
+    requires { ⌜ ((file : List ℕ) × (isRead (intExpr (now text) (namesOf file shape) end depth at) ≡ true)) × (end ≤ length (now text)) × (slotCount shape ≤ length (now slots)) ⌝ }
+    ensures { λ r. ⌜ ((file : List ℕ) → isRead (intExpr (now (text .entry)) (namesOf file shape) end depth at) ≡ true
+        → (r .value ≡ intValue (layoutOf shape) (now (slots .entry)) (intExpr (now (text .entry)) (namesOf file shape) end depth at))
+        × (r .next ≡ past (intExpr (now (text .entry)) (namesOf file shape) end depth at))) ⌝ }
 {
     let op = text[at];
     let p = at + 1;
@@ -98,8 +98,8 @@ pub fn eval_int(
             int_at(slots[shape.variables + m], p + 1)
         }
         0x04..=0x05 => {
-            let a = eval_int(text, file, p, end, shape, depth - 1, slots);
-            let b = eval_int(text, file, a.next, end, shape, depth - 1, slots);
+            let a = eval_int(text, p, end, shape, depth - 1, slots);
+            let b = eval_int(text, a.next, end, shape, depth - 1, slots);
             int_at(arithmetic(op, a.value, b.value), b.next)
         }
         _ => int_at(0, at),
@@ -109,17 +109,16 @@ pub fn eval_int(
 // The Boolean expression at `at`, likewise.
 pub fn eval_bool(
     text: &[u8],
-    file: &[u8],
     at: usize,
     end: usize,
     shape: Shape,
     depth: usize,
     slots: &[u16],
 ) -> BoolAt
-    requires { ⌜ (isRead (boolExpr (now text) (namesOf (now file) shape) end depth at) ≡ true) × (end ≤ length (now text)) × (slotCount shape ≤ length (now slots)) ⌝ }
-    ensures { λ r. ⌜ (r .value
-        ≡ boolValue (layoutOf shape) (now (slots .entry)) (boolExpr (now (text .entry)) (namesOf (now (file .entry)) shape) end depth at)) × (r .next
-        ≡ past (boolExpr (now (text .entry)) (namesOf (now (file .entry)) shape) end depth at)) ⌝ }
+    requires { ⌜ ((file : List ℕ) × (isRead (boolExpr (now text) (namesOf file shape) end depth at) ≡ true)) × (end ≤ length (now text)) × (slotCount shape ≤ length (now slots)) ⌝ }
+    ensures { λ r. ⌜ ((file : List ℕ) → isRead (boolExpr (now (text .entry)) (namesOf file shape) end depth at) ≡ true
+        → (r .value ≡ boolValue (layoutOf shape) (now (slots .entry)) (boolExpr (now (text .entry)) (namesOf file shape) end depth at))
+        × (r .next ≡ past (boolExpr (now (text .entry)) (namesOf file shape) end depth at))) ⌝ }
 {
     let op = text[at];
     let p = at + 1;
@@ -130,17 +129,17 @@ pub fn eval_bool(
             bool_at(0 < slots[v], p + 1)
         }
         0x12 => {
-            let a = eval_bool(text, file, p, end, shape, depth - 1, slots);
+            let a = eval_bool(text, p, end, shape, depth - 1, slots);
             bool_at(!a.value, a.next)
         }
         0x13..=0x14 => {
-            let a = eval_bool(text, file, p, end, shape, depth - 1, slots);
-            let b = eval_bool(text, file, a.next, end, shape, depth - 1, slots);
+            let a = eval_bool(text, p, end, shape, depth - 1, slots);
+            let b = eval_bool(text, a.next, end, shape, depth - 1, slots);
             bool_at(logic(op, a.value, b.value), b.next)
         }
         0x15..=0x16 => {
-            let a = eval_int(text, file, p, end, shape, depth - 1, slots);
-            let b = eval_int(text, file, a.next, end, shape, depth - 1, slots);
+            let a = eval_int(text, p, end, shape, depth - 1, slots);
+            let b = eval_int(text, a.next, end, shape, depth - 1, slots);
             bool_at(compare(op, a.value, b.value), b.next)
         }
         _ => bool_at(false, at),

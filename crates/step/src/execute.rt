@@ -59,11 +59,11 @@ pub fn run_assign(
     let v = wide(text[at]);
     let k = file[3 * v];
     if k == 1 {
-        let x = eval_int(text, file, at + 1, end, shape, MAX_DEPTH, slots);
+        let x = eval_int(text, at + 1, end, shape, MAX_DEPTH, slots);
         slots[v] = x.value;
         x.next
     } else {
-        let x = eval_bool(text, file, at + 1, end, shape, MAX_DEPTH, slots);
+        let x = eval_bool(text, at + 1, end, shape, MAX_DEPTH, slots);
         slots[v] = bit_of(x.value);
         x.next
     }
@@ -91,7 +91,7 @@ pub fn run_stmt(
             if op == 0x20 {
                 return run_assign(text, file, at + 1, end, shape, slots);
             }
-            let c = eval_bool(text, file, at + 1, end, shape, MAX_DEPTH, slots);
+            let c = eval_bool(text, at + 1, end, shape, MAX_DEPTH, slots);
             if c.value {
                 let m = run_list(text, file, c.next, end, shape, nest - 1, slots);
                 skip_list(text, file, m, end, shape, nest - 1)

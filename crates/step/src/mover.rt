@@ -1,7 +1,8 @@
 // Movers: a normal cell or an external, enabled or idle. `events` is the table of events; `p` is where a cell stands.
 ghost use mathlib.Core.Path.{_≡_};
 ghost use mathlib.Core.Bool.{not};
-ghost use Prim.Native.Nat.{_+_, _*_, _≤_, _<_};
+ghost use mathlib.Core.List.{List};
+ghost use Prim.Native.Nat.{ℕ, _+_, _*_, _≤_, _<_};
 ghost use lib.ListN.{length, getD};
 ghost use Rattle.design.specs.Tree.{Design, cell, raise};
 ghost use Rattle.design.specs.DesignFile.{c-matrix, c-status, c-event, events as eventCount};
@@ -37,7 +38,7 @@ pub fn event_true(
 {
     let at = events[16 * m + e] as usize;
     let past = at + 1 + wide(file[at]);
-    let x = eval_bool(file, file, at + 1, past, shape, MAX_DEPTH, slots);
+    let x = eval_bool(file, at + 1, past, shape, MAX_DEPTH, slots);
     x.value
 }
 
@@ -65,21 +66,15 @@ pub fn status_and_event(
 }
 
 // Whether the guard of a normal cell is true.
-pub fn guard_true(
-    file: &[u8],
-    events: &[u16; EVENT_PLACES],
-    shape: Shape,
-    p: usize,
-    slots: &[u16],
-) -> bool
-    requires { ⌜ ReadyState (now file) (now events) shape (now slots) × NormalCell (now file) p ⌝ }
+pub fn guard_true(file: &[u8], shape: Shape, p: usize, slots: &[u16]) -> bool
+    requires { ⌜ ((table : List ℕ) × ReadyState (now file) table shape (now slots)) × NormalCell (now file) p ⌝ }
     ensures { λ r. ⌜ ((x : NormalCell (now (file .entry)) p) → r ≡ evalBool (layoutOf shape) (now (slots .entry)) (x .cell .guard)) ⌝ }
 {
     let n = wide(file[p + 5]);
     if n == 0 {
         return true;
     }
-    let x = eval_bool(file, file, p + 8, p + 8 + n, shape, MAX_DEPTH, slots);
+    let x = eval_bool(file, p + 8, p + 8 + n, shape, MAX_DEPTH, slots);
     x.value
 }
 
@@ -98,7 +93,7 @@ pub fn move_cell(
     if !status_and_event(file, events, shape, p, slots) {
         return true;
     }
-    if !guard_true(file, events, shape, p, slots) {
+    if !guard_true(file, shape, p, slots) {
         return true;
     }
     let middle = p + 8 + wide(file[p + 5]);

@@ -1,5 +1,7 @@
 // The properties. Parameters are those of movers.
 ghost use mathlib.Core.Path.{_≡_};
+ghost use mathlib.Core.List.{List};
+ghost use Prim.Native.Nat.{ℕ};
 ghost use Rattle.design.specs.Tree.{Design};
 ghost use Rattle.design.specs.State.{layoutOf};
 ghost use Rattle.design.specs.Sections.{Parts};
@@ -20,17 +22,12 @@ use design::limits::MAX_DEPTH;
 use design::shape::Shape;
 
 // Whether the invariant is true.
-pub fn invariant_true(
-    file: &[u8],
-    events: &[u16; EVENT_PLACES],
-    shape: Shape,
-    slots: &[u16],
-) -> bool
-    requires { ⌜ ReadyState (now file) (now events) shape (now slots) ⌝ }
+pub fn invariant_true(file: &[u8], shape: Shape, slots: &[u16]) -> bool
+    requires { ⌜ ((table : List ℕ) × ReadyState (now file) table shape (now slots)) ⌝ }
     ensures { λ r. ⌜ ((d : Design) (parts : Parts (now (file .entry)) d) → r ≡ evalBool (layoutOf shape) (now (slots .entry)) (d .invariant)) ⌝ }
 {
     let stands = invariant(file);
-    let x = eval_bool(file, file, stands.at, stands.end, shape, MAX_DEPTH, slots);
+    let x = eval_bool(file, stands.at, stands.end, shape, MAX_DEPTH, slots);
     x.value
 }
 
@@ -66,7 +63,7 @@ pub fn property_true(
     ensures { λ r. ⌜ ((d : Design) (parts : Parts (now (file .entry)) d) → r ≡ holds d (propertyOf d property) (now (slots .entry))) ⌝ }
 {
     if property == 0 {
-        invariant_true(file, events, shape, slots)
+        invariant_true(file, shape, slots)
     } else {
         no_invalid(file, events, shape, slots)
     }

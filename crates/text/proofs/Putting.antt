@@ -12,38 +12,28 @@ use borrow.Author.Tests.{lt-ltb, le-ltb}
 use lib.IntN.{ℤ, pos, negsuc, negℤ, natAbs}
 use Rattle.step.specs.Pattern.{signed}
 use Rattle.search.specs.Memory.{signOf}
-use Rattle.text.specs.Text.{digits, decimal, signedText, put, TextWritten}
+use Rattle.clauses.specs.Writing.{put}
+use Rattle.clauses.proofs.EmitWords.{put-length, put-append}
+use Rattle.text.specs.Text.{digits, decimal, signedText, TextWritten}
 use Rattle.text.specs.Line.{spaced, moverText, flagText}
 use Rattle.design.specs.Tree.{bit}
 
-pub put-length : (at : ℕ) (ws xs : List ℕ) → length (put at ws xs) ≡ length xs
-unfolding put
-put-length at [] xs = refl
-put-length at (w ∷ ws) xs = put-length (suc at) ws (set xs at w) ∙ length-set xs at w
-
-pub put-append : (at : ℕ) (us vs xs : List ℕ) → put (at + length us) vs (put at us xs) ≡ put at (us ++ vs) xs
-unfolding put
-put-append at [] vs xs = ap (λ (k : ℕ). put k vs xs) (let q : at + 0 ≡ at = omega arith in q)
-put-append at (u ∷ us) vs xs =
-    ap (λ (k : ℕ). put k vs (put (suc at) us (set xs at u))) (let q : at + suc (length us) ≡ suc at + length us = omega arith in q)
-    ∙ put-append (suc at) us vs (set xs at u)
-
 pub written-length : {ws xs ys : List ℕ} {at r : ℕ} → TextWritten ws xs ys at r → length ys ≡ length xs
-written-length {ws} {xs} {ys} {at} h = ap length (h .bytes) ∙ put-length at ws xs
+written-length {ws} {xs} {ys} {at} h = ap length (h .written) ∙ put-length at ws xs
 
 -- nothing, one byte, one text after another
 pub written-none : (xs : List ℕ) (at : ℕ) → TextWritten [] xs xs at at
 unfolding put
-written-none xs at = record { bytes = refl; past = omega arith }
+written-none xs at = record { written = refl; cursor = omega arith }
 
 pub written-byte : (b : ℕ) (xs : List ℕ) (at r : ℕ) → r ≡ at + 1 → TextWritten (b ∷ []) xs (set xs at b) at r
 unfolding put
-written-byte b xs at r e = record { bytes = refl; past = e }
+written-byte b xs at r e = record { written = refl; cursor = e }
 
 pub written-then : {us vs xs ys zs : List ℕ} {at m r : ℕ} → TextWritten us xs ys at m → TextWritten vs ys zs m r → TextWritten (us ++ vs) xs zs at r
 written-then {us} {vs} {xs} {ys} {zs} {at} {m} {r} g h = record {
-  bytes = h .bytes ∙ ap (put m vs) (g .bytes) ∙ ap (λ (k : ℕ). put k vs (put at us xs)) (g .past) ∙ put-append at us vs xs;
-  past = let a = g .past in let b = h .past in omega (arith, length-append us vs);
+  written = h .written ∙ ap (put m vs) (g .written) ∙ ap (λ (k : ℕ). put k vs (put at us xs)) (g .cursor) ∙ sym (put-append at us vs xs);
+  cursor = let a = g .cursor in let b = h .cursor in omega (arith, length-append us vs);
 }
 
 pub digits-length : (k n : ℕ) → length (digits k n) ≤ k
@@ -73,7 +63,7 @@ digits-more (suc k) n {xs} {ys} {zs} {at} {m} {r} z h g w =
     rw (le-ltb n 10 h) (written-then (subst (λ (j : ℕ). TextWritten (digits j (n / 10)) xs ys at m) (let q : suc k - 1 ≡ k = omega arith in q) g) w)
 
 pub decimal-past : (n : ℕ) {xs ys : List ℕ} {at r : ℕ} → TextWritten (decimal n) xs ys at r → r ≤ at + 20
-decimal-past n h = omega (arith, h .past, digits-length 20 n)
+decimal-past n h = omega (arith, h .cursor, digits-length 20 n)
 
 -- the two cases of an integer's text; `signOf` is 1 of a number that is not negative, else 0
 pub signed-plain : (z : ℤ) (n : ℕ) {xs ys : List ℕ} {at r : ℕ} → n ≡ natAbs z → signOf z ≡ 1 → TextWritten (decimal n) xs ys at r → TextWritten (signedText z) xs ys at r
@@ -89,7 +79,7 @@ signed-length (pos n) = omega (arith, digits-length 20 n)
 signed-length (negsuc n) = omega (arith, digits-length 20 (suc n))
 
 pub signed-past : (z : ℤ) {xs ys : List ℕ} {at r : ℕ} → TextWritten (signedText z) xs ys at r → r ≤ at + 21
-signed-past z h = omega (arith, h .past, signed-length z)
+signed-past z h = omega (arith, h .cursor, signed-length z)
 
 -- what is left of a text, put now, is the whole put at the start
 pub record Rest (left whole xs ys : List ℕ) (at p : ℕ) : Type 0 where
@@ -102,14 +92,14 @@ rest-start whole xs at = record { bytes = refl; past = refl; size = refl }
 
 pub rest-next : (ws left : List ℕ) {here whole xs ys zs : List ℕ} {at p r : ℕ} → here ≡ ws ++ left → Rest here whole xs ys at p → TextWritten ws ys zs p r → Rest left whole xs zs at r
 rest-next ws left {here} {whole} {xs} {ys} {zs} {at} {p} {r} e l w = record {
-  bytes = ap (put r left) (w .bytes) ∙ ap (λ (k : ℕ). put k left (put p ws ys)) (w .past) ∙ put-append p ws left ys ∙ ap (λ (us : List ℕ). put p us ys) (sym e) ∙ l .bytes;
-  past = omega (arith, w .past, l .past, ap length e, length-append ws left);
+  bytes = ap (put r left) (w .written) ∙ ap (λ (k : ℕ). put k left (put p ws ys)) (w .cursor) ∙ sym (put-append p ws left ys) ∙ ap (λ (us : List ℕ). put p us ys) (sym e) ∙ l .bytes;
+  past = omega (arith, w .cursor, l .past, ap length e, length-append ws left);
   size = written-length w ∙ l .size;
 }
 
 pub rest-end : {left whole xs ys : List ℕ} {at p : ℕ} → left ≡ [] → Rest left whole xs ys at p → TextWritten whole xs ys at p
 unfolding put
-rest-end {left} {whole} {xs} {ys} {at} {p} e l = record { bytes = rw e at (l .bytes); past = omega (arith, rw e at (l .past)) }
+rest-end {left} {whole} {xs} {ys} {at} {p} e l = record { written = rw e at (l .bytes); cursor = omega (arith, rw e at (l .past)) }
 
 -- of bytes, one at a time
 pub bytes-next : (bs : List ℕ) (i : ℕ) {xs ys zs : List ℕ} {at p r : ℕ} → i < length bs → Rest (drop i bs) bs xs ys at p → TextWritten (getD bs i 0 ∷ []) ys zs p r → Rest (drop (i + 1) bs) bs xs zs at r
@@ -135,7 +125,7 @@ left-next zs i {xs} {ys} {us} {vs} {at} {p} {m} {r} h l g w =
     let b : TextWritten (32 ∷ signedText (getD zs i (pos 0))) ys vs p r = written-then g w in
     rw (add-one i) (record {
       rest = rest-next (32 ∷ signedText (getD zs i (pos 0))) (spaced (drop (suc i) zs)) (spaced-next zs i h) (l .rest) b;
-      near = omega (arith, b .past, l .near, signed-length (getD zs i (pos 0)));
+      near = omega (arith, b .cursor, l .near, signed-length (getD zs i (pos 0)));
     })
 
 left-end : (zs : List ℤ) (i : ℕ) {xs ys : List ℕ} {at p : ℕ} → length zs ≤ i → Left zs i xs ys at p → TextWritten (spaced zs) xs ys at p
@@ -202,4 +192,4 @@ pub flag-written : (b : Bool) (n : ℕ) {xs ys zs : List ℕ} {at m r : ℕ} →
 flag-written b n {xs} {ys} {zs} {at} {m} {r} e g h = written-then g (subst (λ (k : ℕ). TextWritten (k ∷ []) ys zs m r) e h)
 
 pub written-past : {ws xs ys : List ℕ} {at r : ℕ} → TextWritten ws xs ys at r → (k : ℕ) → length ws ≤ k → r ≤ at + k
-written-past h k l = omega (arith, h .past)
+written-past h k l = omega (arith, h .cursor)

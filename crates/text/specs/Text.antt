@@ -1,11 +1,10 @@
 -- Numbers as text: lists of bytes.
-use mathlib.Core.Path.{_≡_}
 use mathlib.Core.Bool.{cond}
 use mathlib.Core.List.{List, [], _∷_, _++_}
 use Prim.Native.Nat.{ℕ, zero, suc, _+_, _/_, _%_}
 use lib.Dec.{ltb}
 use lib.IntN.{ℤ, pos, negsuc}
-use lib.ListN.{length, set}
+use Rattle.clauses.specs.Writing.{Put}
 
 -- decimal digits, the highest first, at most so many
 unfoldable pub digits : ℕ → ℕ → List ℕ
@@ -21,15 +20,9 @@ abbrev pub signedText : ℤ → List ℕ
 signedText (pos n) = decimal n
 signedText (negsuc n) = 45 ∷ decimal (suc n)
 
--- the list with bytes put from a position on
-unfoldable pub put : ℕ → List ℕ → List ℕ → List ℕ
-put at [] xs = xs
-put at (w ∷ ws) xs = put (suc at) ws (set xs at w)
-
 -- what a function that writes text leaves: the bytes put at a position, and the position past them
-pub record TextWritten (ws xs ys : List ℕ) (at r : ℕ) : Type 0 where
-  pub bytes : ys ≡ put at ws xs
-  pub past : r ≡ at + length ws
+abbrev pub TextWritten : List ℕ → List ℕ → List ℕ → ℕ → ℕ → Type 0
+TextWritten bytes before after at past = Put bytes before after at past
 
 -- no line is longer, and no program's text: 101 lines of a run and its result fit
 abbrev pub maxLine : ℕ

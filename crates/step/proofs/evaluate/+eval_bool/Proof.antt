@@ -21,39 +21,39 @@ use Rattle.step.proofs.evaluate.logic.Reads as logic-reads
 use Rattle.step.proofs.evaluate.+eval_bool.{statement}
 use Rattle.step.proofs.evaluate.+eval_bool.Tie.{close}
 
-abbrev μ-eval-bool : Measures 3 eval-bool-kinds.ps ℕ
-μ-eval-bool κs a = a .1 .1 .1 .1 .1 .0
+abbrev μ-eval-bool : Measures 2 eval-bool-kinds.ps ℕ
+μ-eval-bool κs a = a .1 .1 .1 .1 .0
 
-abbrev eval-bool-at : ℕ → In 3 eval-bool-kinds.ps
-eval-bool-at t = and 3 eval-bool-kinds.ps (is 3 eval-bool-kinds.ps μ-eval-bool t) eval-bool.Pre
+abbrev eval-bool-at : ℕ → In 2 eval-bool-kinds.ps
+eval-bool-at t = and 2 eval-bool-kinds.ps (is 2 eval-bool-kinds.ps μ-eval-bool t) eval-bool.Pre
 
-abbrev eval-bool-below : ℕ → In 3 eval-bool-kinds.ps
+abbrev eval-bool-below : ℕ → In 2 eval-bool-kinds.ps
 eval-bool-below t =
-    and 3 eval-bool-kinds.ps (falls 3 eval-bool-kinds.ps _<_ μ-eval-bool t) eval-bool.Pre
+    and 2 eval-bool-kinds.ps (falls 2 eval-bool-kinds.ps _<_ μ-eval-bool t) eval-bool.Pre
 
 abbrev eval-bool-claims : ℕ → eval-bool-lts.Claims
 eval-bool-claims t = (bool-at-reads.Asked, bool-at-reads.Learnt, wide-reads.Asked, wide-reads.Learnt, eval-bool-below t, eval-bool.Post, logic-reads.Asked, logic-reads.Learnt, eval-int-reads.Asked, eval-int-reads.Learnt, compare-reads.Asked, compare-reads.Learnt)
 
 eval-bool-shared-slice-read-op : (t : ℕ) → eval-bool-lts.Need-shared-slice-read-op (eval-bool-claims t) (eval-bool-at t) eval-bool.Post
-eval-bool-shared-slice-read-op t c = omega (arith, bool-live _ _ _ _ _ (c .before .before .before .before .pre .1 .0) .inside)
+eval-bool-shared-slice-read-op t c = omega (arith, bool-live _ _ _ _ _ (c .before .before .before .pre .1 .0 .1) .inside)
 
 eval-bool-add-p : (t : ℕ) → eval-bool-lts.Need-add-p (eval-bool-claims t) (eval-bool-at t) eval-bool.Post
-eval-bool-add-p t c = omega (arith, bool-live _ _ _ _ _ (c .before .before .before .before .pre .1 .0) .inside)
+eval-bool-add-p t c = omega (arith, bool-live _ _ _ _ _ (c .before .before .before .pre .1 .0 .1) .inside)
 
 eval-bool-shared-slice-read-bool-at : (t : ℕ) → eval-bool-lts.Need-shared-slice-read-bool-at (eval-bool-claims t) (eval-bool-at t) eval-bool.Post
 eval-bool-shared-slice-read-bool-at t c =
-    omega (arith, bool-constant _ _ _ _ _ (c .before .before .before .before .before .before .pre .1 .0) (c .before .match .keys1) .0)
+    omega (arith, bool-constant _ _ _ _ _ (c .before .before .before .before .before .pre .1 .0 .1) (c .before .match .keys1) .0)
 
 eval-bool-add-bool-at : (t : ℕ) → eval-bool-lts.Need-add-bool-at (eval-bool-claims t) (eval-bool-at t) eval-bool.Post
 eval-bool-add-bool-at t c =
-    omega (arith, bool-constant _ _ _ _ _ (c .before .before .before .before .before .before .pre .1 .0) (c .before .match .keys1) .0)
+    omega (arith, bool-constant _ _ _ _ _ (c .before .before .before .before .before .pre .1 .0 .1) (c .before .match .keys1) .0)
 
 eval-bool-bool-at-requires : (t : ℕ) → eval-bool-lts.Need-bool-at-requires (eval-bool-claims t) (eval-bool-at t) eval-bool.Post
 eval-bool-bool-at-requires t c κs = tt
 
 eval-bool-shared-slice-read-wide : (t : ℕ) → eval-bool-lts.Need-shared-slice-read-wide (eval-bool-claims t) (eval-bool-at t) eval-bool.Post
 eval-bool-shared-slice-read-wide t c =
-    omega (arith, bool-variable _ _ _ _ _ (c .before .before .before .before .before .before .pre .1 .0) (c .before .match .keys2) .0)
+    omega (arith, bool-variable _ _ _ _ _ (c .before .before .before .before .before .pre .1 .0 .1) (c .before .match .keys2) .0)
 
 eval-bool-wide-requires : (t : ℕ) → eval-bool-lts.Need-wide-requires (eval-bool-claims t) (eval-bool-at t) eval-bool.Post
 eval-bool-wide-requires t c κs = tt
@@ -63,60 +63,53 @@ eval-bool-mul-bool-at t c = omega (arith, c .wide .ensures .1)
 
 eval-bool-shared-slice-read-bool-at-2 : (t : ℕ) → eval-bool-lts.Need-shared-slice-read-bool-at-2 (eval-bool-claims t) (eval-bool-at t) eval-bool.Post
 eval-bool-shared-slice-read-bool-at-2 t c =
-    let entry = c .before .before .before .before .before .before .before .before in
-    omega (arith, c .before .wide .ensures .0, bool-variable _ _ _ _ _ (entry .pre .1 .0) (c .before .before .before .match .keys2) .1)
+    let entry = c .before .before .before .before .before .before .before in
+    omega (arith, c .before .wide .ensures .0, bool-variable _ _ _ _ _ (entry .pre .1 .0 .1) (c .before .before .before .match .keys2) .1)
 
 eval-bool-add-bool-at-2 : (t : ℕ) → eval-bool-lts.Need-add-bool-at-2 (eval-bool-claims t) (eval-bool-at t) eval-bool.Post
 eval-bool-add-bool-at-2 t c =
-    let entry = c .before .before .before .before .before .before .before .before in
-    omega (arith, bool-variable _ _ _ _ _ (entry .pre .1 .0) (c .before .before .before .match .keys2) .0)
+    let entry = c .before .before .before .before .before .before .before in
+    omega (arith, bool-variable _ _ _ _ _ (entry .pre .1 .0 .1) (c .before .before .before .match .keys2) .0)
 
 eval-bool-bool-at-requires-2 : (t : ℕ) → eval-bool-lts.Need-bool-at-requires-2 (eval-bool-claims t) (eval-bool-at t) eval-bool.Post
 eval-bool-bool-at-requires-2 t c κs = tt
 
 eval-bool-sub-eval-bool : (t : ℕ) → eval-bool-lts.Need-sub-eval-bool (eval-bool-claims t) (eval-bool-at t) eval-bool.Post
-eval-bool-sub-eval-bool t c = omega (arith, bool-live _ _ _ _ _ (c .before .before .before .before .before .pre .1 .0) .deep)
+eval-bool-sub-eval-bool t c = omega (arith, bool-live _ _ _ _ _ (c .before .before .before .before .pre .1 .0 .1) .deep)
 
 eval-bool-eval-bool-requires : (t : ℕ) → eval-bool-lts.Need-eval-bool-requires (eval-bool-claims t) (eval-bool-at t) eval-bool.Post
-eval-bool-eval-bool-requires t c κs = (
-  omega (arith, bool-live _ _ _ _ _ (c .before .before .before .before .before .pre .1 .0) .deep),
-  (
-    not-first _ _ _ _ _ (c .before .before .before .before .before .pre .1 .0) (c .match .keys3),
-    omega arith,
-    omega arith,
-  ),
-)
+eval-bool-eval-bool-requires t c κs =
+    let entry = c .before .before .before .before in (
+      omega (arith, bool-live _ _ _ _ _ (entry .pre .1 .0 .1) .deep),
+      ((entry .pre .1 .0 .0, not-first _ _ _ _ _ (entry .pre .1 .0 .1) (c .match .keys3)), omega arith, omega arith),
+    )
 
 eval-bool-bool-at-requires-3 : (t : ℕ) → eval-bool-lts.Need-bool-at-requires-3 (eval-bool-claims t) (eval-bool-at t) eval-bool.Post
 eval-bool-bool-at-requires-3 t c κs = tt
 
 eval-bool-sub-eval-bool-2 : (t : ℕ) → eval-bool-lts.Need-sub-eval-bool-2 (eval-bool-claims t) (eval-bool-at t) eval-bool.Post
-eval-bool-sub-eval-bool-2 t c = omega (arith, bool-live _ _ _ _ _ (c .before .before .before .before .before .before .before .pre .1 .0) .deep)
+eval-bool-sub-eval-bool-2 t c = omega (arith, bool-live _ _ _ _ _ (c .before .before .before .before .before .before .pre .1 .0 .1) .deep)
 
 eval-bool-eval-bool-requires-2 : (t : ℕ) → eval-bool-lts.Need-eval-bool-requires-2 (eval-bool-claims t) (eval-bool-at t) eval-bool.Post
-eval-bool-eval-bool-requires-2 t c κs = (
-  omega (arith, bool-live _ _ _ _ _ (c .before .before .before .before .before .before .before .pre .1 .0) .deep),
-  (
-    logic-first _ _ _ _ _ (c .before .before .before .before .before .before .before .pre .1 .0) (omega arith) (c .if2 .taken),
-    omega arith,
-    omega arith,
-  ),
-)
+eval-bool-eval-bool-requires-2 t c κs =
+    let entry = c .before .before .before .before .before .before in (
+      omega (arith, bool-live _ _ _ _ _ (entry .pre .1 .0 .1) .deep),
+      ((entry .pre .1 .0 .0, logic-first _ _ _ _ _ (entry .pre .1 .0 .1) (omega arith) (c .if2 .taken)), omega arith, omega arith),
+    )
 
 eval-bool-sub-eval-bool-3 : (t : ℕ) → eval-bool-lts.Need-sub-eval-bool-3 (eval-bool-claims t) (eval-bool-at t) eval-bool.Post
 eval-bool-sub-eval-bool-3 t c =
-    let entry = c .before .before .before .before .before .before .before .before in
-    omega (arith, bool-live _ _ _ _ _ (entry .pre .1 .0) .deep)
+    let entry = c .before .before .before .before .before .before .before in
+    omega (arith, bool-live _ _ _ _ _ (entry .pre .1 .0 .1) .deep)
 
 eval-bool-eval-bool-requires-3 : (t : ℕ) → eval-bool-lts.Need-eval-bool-requires-3 (eval-bool-claims t) (eval-bool-at t) eval-bool.Post
-eval-bool-eval-bool-requires-3 t c κs = (
-  omega (arith, bool-live _ _ _ _ _ (c .before .before .before .before .before .before .before .before .pre .1 .0) .deep),
-  (
-    logic-second _ _ _ _ _ (c .before .before .before .before .before .before .before .before .pre .1 .0) (omega arith) (c .before .if2 .taken) _ (c .eval-bool2 .ensures .1),
-    omega arith,
-    omega arith,
-  ),
-)
+eval-bool-eval-bool-requires-3 t c κs =
+    let entry = c .before .before .before .before .before .before .before in
+    let (file, h) = entry .pre .1 .0 in
+    let first = logic-first _ _ _ _ _ h (omega arith) (c .before .if2 .taken) in (
+      omega (arith, bool-live _ _ _ _ _ h .deep),
+      ((file, logic-second _ _ _ _ _ h (omega arith) (c .before .if2 .taken) _ (c .eval-bool2 .ensures file first .1)), omega arith, omega arith),
+    )
 
 eval-bool-logic-requires : (t : ℕ) → eval-bool-lts.Need-logic-requires (eval-bool-claims t) (eval-bool-at t) eval-bool.Post
 eval-bool-logic-requires t c κs = tt
@@ -126,28 +119,25 @@ eval-bool-bool-at-requires-4 t c κs = tt
 
 eval-bool-sub-eval-int : (t : ℕ) → eval-bool-lts.Need-sub-eval-int (eval-bool-claims t) (eval-bool-at t) eval-bool.Post
 eval-bool-sub-eval-int t c =
-    let entry = c .before .before .before .before .before .before .before .before in
-    omega (arith, bool-live _ _ _ _ _ (entry .pre .1 .0) .deep)
+    let entry = c .before .before .before .before .before .before .before in
+    omega (arith, bool-live _ _ _ _ _ (entry .pre .1 .0 .1) .deep)
 
 eval-bool-eval-int-requires : (t : ℕ) → eval-bool-lts.Need-eval-int-requires (eval-bool-claims t) (eval-bool-at t) eval-bool.Post
-eval-bool-eval-int-requires t c κs = (
-  compare-first _ _ _ _ _ (c .before .before .before .before .before .before .before .before .pre .1 .0) (omega arith) (c .if3 .taken),
-  omega arith,
-  omega arith,
-)
+eval-bool-eval-int-requires t c κs =
+    let entry = c .before .before .before .before .before .before .before in
+    ((entry .pre .1 .0 .0, compare-first _ _ _ _ _ (entry .pre .1 .0 .1) (omega arith) (c .if3 .taken)), omega arith, omega arith)
 
 eval-bool-sub-eval-int-2 : (t : ℕ) → eval-bool-lts.Need-sub-eval-int-2 (eval-bool-claims t) (eval-bool-at t) eval-bool.Post
 eval-bool-sub-eval-int-2 t c =
-    let entry = c .before .before .before .before .before .before .before .before .before in
-    omega (arith, bool-live _ _ _ _ _ (entry .pre .1 .0) .deep)
+    let entry = c .before .before .before .before .before .before .before .before in
+    omega (arith, bool-live _ _ _ _ _ (entry .pre .1 .0 .1) .deep)
 
 eval-bool-eval-int-requires-2 : (t : ℕ) → eval-bool-lts.Need-eval-int-requires-2 (eval-bool-claims t) (eval-bool-at t) eval-bool.Post
-eval-bool-eval-int-requires-2 t c κs = (
-  compare-second _ _ _ _ _ (c .before .before .before .before .before .before .before .before .before .pre .1 .0) (omega arith) (c .before .if3 .taken)
-      _ (c .eval-int .ensures .1),
-  omega arith,
-  omega arith,
-)
+eval-bool-eval-int-requires-2 t c κs =
+    let entry = c .before .before .before .before .before .before .before .before in
+    let (file, h) = entry .pre .1 .0 in
+    let first = compare-first _ _ _ _ _ h (omega arith) (c .before .if3 .taken) in
+    ((file, compare-second _ _ _ _ _ h (omega arith) (c .before .if3 .taken) _ (c .eval-int .ensures file first .1)), omega arith, omega arith)
 
 eval-bool-compare-requires : (t : ℕ) → eval-bool-lts.Need-compare-requires (eval-bool-claims t) (eval-bool-at t) eval-bool.Post
 eval-bool-compare-requires t c κs = tt
@@ -161,54 +151,56 @@ eval-bool-bool-at-requires-6 t c κs = tt
 eval-bool-returns : (t : ℕ) → eval-bool-lts.Need-returns (eval-bool-claims t) (eval-bool-at t) eval-bool.Post
 unfolding evalBool
 eval-bool-returns t c =
-    let entry = c .before .before .before .before .before .before .before in
-    let k = bool-constant _ _ _ _ _ (entry .pre .1 .0) (c .before .before .match .keys1) in (
-      c .bool-at .ensures .0 ∙ truth-test (getD (entry .args .text
-          .now) (entry .args .at + 1) 0) ∙ sym (ap (boolValue _ _) (k .1)),
+    λ file h.
+    let entry = c .before .before .before .before .before .before in
+    let k = bool-constant _ _ _ _ _ h (c .before .before .match .keys1) in (
+      c .bool-at .ensures .0 ∙ truth-test (getD (entry .args .text .now) (entry .args .at + 1) 0) ∙ sym (ap (boolValue _ _) (k .1)),
       c .bool-at .ensures .1 ∙ sym (ap past (k .1)),
     )
 
 eval-bool-returns-2 : (t : ℕ) → eval-bool-lts.Need-returns-2 (eval-bool-claims t) (eval-bool-at t) eval-bool.Post
 unfolding evalBool
 eval-bool-returns-2 t c =
-    let entry = c .before .before .before .before .before .before .before .before .before in
-    let k = bool-variable _ _ _ _ _ (entry .pre .1 .0) (c .before .before .before .before .match .keys2) in (
-      c .bool-at2 .ensures .0 ∙ ap (λ (v : ℕ). ltb
-          0 (getD (entry .args .slots .now) v 0)) (c .before .before .wide .ensures .0) ∙ truth-test (getD (entry .args .slots .now) (getD (entry .args
-          .text .now) (entry .args .at + 1) 0) 0) ∙ sym (ap (boolValue _ _) (k .2)),
+    λ file h.
+    let entry = c .before .before .before .before .before .before .before .before in
+    let k = bool-variable _ _ _ _ _ h (c .before .before .before .before .match .keys2) in (
+      c .bool-at2 .ensures .0
+          ∙ ap (λ (v : ℕ). ltb 0 (getD (entry .args .slots .now) v 0)) (c .before .before .wide .ensures .0)
+          ∙ truth-test (getD (entry .args .slots .now) (getD (entry .args .text .now) (entry .args .at + 1) 0) 0)
+          ∙ sym (ap (boolValue _ _) (k .2)),
       c .bool-at2 .ensures .1 ∙ sym (ap past (k .2)),
     )
 
 eval-bool-returns-3 : (t : ℕ) → eval-bool-lts.Need-returns-3 (eval-bool-claims t) (eval-bool-at t) eval-bool.Post
 eval-bool-returns-3 t c =
-    let entry = c .before .before .before .before .before .before .before .before in
-    let k = not-value _ _ _ _ _ (entry .pre .1 .0) (c .before .before .before .match .keys3) _ _ _ _ (c .before .before .eval-bool .ensures .0) (c .before
-    .before .eval-bool .ensures .1) in (c .bool-at3 .ensures .0 ∙ k .0, c .bool-at3 .ensures .1 ∙ k .1)
+    λ file h.
+    let key = c .before .before .before .match .keys3 in
+    let a = c .before .before .eval-bool .ensures file (not-first _ _ _ _ _ h key) in
+    let k = not-value _ _ _ _ _ h key _ _ _ _ (a .0) (a .1) in
+    (c .bool-at3 .ensures .0 ∙ k .0, c .bool-at3 .ensures .1 ∙ k .1)
 
 eval-bool-returns-4 : (t : ℕ) → eval-bool-lts.Need-returns-4 (eval-bool-claims t) (eval-bool-at t) eval-bool.Post
 eval-bool-returns-4 t c =
-    let k = logic-pair _ _ _ _ _ (c .before .before .before .before .before .before .before .before .before .before .before .pre .1 .0) (omega arith) (c
-    .before .before .before .before .if2 .taken) _ _ _ _ _ _ (c .before .before .before .eval-bool2 .ensures .0) (c .before .before .before
-    .eval-bool2 .ensures .1) (c .before .before .eval-bool3 .ensures .0) (c .before .before .eval-bool3 .ensures .1) in (
-      c .bool-at4 .ensures .0 ∙
-          c .before .logic .ensures ∙ k .0,
-      c .bool-at4 .ensures .1 ∙ k .1,
-    )
+    λ file h.
+    let taken = c .before .before .before .before .if2 .taken in
+    let a = c .before .before .before .eval-bool2 .ensures file (logic-first _ _ _ _ _ h (omega arith) taken) in
+    let b = c .before .before .eval-bool3 .ensures file (logic-second _ _ _ _ _ h (omega arith) taken _ (a .1)) in
+    let k = logic-pair _ _ _ _ _ h (omega arith) taken _ _ _ _ _ _ (a .0) (a .1) (b .0) (b .1) in
+    (c .bool-at4 .ensures .0 ∙ c .before .logic .ensures ∙ k .0, c .bool-at4 .ensures .1 ∙ k .1)
 
 eval-bool-returns-5 : (t : ℕ) → eval-bool-lts.Need-returns-5 (eval-bool-claims t) (eval-bool-at t) eval-bool.Post
 eval-bool-returns-5 t c =
-    let k = compare-pair _ _ _ _ _ (c .before .before .before .before .before .before .before .before .before .before .before .before .pre .1 .0) (omega
-    arith) (c .before .before .before .before .if3 .taken) _ _ _ _ _ _ (c .before .before .before .eval-int .ensures .0) (c .before .before
-    .before .eval-int .ensures .1) (c .before .before .eval-int2 .ensures .0) (c .before .before .eval-int2 .ensures .1) in (
-      c .bool-at5 .ensures
-          .0 ∙ c .before .compare .ensures ∙ k .0,
-      c .bool-at5 .ensures .1 ∙ k .1,
-    )
+    λ file h.
+    let taken = c .before .before .before .before .if3 .taken in
+    let a = c .before .before .before .eval-int .ensures file (compare-first _ _ _ _ _ h (omega arith) taken) in
+    let b = c .before .before .eval-int2 .ensures file (compare-second _ _ _ _ _ h (omega arith) taken _ (a .1)) in
+    let k = compare-pair _ _ _ _ _ h (omega arith) taken _ _ _ _ _ _ (a .0) (a .1) (b .0) (b .1) in
+    (c .bool-at5 .ensures .0 ∙ c .before .compare .ensures ∙ k .0, c .bool-at5 .ensures .1 ∙ k .1)
 
 eval-bool-returns-6 : (t : ℕ) → eval-bool-lts.Need-returns-6 (eval-bool-claims t) (eval-bool-at t) eval-bool.Post
 eval-bool-returns-6 t c =
-    let entry = c .before .before .before .before .before .before .before in
-    absurd (⊎-elim (λ w. bool-unknown _ _ _ _ _ (entry .pre .1 .0) (inl (w .taken))) (λ w. bool-unknown _ _ _ _ _ (entry .pre .1 .0) (inr (w .2 .left)))
+    let entry = c .before .before .before .before .before .before in
+    absurd (⊎-elim (λ w. bool-unknown _ _ _ _ _ (entry .pre .1 .0 .1) (inl (w .taken))) (λ w. bool-unknown _ _ _ _ _ (entry .pre .1 .0 .1) (inr (w .2 .left)))
     (c .before .if1 .came))
 
 pub +eval-bool-spec : {M : Type 1} → statement M

@@ -126,7 +126,8 @@ run-stmt-add-eval-bool t c = omega (arith, stmt-live _ _ _ _ _ (c .before .befor
 
 run-stmt-eval-bool-requires : (t : ℕ) → run-stmt-lts.Need-eval-bool-requires (run-stmt-claims t) (run-stmt-at t) run-stmt.Post
 run-stmt-eval-bool-requires t c κs =
-    (if-test _ _ _ _ _ (c .before .before .before .before .before .before .before .before .pre .1 .0) (c .before .if3 .left), omega arith, omega arith)
+    let entry = c .before .before .before .before .before .before .before .before in
+    ((entry .args .file .now, if-test _ _ _ _ _ (entry .pre .1 .0) (c .before .if3 .left)), omega arith, omega arith)
 
 run-stmt-sub-run-list : (t : ℕ) → run-stmt-lts.Need-sub-run-list (run-stmt-claims t) (run-stmt-at t) run-stmt.Post
 run-stmt-sub-run-list t c =
@@ -134,24 +135,15 @@ run-stmt-sub-run-list t c =
     omega (arith, if-deep _ _ _ _ _ (entry .pre .1 .0) (c .before .before .before .if3 .left))
 
 run-stmt-run-list-requires : (t : ℕ) → run-stmt-lts.Need-run-list-requires (run-stmt-claims t) (run-stmt-at t) run-stmt.Post
-run-stmt-run-list-requires t c κs = (
-  omega (
-    arith,
-    stmt-live _ _ _ _ _ (c .before .before .before .before .before .before .before .before .before .before .before .pre .1 .0),
-    bool-forward _ _ _ _ _ (if-test _ _ _ _ _ (c .before .before .before .before .before .before .before .before .before .before .before .pre .1
-        .0) (c .before .before .before .before .if3 .left)) (c .before .before .eval-bool .ensures .1),
-    list-live _ _ _ _ _ (if-then _ _ _ _ _ (c
-        .before .before .before .before .before .before .before .before .before .before .before .pre .1 .0) (c .before .before .before .before .if3
-        .left) _ (c .before .before .eval-bool .ensures .1)),
-  ),
-  (
-    if-then _ _ _ _ _ (c .before .before .before .before .before .before .before .before
-        .before .before .before .pre .1 .0) (c .before .before .before .before .if3 .left) _ (c .before .before .eval-bool .ensures .1),
-    omega arith,
-    omega arith,
-    omega arith,
-  ),
-)
+run-stmt-run-list-requires t c κs =
+    let entry = c .before .before .before .before .before .before .before .before .before .before .before in
+    let left = c .before .before .before .before .if3 .left in
+    let test = if-test _ _ _ _ _ (entry .pre .1 .0) left in
+    let after = c .before .before .eval-bool .ensures (entry .args .file .now) test .1 in
+    let then = if-then _ _ _ _ _ (entry .pre .1 .0) left _ after in (
+      omega (arith, stmt-live _ _ _ _ _ (entry .pre .1 .0), bool-forward _ _ _ _ _ test after, list-live _ _ _ _ _ then),
+      (then, omega arith, omega arith, omega arith),
+    )
 
 run-stmt-sub-skip-list : (t : ℕ) → run-stmt-lts.Need-sub-skip-list (run-stmt-claims t) (run-stmt-at t) run-stmt.Post
 run-stmt-sub-skip-list t c =
@@ -175,28 +167,22 @@ run-stmt-sub-run-list-2 t c =
     omega (arith, if-deep _ _ _ _ _ (entry .pre .1 .0) (c .before .before .before .before .if3 .left))
 
 run-stmt-run-list-requires-2 : (t : ℕ) → run-stmt-lts.Need-run-list-requires-2 (run-stmt-claims t) (run-stmt-at t) run-stmt.Post
-run-stmt-run-list-requires-2 t c κs = (
-  omega (
-    arith,
-    stmt-live _ _ _ _ _ (c .before .before .before .before .before .before .before .before .before .before .before .before .pre .1 .0),
-    bool-forward _ _ _ _ _ (if-test _ _ _ _ _ (c .before .before .before .before .before .before .before .before .before .before .before .before
-        .pre .1 .0) (c .before .before .before .before .before .if3 .left)) (c .before .before .before .eval-bool .ensures .1),
-    list-forward _ _ _ _ _
-        _ (if-then _ _ _ _ _ (c .before .before .before .before .before .before .before .before .before .before .before .before .pre .1 .0) (c .before
-        .before .before .before .before .if3 .left) _ (c .before .before .before .eval-bool .ensures .1)) (c .before .skip-list2 .ensures),
-    list-live
-        _ _ _ _ _ (if-else _ _ _ _ _ (c .before .before .before .before .before .before .before .before .before .before .before .before .pre .1 .0) (c
-        .before .before .before .before .before .if3 .left) _ (c .before .before .before .eval-bool .ensures .1) _ (c .before .skip-list2 .ensures)),
-  ),
-  (
-    if-else _ _ _ _ _ (c .before .before .before .before .before .before .before .before .before .before .before .before .pre .1 .0) (c .before
-        .before .before .before .before .if3 .left) _ (c .before .before .before .eval-bool .ensures .1) _ (c .before .skip-list2 .ensures),
-    omega
+run-stmt-run-list-requires-2 t c κs =
+    let entry = c .before .before .before .before .before .before .before .before .before .before .before .before in
+    let left = c .before .before .before .before .before .if3 .left in
+    let test = if-test _ _ _ _ _ (entry .pre .1 .0) left in
+    let after = c .before .before .before .eval-bool .ensures (entry .args .file .now) test .1 in
+    let then = if-then _ _ _ _ _ (entry .pre .1 .0) left _ after in
+    let other = if-else _ _ _ _ _ (entry .pre .1 .0) left _ after _ (c .before .skip-list2 .ensures) in (
+      omega (
         arith,
-    omega arith,
-    omega arith,
-  ),
-)
+        stmt-live _ _ _ _ _ (entry .pre .1 .0),
+        bool-forward _ _ _ _ _ test after,
+        list-forward _ _ _ _ _ _ then (c .before .skip-list2 .ensures),
+        list-live _ _ _ _ _ other,
+      ),
+      (other, omega arith, omega arith, omega arith),
+    )
 
 run-stmt-same-length-2 : (t : ℕ) → run-stmt-lts.Need-same-length-2 (run-stmt-claims t) (run-stmt-at t) run-stmt.Post
 run-stmt-same-length-2 t c = omega (arith, c .before .before .slots2 .given)
@@ -206,8 +192,9 @@ run-stmt-returns-2 t c =
     let at-eval-bool = c .before .before .before .before .before .before in
     let at-if3 = at-eval-bool .before .before in
     let entry = at-if3 .before .before .before .before .before .before .before in
-    runs-then _ _ _ _ _ (entry .pre .1 .0) (at-if3 .if3 .left) _ (at-eval-bool .eval-bool .ensures .1) _ _ _ _ _ _ (at-eval-bool .eval-bool .ensures .0)
-    (c .before .before .before .before .before .if4 .taken) (c .before .before .before .run-list .ensures) (c .skip-list .ensures)
+    let test = at-eval-bool .eval-bool .ensures (entry .args .file .now) (if-test _ _ _ _ _ (entry .pre .1 .0) (at-if3 .if3 .left)) in
+    runs-then _ _ _ _ _ (entry .pre .1 .0) (at-if3 .if3 .left) _ (test .1) _ _ _ _ _ _ (test .0) (c .before .before .before .before .before .if4 .taken)
+    (c .before .before .before .run-list .ensures) (c .skip-list .ensures)
 
 run-stmt-same-length-3 : (t : ℕ) → run-stmt-lts.Need-same-length-3 (run-stmt-claims t) (run-stmt-at t) run-stmt.Post
 run-stmt-same-length-3 t c = omega (arith, c .before .slots3 .given)
@@ -217,9 +204,9 @@ run-stmt-returns-3 t c =
     let at-eval-bool = c .before .before .before .before .before .before in
     let at-if3 = at-eval-bool .before .before in
     let entry = at-if3 .before .before .before .before .before .before .before in
-    runs-else _ _ _ _ _ (entry .pre .1 .0) (at-if3 .if3 .left) _ (at-eval-bool .eval-bool .ensures .1) _ _ _ _ _ _ (at-eval-bool .eval-bool .ensures .0)
-    (c .before .before .before .before .before .if4 .left) (c .before .before .before .before .skip-list2 .ensures) (c .before .before .run-list2
-    .ensures)
+    let test = at-eval-bool .eval-bool .ensures (entry .args .file .now) (if-test _ _ _ _ _ (entry .pre .1 .0) (at-if3 .if3 .left)) in
+    runs-else _ _ _ _ _ (entry .pre .1 .0) (at-if3 .if3 .left) _ (test .1) _ _ _ _ _ _ (test .0) (c .before .before .before .before .before .if4 .left)
+    (c .before .before .before .before .skip-list2 .ensures) (c .before .before .run-list2 .ensures)
 
 run-stmt-returns-4 : (t : ℕ) → run-stmt-lts.Need-returns-4 (run-stmt-claims t) (run-stmt-at t) run-stmt.Post
 run-stmt-returns-4 t c = absurd (stmt-unknown _ _ _ _ _ (c .before .before .before .before .before .pre .1 .0) (inl (c .if1 .taken)))

@@ -1,5 +1,5 @@
 use native.Mathlib.Omega.{arith}
-use mathlib.Core.Path.{sym, ap, _∙_}
+use mathlib.Core.Path.{_≡_, sym, ap, _∙_}
 use lib.ListN.{getD}
 use Prim.Native.Nat.{ℕ, _*_}
 use Rattle.step.proofs.Runs.{assign-inside, assign-int, runs-int, assign-bool, runs-bool}
@@ -24,12 +24,10 @@ add-eval-int : tie.Need-add-eval-int
 add-eval-int c = omega (arith, assign-inside _ _ _ _ (c .before .before .before .before .before .before .before .pre .0) .0)
 
 eval-int-requires : tie.Need-eval-int-requires
-eval-int-requires c κs = (
-  assign-int _ _ _ _ (c .before .before .before .before .before .before .before .before .pre .0) (sym (ap (λ (v : ℕ). getD (c .before .before .before
-      .before .before .before .before .before .args .file .now) (3 * v) 0) (c .before .before .before .wide .ensures .0)) ∙ c .before .if1 .taken),
-  omega arith,
-  omega arith,
-)
+eval-int-requires c κs =
+    let entry = c .before .before .before .before .before .before .before .before in
+    let kind = sym (ap (λ (v : ℕ). getD (entry .args .file .now) (3 * v) 0) (c .before .before .before .wide .ensures .0)) ∙ c .before .if1 .taken in
+    ((entry .args .file .now, assign-int _ _ _ _ (entry .pre .0) kind), omega arith, omega arith)
 
 mul-slots : tie.Need-mul-slots
 mul-slots c = search needs
@@ -43,13 +41,11 @@ add-eval-bool : tie.Need-add-eval-bool
 add-eval-bool c = omega (arith, assign-inside _ _ _ _ (c .before .before .before .before .before .before .before .pre .0) .0)
 
 eval-bool-requires : tie.Need-eval-bool-requires
-eval-bool-requires c κs = (
-  assign-bool _ _ _ _ (c .before .before .before .before .before .before .before .before .pre .0) (λ e. c .before .if1 .left (ap (λ (v : ℕ). getD (c
-      .before .before .before .before .before .before .before .before .args .file .now) (3 * v) 0) (c .before .before .before .wide .ensures .0) ∙
-      e)),
-  omega arith,
-  omega arith,
-)
+eval-bool-requires c κs =
+    let entry = c .before .before .before .before .before .before .before .before in
+    let kind : getD (entry .args .file .now) (3 * getD (entry .args .text .now) (entry .args .at) 0) 0 ≡ 1 → ⊥ =
+    λ e. c .before .if1 .left (ap (λ (v : ℕ). getD (entry .args .file .now) (3 * v) 0) (c .before .before .before .wide .ensures .0) ∙ e) in
+    ((entry .args .file .now, assign-bool _ _ _ _ (entry .pre .0) kind), omega arith, omega arith)
 
 bit-of-requires : tie.Need-bit-of-requires
 bit-of-requires c κs = search needs
@@ -69,8 +65,9 @@ returns : tie.Need-returns
 returns c =
     let at-wide = c .before .before .before .before in
     let entry = at-wide .before .before .before .before .before in
-    runs-int _ _ _ _ (entry .pre .0) (sym (ap (λ (v : ℕ). getD (entry .args .file .now) (3 * v) 0) (at-wide .wide .ensures .0)) ∙ c .before .before .if1
-    .taken) _ _ _ _ _ (at-wide .wide .ensures .0) (c .eval-int .ensures .0) (c .eval-int .ensures .1)
+    let kind = sym (ap (λ (v : ℕ). getD (entry .args .file .now) (3 * v) 0) (at-wide .wide .ensures .0)) ∙ c .before .before .if1 .taken in
+    let value = c .eval-int .ensures (entry .args .file .now) (assign-int _ _ _ _ (entry .pre .0) kind) in
+    runs-int _ _ _ _ (entry .pre .0) kind _ _ _ _ _ (at-wide .wide .ensures .0) (value .0) (value .1)
 
 same-length-2 : tie.Need-same-length-2
 same-length-2 c = search needs
@@ -79,9 +76,10 @@ returns-2 : tie.Need-returns-2
 returns-2 c =
     let at-wide = c .before .before .before .before .before in
     let entry = at-wide .before .before .before .before .before in
-    runs-bool _ _ _ _ (entry .pre .0) (λ e. c .before .before .before .if1 .left (ap (λ (v : ℕ). getD (entry .args .file .now) (3 * v) 0) (at-wide .wide
-    .ensures .0) ∙ e)) _ _ _ _ _ _ (at-wide .wide .ensures .0) (c .before .eval-bool .ensures .0) (c .bit-of .ensures) (c .before .eval-bool
-    .ensures .1)
+    let kind : getD (entry .args .file .now) (3 * getD (entry .args .text .now) (entry .args .at) 0) 0 ≡ 1 → ⊥ =
+    λ e. c .before .before .before .if1 .left (ap (λ (v : ℕ). getD (entry .args .file .now) (3 * v) 0) (at-wide .wide .ensures .0) ∙ e) in
+    let value = c .before .eval-bool .ensures (entry .args .file .now) (assign-bool _ _ _ _ (entry .pre .0) kind) in
+    runs-bool _ _ _ _ (entry .pre .0) kind _ _ _ _ _ _ (at-wide .wide .ensures .0) (value .0) (c .bit-of .ensures) (value .1)
 
 pub run-assign-spec : {M : Type 1} → statement M
 run-assign-spec =

@@ -51,14 +51,13 @@ add-eval-bool c =
 
 eval-bool-requires : tie.Need-eval-bool-requires
 eval-bool-requires c κs =
-    let entry = c .before .before .before .before .before in (
-      event-reads _ _ _ _ (entry .pre .0) _ _ (entry .pre .1) (entry .pre .2) _ _ (ap (λ (x : ℕ). getD (entry .args .events .now) (16 * entry .args .m +
-          entry .args .e) 0 + 1 + x) (c .wide .ensures .0)) refl,
+    let entry = c .before .before .before .before .before in
+    let past = ap (λ (x : ℕ). getD (entry .args .events .now) (16 * entry .args .m + entry .args .e) 0 + 1 + x) (c .wide .ensures .0) in (
+      (entry .args .file .now, event-reads _ _ _ _ (entry .pre .0) _ _ (entry .pre .1) (entry .pre .2) _ _ past refl),
       omega (
         arith,
         c .wide .ensures .0,
-        event-inside _ _ _ (entry .pre .0 .indexed) _ _
-            (entry .pre .1) (entry .pre .2),
+        event-inside _ _ _ (entry .pre .0 .indexed) _ _ (entry .pre .1) (entry .pre .2),
         sizes _ _ _ _ (entry .pre .0),
       ),
       omega (arith, entry .pre .0 .size),
@@ -67,8 +66,9 @@ eval-bool-requires c κs =
 returns : tie.Need-returns
 returns c =
     let entry = c .before .before .before .before .before .before in
-    event-value _ _ _ _ (entry .pre .0) _ _ (entry .pre .1) (entry .pre .2) _ _ (ap (λ (x : ℕ). getD (entry .args .events .now) (16 * entry .args .m +
-    entry .args .e) 0 + 1 + x) (c .before .wide .ensures .0)) refl _ (c .eval-bool .ensures .0)
+    let past = ap (λ (x : ℕ). getD (entry .args .events .now) (16 * entry .args .m + entry .args .e) 0 + 1 + x) (c .before .wide .ensures .0) in
+    let reads = event-reads _ _ _ _ (entry .pre .0) _ _ (entry .pre .1) (entry .pre .2) _ _ past refl in
+    event-value _ _ _ _ (entry .pre .0) _ _ (entry .pre .1) (entry .pre .2) _ _ past refl _ (c .eval-bool .ensures (entry .args .file .now) reads .0)
 
 pub event-true-spec : {M : Type 1} → statement M
 event-true-spec =

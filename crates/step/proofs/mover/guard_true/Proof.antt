@@ -16,7 +16,7 @@ wide-requires : tie.Need-wide-requires
 wide-requires c κs = search needs
 
 returns : tie.Need-returns
-returns c = λ x. guard-empty _ _ _ _ (c .before .before .before .before .before .pre .0) _ x (sym (c .before .wide .ensures .0) ∙ c .if1 .taken)
+returns c = λ x. guard-empty _ _ _ _ (c .before .before .before .before .before .pre .0 .1) _ x (sym (c .before .wide .ensures .0) ∙ c .if1 .taken)
 
 add-eval-bool : tie.Need-add-eval-bool
 add-eval-bool c = search needs
@@ -29,21 +29,21 @@ add-eval-bool-3 c = search needs
 
 eval-bool-requires : tie.Need-eval-bool-requires
 eval-bool-requires c κs =
-    let entry = c .before .before .before .before .before in (
-      guard-reads _ _ _ _ (entry .pre .0) _ (entry .pre .1) _ (c .before .wide .ensures .0) (c .if1 .left),
-      omega (
-        arith,
-        c .before .wide .ensures .0,
-        normal-fields _ _ _ (entry .pre .0 .indexed) _ (entry .pre .1) .past,
-        sizes _ _ _ _ (entry .pre .0),
-      ),
-      omega (arith, entry .pre .0 .size),
+    let entry = c .before .before .before .before .before in
+    let (table, ready) = entry .pre .0 in (
+      (entry .args .file .now, guard-reads _ _ _ _ ready _ (entry .pre .1) _ (c .before .wide .ensures .0) (c .if1 .left)),
+      omega (arith, c .before .wide .ensures .0, normal-fields _ _ _ (ready .indexed) _ (entry .pre .1) .past, sizes _ _ _ _ ready),
+      omega (arith, ready .size),
     )
 
 returns-2 : tie.Need-returns-2
 returns-2 c =
-    λ x. guard-value _ _ _ _ (c .before .before .before .before .before .before .pre .0) _ x _ (c .before .before .wide .ensures .0) (c .before .if1
-    .left) _ (c .eval-bool .ensures .0)
+    λ x.
+    let entry = c .before .before .before .before .before .before in
+    let (table, ready) = entry .pre .0 in
+    let length = c .before .before .wide .ensures .0 in
+    let reads = guard-reads _ _ _ _ ready _ x _ length (c .before .if1 .left) in
+    guard-value _ _ _ _ ready _ x _ length (c .before .if1 .left) _ (c .eval-bool .ensures (entry .args .file .now) reads .0)
 
 pub guard-true-spec : {M : Type 1} → statement M
 guard-true-spec =

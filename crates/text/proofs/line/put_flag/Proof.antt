@@ -29,9 +29,9 @@ returns c =
           .ensures) (c .before .before .put-byte2 .ensures),
       omega (
         arith,
-        at-put-byte .put-byte .ensures .past,
+        at-put-byte .put-byte .ensures .cursor,
         c .before .before .put-byte2 .ensures
-            .past,
+            .cursor,
       ),
     )
 
@@ -46,9 +46,9 @@ returns-2 c =
           .ensures) (c .before .before .put-byte3 .ensures),
       omega (
         arith,
-        at-put-byte .put-byte .ensures .past,
+        at-put-byte .put-byte .ensures .cursor,
         c .before .before .put-byte3 .ensures
-            .past,
+            .cursor,
       ),
     )
 

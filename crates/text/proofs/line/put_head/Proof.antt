@@ -37,7 +37,7 @@ returns c =
         arith,
         at-put-decimal .put-decimal
             .ensures .1,
-        at-put-byte .put-byte .ensures .past,
+        at-put-byte .put-byte .ensures .cursor,
         at-put-mover .put-mover .ensures .1,
         at-put-flag .put-flag .ensures .1,
         c .before .before

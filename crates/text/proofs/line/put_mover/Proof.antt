@@ -20,7 +20,7 @@ returns c = (
   omega (
     arith,
     c .before .before .put-byte
-        .ensures .past,
+        .ensures .cursor,
   ),
 )
 

@@ -43,7 +43,7 @@ put-decimal-requires c κs =
       arith,
       at-loop .loop .inv .0 .near,
       at-loop .loop .inv .0 .rest .size,
-      at-put-byte .put-byte .ensures .past,
+      at-put-byte .put-byte .ensures .cursor,
       written-length (at-put-byte
           .put-byte .ensures),
     )

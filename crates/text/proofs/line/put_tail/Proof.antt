@@ -36,10 +36,10 @@ returns c =
       omega (
         arith,
         at-put-values .put-values .ensures .1,
-        at-put-byte .put-byte .ensures .past,
-        at-put-byte2 .put-byte2 .ensures .past,
+        at-put-byte .put-byte .ensures .cursor,
+        at-put-byte2 .put-byte2 .ensures .cursor,
         at-put-statuses .put-statuses .ensures .1,
-        c .before .before .put-byte3 .ensures .past,
+        c .before .before .put-byte3 .ensures .cursor,
       ),
     )
 

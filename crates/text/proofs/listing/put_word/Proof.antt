@@ -29,7 +29,7 @@ returns c =
       omega (
         arith,
         at-put-signed .put-signed .ensures .1,
-        c .before .before .put-byte .ensures .past,
+        c .before .before .put-byte .ensures .cursor,
       ),
     )
 
@@ -48,7 +48,7 @@ returns-2 c =
       omega (
         arith,
         at-put-signed .put-signed .ensures .1,
-        c .before .before .put-byte2 .ensures .past,
+        c .before .before .put-byte2 .ensures .cursor,
       ),
     )
 

@@ -66,7 +66,7 @@ put-digits-put-byte-requires-2 t c κs =
     let entry = at-put-digits .before .before .before .before .before in
     omega (
       arith,
-      at-put-digits .put-digits .ensures .past,
+      at-put-digits .put-digits .ensures .cursor,
       written-length (at-put-digits .put-digits .ensures),
       digits-length (entry .args .left - 1)
           (entry .args .n / 10),

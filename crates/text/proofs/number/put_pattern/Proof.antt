@@ -30,7 +30,7 @@ sub-put-decimal c = search needs
 put-decimal-requires-2 : tie.Need-put-decimal-requires-2
 put-decimal-requires-2 c κs =
     let at-put-byte = c .before .before .before in
-    omega (arith, at-put-byte .put-byte .ensures .past, written-length (at-put-byte .put-byte .ensures))
+    omega (arith, at-put-byte .put-byte .ensures .cursor, written-length (at-put-byte .put-byte .ensures))
 
 same-length-2 : tie.Need-same-length-2
 same-length-2 c = search needs
@@ -42,7 +42,7 @@ returns-2 c = (
   omega (
     arith,
     c .before .before .before .before .before
-        .before .put-byte .ensures .past,
+        .before .put-byte .ensures .cursor,
     c .before .before .put-decimal2 .ensures .1,
   ),
 )

@@ -34,7 +34,7 @@ put-byte-requires c κs = search needs
 put-decimal-requires-2 : tie.Need-put-decimal-requires-2
 put-decimal-requires-2 c κs =
     let at-put-byte = c .before .before .before in
-    omega (arith, at-put-byte .put-byte .ensures .past, written-length (at-put-byte .put-byte .ensures))
+    omega (arith, at-put-byte .put-byte .ensures .cursor, written-length (at-put-byte .put-byte .ensures))
 
 same-length-2 : tie.Need-same-length-2
 same-length-2 c =

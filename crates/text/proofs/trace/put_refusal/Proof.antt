@@ -47,12 +47,12 @@ returns c =
           .ensures))))),
       omega (
         arith,
-        at-put-bytes .put-bytes .ensures .past,
+        at-put-bytes .put-bytes .ensures .cursor,
         at-put-decimal .put-decimal .ensures .1,
         at-put-bytes2 .put-bytes2
-            .ensures .past,
+            .ensures .cursor,
         at-put-decimal2 .put-decimal2 .ensures .1,
-        c .before .before .put-byte .ensures .past,
+        c .before .before .put-byte .ensures .cursor,
       ),
     )
 

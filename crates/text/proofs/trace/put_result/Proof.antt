@@ -33,10 +33,10 @@ returns c =
           .before .before .put-byte .ensures))),
       omega (
         arith,
-        at-put-bytes .put-bytes .ensures .past,
+        at-put-bytes .put-bytes .ensures .cursor,
         at-put-decimal .put-decimal .ensures .1,
         c
-            .before .before .put-byte .ensures .past,
+            .before .before .put-byte .ensures .cursor,
       ),
     )
 
@@ -54,7 +54,7 @@ unfolding resultText
 returns-2 c = (
   result-as _ false (c .before .before .before .before .before .before .before .args .step) (c .before .before .before .before .before .if1 .left) (c
       .before .before .put-bytes2 .ensures),
-  omega (arith, c .before .before .put-bytes2 .ensures .past),
+  omega (arith, c .before .before .put-bytes2 .ensures .cursor),
 )
 
 pub put-result-spec : {M : Type 1} → statement M
