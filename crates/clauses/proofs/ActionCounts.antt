@@ -12,7 +12,8 @@ use Rattle.design.specs.Expression.{Names, intExpr, boolExpr}
 use Rattle.design.specs.Action.{assignment, statements, statement, list}
 use Rattle.step.specs.Accepted.{isRead, past}
 use Rattle.step.proofs.Accepted.{two, two-second}
-use Rattle.step.proofs.Runs.{list-in, list-live, seq-none, seq-step, seq-first, stmt-forward, stmt-assign, bool-forward, list-forward, if-test, if-then, if-else, as-if, as-int, as-bool}
+use Rattle.step.proofs.Values.{bool-forward}
+use Rattle.step.proofs.Runs.{list-in, list-live, seq-none, seq-step, seq-first, stmt-forward, stmt-assign, list-forward, if-test, if-then, if-else, as-if, as-int, as-bool}
 use Rattle.clauses.specs.Cost.{cost, addCosts, intCost, boolCost, statementCost, statementsCost}
 use Rattle.clauses.specs.FrameSizes.{noGates, gatesAt, both, stmtGates, listGates, FewGates}
 use Rattle.clauses.specs.Limits.{textGates}
@@ -71,7 +72,7 @@ module _ (text : List ℕ) (N : Names) (end : ℕ) where
 
       pub first-on : (at < c .next) × (c .next < end)
       first-on =
-          let b = bool-forward text N end (at + 1) (c .next) (if-test text N end k at h ne) first-past in
+          let b = bool-forward text N end maxDepth (at + 1) (c .next) (if-test text N end k at h ne) first-past in
           (omega arith, list-live text N end (k - 1) (c .next) if-first)
 
       module _ (bits : ℕ) (a : GatesAt) (f : a ≡ listGates bits (L (k - 1) (c .next))) where

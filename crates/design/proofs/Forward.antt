@@ -101,6 +101,9 @@ module _ (text : List ℕ) (names : Names) (end : ℕ) where
   stmt-goes (suc k) lo at l = on-bind lo (byte text names end at) _ (on-byte lo at (omega arith)) (λ op m q. stmtOf-goes lo _ (conditional-goes lo _ (listOf-goes (statement text names end k) lo (stmt-goes k lo))) (stmtOp op) m q)
 
   -- at is passed
+  pub int-on : (d at n : ℕ) → At n ≡ found (intExpr text names end d at) → at ≤ n
+  int-on d at n e = int-goes d at at (le-refl at) .of n e
+
   pub bool-on : (d at n : ℕ) → At n ≡ found (boolExpr text names end d at) → at ≤ n
   bool-on d at n e = bool-goes d at at (le-refl at) .of n e
 

@@ -3,7 +3,14 @@ use mathlib.Core.Path.{_≡_, refl}
 use mathlib.Core.Bool.{Bool, true, false, false≢true}
 use Prim.Native.Nat.{ℕ}
 use Rattle.design.specs.Reading.{Read, got, bad, bind, provided}
+use Rattle.design.specs.Answers.{found}
+use Rattle.design.specs.declared.expression.Found.the-variants.{At}
 use Rattle.step.specs.Accepted.{isRead, past, valueOf}
+
+-- it is found, as the checkers say it
+pub read-found : {A : Type 0} (x : Read A) → isRead x ≡ true → At (past x) ≡ found x
+read-found (got a n) h = refl
+read-found bad h = absurd (false≢true h)
 
 -- a test before what is read, and before what is made of it
 pub provided-read : {A : Type 0} (t : Bool) (x : Read A) → isRead (provided t x) ≡ true → (t ≡ true) × (provided t x ≡ x)

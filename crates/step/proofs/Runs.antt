@@ -18,11 +18,11 @@ use Rattle.design.specs.Action.{stmtOp, assignment, statements, listOf, stateme
 use Rattle.design.specs.Answers.{found}
 use Rattle.design.specs.declared.expression.Found.the-variants.{At, Bad}
 use Rattle.design.proofs.Readers.{stmt-none}
-use Rattle.design.proofs.Forward.{bool-on, list-on, stmt-on}
+use Rattle.design.proofs.Forward.{list-on, stmt-on}
 use Rattle.step.specs.Evaluation.{evalInt, evalBool}
 use Rattle.step.specs.OneStep.{execute, executeAll}
 use Rattle.step.specs.Accepted.{isRead, past, intValue, boolValue, afterStmt, afterList}
-use Rattle.step.proofs.Accepted.{provided-read, bind-read, one-first, one-past, two, two-first, two-second, two-past, two-value, three, three-first, three-second, three-third, three-past}
+use Rattle.step.proofs.Accepted.{read-found, provided-read, bind-read, one-first, one-past, two, two-first, two-second, two-past, two-value, three, three-first, three-second, three-third, three-past}
 
 pub found-past : {A : Type 0} (x : Read A) (m : ℕ) → At m ≡ found x → m ≡ past x
 found-past (got a n) m e = cc
@@ -31,10 +31,6 @@ found-past bad m e = let z : _≡_ {A = ℕ} 0 1 = cc in absurd (omega arith)
 pub found-bad : {A : Type 0} (x : Read A) → Bad ≡ found x → 0 ≡ past x
 found-bad (got a n) e = let z : _≡_ {A = ℕ} 0 1 = cc in absurd (omega arith)
 found-bad bad e = refl
-
-read-found : {A : Type 0} (x : Read A) → isRead x ≡ true → At (past x) ≡ found x
-read-found (got a n) h = refl
-read-found bad h = absurd (false≢true h)
 
 refused : {A : Type 0} {x : Read A} → isRead x ≡ true → x ≡ bad → ⊥
 refused h e = false≢true (sym (ap isRead e) ∙ h)
@@ -86,9 +82,6 @@ module _ (text : List ℕ) (N : Names) (end : ℕ) where
   L k at = list text N end k at
 
   -- reading goes forward
-  pub bool-forward : (at m : ℕ) → isRead (C at) ≡ true → m ≡ past (C at) → at ≤ m
-  bool-forward at m h e = let q = bool-on text N end maxDepth at (past (C at)) (read-found (C at) h) in omega arith
-
   pub list-forward : (k at m : ℕ) → isRead (L k at) ≡ true → m ≡ past (L k at) → at ≤ m
   list-forward k at m h e = let q = list-on text N end k at (past (L k at)) (read-found (L k at) h) in omega arith
 

@@ -13,11 +13,12 @@ use Rattle.design.specs.Tree.{IntExpr, BoolExpr, constant, variable, status, su
 use Rattle.design.specs.State.{State, Layout}
 use Rattle.design.specs.Reading.{Read, got, bind}
 use Rattle.design.specs.Expression.{Names, IntOp, BoolOp, intOp, boolOp, intOf, boolOf, intExpr, boolExpr}
+use Rattle.design.proofs.Forward.{int-on, bool-on}
 use Rattle.design.proofs.Readers.{int-step, int-none, bool-step, bool-none}
 use Rattle.step.specs.Pattern.{plus, minus, below}
 use Rattle.step.specs.Evaluation.{evalInt, evalBool}
 use Rattle.step.specs.Accepted.{isRead, past, valueOf, intValue, boolValue}
-use Rattle.step.proofs.Accepted.{provided-read, bind-read, one-first, one-past, one-value, two, two-first, two-second, two-past, two-value}
+use Rattle.step.proofs.Accepted.{read-found, provided-read, bind-read, one-first, one-past, one-value, two, two-first, two-second, two-past, two-value}
 
 one-of-two : (b k : ℕ) → k ≤ b → b < k + 2 → (b ≡ k) ⊎ (b ≡ k + 1)
 one-of-two b k p q = ⊎-elim (λ e. inl (sym e)) (λ l. inr (omega arith)) (eq-or-lt-of-le p)
@@ -94,6 +95,13 @@ module _ (text : List ℕ) (N : Names) (end : ℕ) where
   unfolding boolExpr
   bool-live zero at h = absurd (false≢true h)
   bool-live (suc d) at h = record { deep = λ e. omega arith; inside = ltb-true at end (bind-read (ltb at end) _ _ h .0) }
+
+  -- reading goes forward
+  pub int-forward : (d at m : ℕ) → isRead (I d at) ≡ true → m ≡ past (I d at) → at ≤ m
+  int-forward d at m h e = let q = int-on text N end d at (past (I d at)) (read-found (I d at) h) in omega arith
+
+  pub bool-forward : (d at m : ℕ) → isRead (B d at) ≡ true → m ≡ past (B d at) → at ≤ m
+  bool-forward d at m h e = let q = bool-on text N end d at (past (B d at)) (read-found (B d at) h) in omega arith
 
   module _ (d at : ℕ) (h : isRead (I d at) ≡ true) where
     i-step : (o : IntOp) → intOp (getD text at 0) ≡ o → I d at ≡ intOf text N end (I (d - 1)) o (at + 1)

@@ -1,6 +1,6 @@
 // The values of expressions in a state, over the bytes: a decision over the operator byte, with ranges for operators of one shape.
 // In every function: `text` holds the expression; what is read starts at `at` and does not pass `end`; `shape` has the numbers of variables and
-// matrices; `slots` has the state. Kinds are not read: the reader has seen them, in whatever file the variables stand.
+// matrices; `slots` has the state. The reader has seen the variables' kinds, in whatever file they stand, and the depth: neither is needed again.
 ghost use mathlib.Core.Path.{_≡_};
 ghost use mathlib.Core.Bool.{true, cond, _&&_, _||_};
 ghost use mathlib.Core.List.{List};
@@ -72,16 +72,9 @@ pub fn compare(op: u8, a: u16, b: u16) -> bool
 }
 
 // The integer expression at `at`, which the reader accepts.
-pub fn eval_int(
-    text: &[u8],
-    at: usize,
-    end: usize,
-    shape: Shape,
-    depth: usize,
-    slots: &[u16],
-) -> IntAt
-    requires { ⌜ ((file : List ℕ) × (isRead (intExpr (now text) (namesOf file shape) end depth at) ≡ true)) × (end ≤ length (now text)) × (slotCount shape ≤ length (now slots)) ⌝ }
-    ensures { λ r. ⌜ ((file : List ℕ) → isRead (intExpr (now (text .entry)) (namesOf file shape) end depth at) ≡ true
+pub fn eval_int(text: &[u8], at: usize, end: usize, shape: Shape, slots: &[u16]) -> IntAt
+    requires { ⌜ ((file : List ℕ) × (depth : ℕ) × (isRead (intExpr (now text) (namesOf file shape) end depth at) ≡ true)) × (end ≤ length (now text)) × (slotCount shape ≤ length (now slots)) ⌝ }
+    ensures { λ r. ⌜ ((file : List ℕ) (depth : ℕ) → isRead (intExpr (now (text .entry)) (namesOf file shape) end depth at) ≡ true
         → (r .value ≡ intValue (layoutOf shape) (now (slots .entry)) (intExpr (now (text .entry)) (namesOf file shape) end depth at))
         × (r .next ≡ past (intExpr (now (text .entry)) (namesOf file shape) end depth at))) ⌝ }
 {
@@ -98,8 +91,8 @@ pub fn eval_int(
             int_at(slots[shape.variables + m], p + 1)
         }
         0x04..=0x05 => {
-            let a = eval_int(text, p, end, shape, depth - 1, slots);
-            let b = eval_int(text, a.next, end, shape, depth - 1, slots);
+            let a = eval_int(text, p, end, shape, slots);
+            let b = eval_int(text, a.next, end, shape, slots);
             int_at(arithmetic(op, a.value, b.value), b.next)
         }
         _ => int_at(0, at),
@@ -107,16 +100,9 @@ pub fn eval_int(
 }
 
 // The Boolean expression at `at`, likewise.
-pub fn eval_bool(
-    text: &[u8],
-    at: usize,
-    end: usize,
-    shape: Shape,
-    depth: usize,
-    slots: &[u16],
-) -> BoolAt
-    requires { ⌜ ((file : List ℕ) × (isRead (boolExpr (now text) (namesOf file shape) end depth at) ≡ true)) × (end ≤ length (now text)) × (slotCount shape ≤ length (now slots)) ⌝ }
-    ensures { λ r. ⌜ ((file : List ℕ) → isRead (boolExpr (now (text .entry)) (namesOf file shape) end depth at) ≡ true
+pub fn eval_bool(text: &[u8], at: usize, end: usize, shape: Shape, slots: &[u16]) -> BoolAt
+    requires { ⌜ ((file : List ℕ) × (depth : ℕ) × (isRead (boolExpr (now text) (namesOf file shape) end depth at) ≡ true)) × (end ≤ length (now text)) × (slotCount shape ≤ length (now slots)) ⌝ }
+    ensures { λ r. ⌜ ((file : List ℕ) (depth : ℕ) → isRead (boolExpr (now (text .entry)) (namesOf file shape) end depth at) ≡ true
         → (r .value ≡ boolValue (layoutOf shape) (now (slots .entry)) (boolExpr (now (text .entry)) (namesOf file shape) end depth at))
         × (r .next ≡ past (boolExpr (now (text .entry)) (namesOf file shape) end depth at))) ⌝ }
 {
@@ -129,17 +115,17 @@ pub fn eval_bool(
             bool_at(0 < slots[v], p + 1)
         }
         0x12 => {
-            let a = eval_bool(text, p, end, shape, depth - 1, slots);
+            let a = eval_bool(text, p, end, shape, slots);
             bool_at(!a.value, a.next)
         }
         0x13..=0x14 => {
-            let a = eval_bool(text, p, end, shape, depth - 1, slots);
-            let b = eval_bool(text, a.next, end, shape, depth - 1, slots);
+            let a = eval_bool(text, p, end, shape, slots);
+            let b = eval_bool(text, a.next, end, shape, slots);
             bool_at(logic(op, a.value, b.value), b.next)
         }
         0x15..=0x16 => {
-            let a = eval_int(text, p, end, shape, depth - 1, slots);
-            let b = eval_int(text, a.next, end, shape, depth - 1, slots);
+            let a = eval_int(text, p, end, shape, slots);
+            let b = eval_int(text, a.next, end, shape, slots);
             bool_at(compare(op, a.value, b.value), b.next)
         }
         _ => bool_at(false, at),

@@ -14,7 +14,6 @@ use super::evaluate::eval_int;
 use design::action::check_list;
 use design::bytes::wide;
 use design::expression::Found;
-use design::limits::MAX_DEPTH;
 use design::shape::Shape;
 
 pub fn bit_of(b: bool) -> u16
@@ -59,11 +58,11 @@ pub fn run_assign(
     let v = wide(text[at]);
     let k = file[3 * v];
     if k == 1 {
-        let x = eval_int(text, at + 1, end, shape, MAX_DEPTH, slots);
+        let x = eval_int(text, at + 1, end, shape, slots);
         slots[v] = x.value;
         x.next
     } else {
-        let x = eval_bool(text, at + 1, end, shape, MAX_DEPTH, slots);
+        let x = eval_bool(text, at + 1, end, shape, slots);
         slots[v] = bit_of(x.value);
         x.next
     }
@@ -91,7 +90,7 @@ pub fn run_stmt(
             if op == 0x20 {
                 return run_assign(text, file, at + 1, end, shape, slots);
             }
-            let c = eval_bool(text, at + 1, end, shape, MAX_DEPTH, slots);
+            let c = eval_bool(text, at + 1, end, shape, slots);
             if c.value {
                 let m = run_list(text, file, c.next, end, shape, nest - 1, slots);
                 skip_list(text, file, m, end, shape, nest - 1)

@@ -19,7 +19,6 @@ use design::bytes::wide;
 use design::bytes::word;
 use design::index::external;
 use design::limits::EVENT_PLACES;
-use design::limits::MAX_DEPTH;
 use design::limits::MAX_MOVERS;
 use design::limits::MAX_NEST;
 use design::shape::Shape;
@@ -38,7 +37,7 @@ pub fn event_true(
 {
     let at = events[16 * m + e] as usize;
     let past = at + 1 + wide(file[at]);
-    let x = eval_bool(file, at + 1, past, shape, MAX_DEPTH, slots);
+    let x = eval_bool(file, at + 1, past, shape, slots);
     x.value
 }
 
@@ -74,7 +73,7 @@ pub fn guard_true(file: &[u8], shape: Shape, p: usize, slots: &[u16]) -> bool
     if n == 0 {
         return true;
     }
-    let x = eval_bool(file, p + 8, p + 8 + n, shape, MAX_DEPTH, slots);
+    let x = eval_bool(file, p + 8, p + 8 + n, shape, slots);
     x.value
 }
 

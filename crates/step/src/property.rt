@@ -18,7 +18,6 @@ use design::index::CELLS_AT;
 use design::index::invariant;
 use design::index::trailer_word;
 use design::limits::EVENT_PLACES;
-use design::limits::MAX_DEPTH;
 use design::shape::Shape;
 
 // Whether the invariant is true.
@@ -27,7 +26,7 @@ pub fn invariant_true(file: &[u8], shape: Shape, slots: &[u16]) -> bool
     ensures { λ r. ⌜ ((d : Design) (parts : Parts (now (file .entry)) d) → r ≡ evalBool (layoutOf shape) (now (slots .entry)) (d .invariant)) ⌝ }
 {
     let stands = invariant(file);
-    let x = eval_bool(file, stands.at, stands.end, shape, MAX_DEPTH, slots);
+    let x = eval_bool(file, stands.at, stands.end, shape, slots);
     x.value
 }
 

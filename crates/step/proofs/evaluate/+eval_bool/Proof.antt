@@ -4,10 +4,10 @@ use mathlib.Core.Path.{sym, ap, _∙_}
 use mathlib.Core.Logic.{inl, inr, ⊎-elim}
 use lib.ListN.{getD}
 use lib.Dec.{ltb}
-use Prim.Native.Nat.{ℕ, _<_, _+_}
+use Prim.Native.Nat.{ℕ, _<_, _+_, _-_}
 use Rattle.step.specs.Evaluation.{evalBool}
 use Rattle.step.specs.Accepted.{past, boolValue}
-use Rattle.step.proofs.Values.{truth-test, bool-live, bool-constant, bool-variable, bool-unknown, not-first, not-value, logic-first, logic-second, logic-pair, compare-first, compare-second, compare-pair}
+use Rattle.step.proofs.Values.{truth-test, bool-live, bool-forward, bool-constant, bool-variable, bool-unknown, not-first, not-value, logic-first, logic-second, logic-pair, compare-first, compare-second, compare-pair}
 use borrow.Fn.Kinds.{In}
 use borrow.Fn.PlainCycle.{Measures, is, falls, and}
 use Rattle.step.proofs.evaluate.eval_bool.Reads as eval-bool
@@ -22,7 +22,7 @@ use Rattle.step.proofs.evaluate.+eval_bool.{statement}
 use Rattle.step.proofs.evaluate.+eval_bool.Tie.{close}
 
 abbrev μ-eval-bool : Measures 2 eval-bool-kinds.ps ℕ
-μ-eval-bool κs a = a .1 .1 .1 .1 .0
+μ-eval-bool κs a = a .1 .1 .0 - a .1 .0
 
 abbrev eval-bool-at : ℕ → In 2 eval-bool-kinds.ps
 eval-bool-at t = and 2 eval-bool-kinds.ps (is 2 eval-bool-kinds.ps μ-eval-bool t) eval-bool.Pre
@@ -35,25 +35,25 @@ abbrev eval-bool-claims : ℕ → eval-bool-lts.Claims
 eval-bool-claims t = (bool-at-reads.Asked, bool-at-reads.Learnt, wide-reads.Asked, wide-reads.Learnt, eval-bool-below t, eval-bool.Post, logic-reads.Asked, logic-reads.Learnt, eval-int-reads.Asked, eval-int-reads.Learnt, compare-reads.Asked, compare-reads.Learnt)
 
 eval-bool-shared-slice-read-op : (t : ℕ) → eval-bool-lts.Need-shared-slice-read-op (eval-bool-claims t) (eval-bool-at t) eval-bool.Post
-eval-bool-shared-slice-read-op t c = omega (arith, bool-live _ _ _ _ _ (c .before .before .before .pre .1 .0 .1) .inside)
+eval-bool-shared-slice-read-op t c = omega (arith, bool-live _ _ _ _ _ (c .before .before .before .pre .1 .0 .2) .inside)
 
 eval-bool-add-p : (t : ℕ) → eval-bool-lts.Need-add-p (eval-bool-claims t) (eval-bool-at t) eval-bool.Post
-eval-bool-add-p t c = omega (arith, bool-live _ _ _ _ _ (c .before .before .before .pre .1 .0 .1) .inside)
+eval-bool-add-p t c = omega (arith, bool-live _ _ _ _ _ (c .before .before .before .pre .1 .0 .2) .inside)
 
 eval-bool-shared-slice-read-bool-at : (t : ℕ) → eval-bool-lts.Need-shared-slice-read-bool-at (eval-bool-claims t) (eval-bool-at t) eval-bool.Post
 eval-bool-shared-slice-read-bool-at t c =
-    omega (arith, bool-constant _ _ _ _ _ (c .before .before .before .before .before .pre .1 .0 .1) (c .before .match .keys1) .0)
+    omega (arith, bool-constant _ _ _ _ _ (c .before .before .before .before .before .pre .1 .0 .2) (c .before .match .keys1) .0)
 
 eval-bool-add-bool-at : (t : ℕ) → eval-bool-lts.Need-add-bool-at (eval-bool-claims t) (eval-bool-at t) eval-bool.Post
 eval-bool-add-bool-at t c =
-    omega (arith, bool-constant _ _ _ _ _ (c .before .before .before .before .before .pre .1 .0 .1) (c .before .match .keys1) .0)
+    omega (arith, bool-constant _ _ _ _ _ (c .before .before .before .before .before .pre .1 .0 .2) (c .before .match .keys1) .0)
 
 eval-bool-bool-at-requires : (t : ℕ) → eval-bool-lts.Need-bool-at-requires (eval-bool-claims t) (eval-bool-at t) eval-bool.Post
 eval-bool-bool-at-requires t c κs = tt
 
 eval-bool-shared-slice-read-wide : (t : ℕ) → eval-bool-lts.Need-shared-slice-read-wide (eval-bool-claims t) (eval-bool-at t) eval-bool.Post
 eval-bool-shared-slice-read-wide t c =
-    omega (arith, bool-variable _ _ _ _ _ (c .before .before .before .before .before .pre .1 .0 .1) (c .before .match .keys2) .0)
+    omega (arith, bool-variable _ _ _ _ _ (c .before .before .before .before .before .pre .1 .0 .2) (c .before .match .keys2) .0)
 
 eval-bool-wide-requires : (t : ℕ) → eval-bool-lts.Need-wide-requires (eval-bool-claims t) (eval-bool-at t) eval-bool.Post
 eval-bool-wide-requires t c κs = tt
@@ -64,51 +64,40 @@ eval-bool-mul-bool-at t c = omega (arith, c .wide .ensures .1)
 eval-bool-shared-slice-read-bool-at-2 : (t : ℕ) → eval-bool-lts.Need-shared-slice-read-bool-at-2 (eval-bool-claims t) (eval-bool-at t) eval-bool.Post
 eval-bool-shared-slice-read-bool-at-2 t c =
     let entry = c .before .before .before .before .before .before .before in
-    omega (arith, c .before .wide .ensures .0, bool-variable _ _ _ _ _ (entry .pre .1 .0 .1) (c .before .before .before .match .keys2) .1)
+    omega (arith, c .before .wide .ensures .0, bool-variable _ _ _ _ _ (entry .pre .1 .0 .2) (c .before .before .before .match .keys2) .1)
 
 eval-bool-add-bool-at-2 : (t : ℕ) → eval-bool-lts.Need-add-bool-at-2 (eval-bool-claims t) (eval-bool-at t) eval-bool.Post
 eval-bool-add-bool-at-2 t c =
     let entry = c .before .before .before .before .before .before .before in
-    omega (arith, bool-variable _ _ _ _ _ (entry .pre .1 .0 .1) (c .before .before .before .match .keys2) .0)
+    omega (arith, bool-variable _ _ _ _ _ (entry .pre .1 .0 .2) (c .before .before .before .match .keys2) .0)
 
 eval-bool-bool-at-requires-2 : (t : ℕ) → eval-bool-lts.Need-bool-at-requires-2 (eval-bool-claims t) (eval-bool-at t) eval-bool.Post
 eval-bool-bool-at-requires-2 t c κs = tt
 
-eval-bool-sub-eval-bool : (t : ℕ) → eval-bool-lts.Need-sub-eval-bool (eval-bool-claims t) (eval-bool-at t) eval-bool.Post
-eval-bool-sub-eval-bool t c = omega (arith, bool-live _ _ _ _ _ (c .before .before .before .before .pre .1 .0 .1) .deep)
-
 eval-bool-eval-bool-requires : (t : ℕ) → eval-bool-lts.Need-eval-bool-requires (eval-bool-claims t) (eval-bool-at t) eval-bool.Post
 eval-bool-eval-bool-requires t c κs =
     let entry = c .before .before .before .before in (
-      omega (arith, bool-live _ _ _ _ _ (entry .pre .1 .0 .1) .deep),
-      ((entry .pre .1 .0 .0, not-first _ _ _ _ _ (entry .pre .1 .0 .1) (c .match .keys3)), omega arith, omega arith),
+      omega (arith, bool-live _ _ _ _ _ (entry .pre .1 .0 .2) .inside),
+      ((entry .pre .1 .0 .0, entry .pre .1 .0 .1 - 1, not-first _ _ _ _ _ (entry .pre .1 .0 .2) (c .match .keys3)), omega arith, omega arith),
     )
 
 eval-bool-bool-at-requires-3 : (t : ℕ) → eval-bool-lts.Need-bool-at-requires-3 (eval-bool-claims t) (eval-bool-at t) eval-bool.Post
 eval-bool-bool-at-requires-3 t c κs = tt
 
-eval-bool-sub-eval-bool-2 : (t : ℕ) → eval-bool-lts.Need-sub-eval-bool-2 (eval-bool-claims t) (eval-bool-at t) eval-bool.Post
-eval-bool-sub-eval-bool-2 t c = omega (arith, bool-live _ _ _ _ _ (c .before .before .before .before .before .before .pre .1 .0 .1) .deep)
-
 eval-bool-eval-bool-requires-2 : (t : ℕ) → eval-bool-lts.Need-eval-bool-requires-2 (eval-bool-claims t) (eval-bool-at t) eval-bool.Post
 eval-bool-eval-bool-requires-2 t c κs =
     let entry = c .before .before .before .before .before .before in (
-      omega (arith, bool-live _ _ _ _ _ (entry .pre .1 .0 .1) .deep),
-      ((entry .pre .1 .0 .0, logic-first _ _ _ _ _ (entry .pre .1 .0 .1) (omega arith) (c .if2 .taken)), omega arith, omega arith),
+      omega (arith, bool-live _ _ _ _ _ (entry .pre .1 .0 .2) .inside),
+      ((entry .pre .1 .0 .0, entry .pre .1 .0 .1 - 1, logic-first _ _ _ _ _ (entry .pre .1 .0 .2) (omega arith) (c .if2 .taken)), omega arith, omega arith),
     )
-
-eval-bool-sub-eval-bool-3 : (t : ℕ) → eval-bool-lts.Need-sub-eval-bool-3 (eval-bool-claims t) (eval-bool-at t) eval-bool.Post
-eval-bool-sub-eval-bool-3 t c =
-    let entry = c .before .before .before .before .before .before .before in
-    omega (arith, bool-live _ _ _ _ _ (entry .pre .1 .0 .1) .deep)
 
 eval-bool-eval-bool-requires-3 : (t : ℕ) → eval-bool-lts.Need-eval-bool-requires-3 (eval-bool-claims t) (eval-bool-at t) eval-bool.Post
 eval-bool-eval-bool-requires-3 t c κs =
     let entry = c .before .before .before .before .before .before .before in
-    let (file, h) = entry .pre .1 .0 in
+    let (file, depth, h) = entry .pre .1 .0 in
     let first = logic-first _ _ _ _ _ h (omega arith) (c .before .if2 .taken) in (
-      omega (arith, bool-live _ _ _ _ _ h .deep),
-      ((file, logic-second _ _ _ _ _ h (omega arith) (c .before .if2 .taken) _ (c .eval-bool2 .ensures file first .1)), omega arith, omega arith),
+      omega (arith, bool-live _ _ _ _ _ h .inside, bool-forward _ _ _ _ _ _ first (c .eval-bool2 .ensures file (depth - 1) first .1)),
+      ((file, depth - 1, logic-second _ _ _ _ _ h (omega arith) (c .before .if2 .taken) _ (c .eval-bool2 .ensures file (depth - 1) first .1)), omega arith, omega arith),
     )
 
 eval-bool-logic-requires : (t : ℕ) → eval-bool-lts.Need-logic-requires (eval-bool-claims t) (eval-bool-at t) eval-bool.Post
@@ -117,27 +106,17 @@ eval-bool-logic-requires t c κs = tt
 eval-bool-bool-at-requires-4 : (t : ℕ) → eval-bool-lts.Need-bool-at-requires-4 (eval-bool-claims t) (eval-bool-at t) eval-bool.Post
 eval-bool-bool-at-requires-4 t c κs = tt
 
-eval-bool-sub-eval-int : (t : ℕ) → eval-bool-lts.Need-sub-eval-int (eval-bool-claims t) (eval-bool-at t) eval-bool.Post
-eval-bool-sub-eval-int t c =
-    let entry = c .before .before .before .before .before .before .before in
-    omega (arith, bool-live _ _ _ _ _ (entry .pre .1 .0 .1) .deep)
-
 eval-bool-eval-int-requires : (t : ℕ) → eval-bool-lts.Need-eval-int-requires (eval-bool-claims t) (eval-bool-at t) eval-bool.Post
 eval-bool-eval-int-requires t c κs =
     let entry = c .before .before .before .before .before .before .before in
-    ((entry .pre .1 .0 .0, compare-first _ _ _ _ _ (entry .pre .1 .0 .1) (omega arith) (c .if3 .taken)), omega arith, omega arith)
-
-eval-bool-sub-eval-int-2 : (t : ℕ) → eval-bool-lts.Need-sub-eval-int-2 (eval-bool-claims t) (eval-bool-at t) eval-bool.Post
-eval-bool-sub-eval-int-2 t c =
-    let entry = c .before .before .before .before .before .before .before .before in
-    omega (arith, bool-live _ _ _ _ _ (entry .pre .1 .0 .1) .deep)
+    ((entry .pre .1 .0 .0, entry .pre .1 .0 .1 - 1, compare-first _ _ _ _ _ (entry .pre .1 .0 .2) (omega arith) (c .if3 .taken)), omega arith, omega arith)
 
 eval-bool-eval-int-requires-2 : (t : ℕ) → eval-bool-lts.Need-eval-int-requires-2 (eval-bool-claims t) (eval-bool-at t) eval-bool.Post
 eval-bool-eval-int-requires-2 t c κs =
     let entry = c .before .before .before .before .before .before .before .before in
-    let (file, h) = entry .pre .1 .0 in
+    let (file, depth, h) = entry .pre .1 .0 in
     let first = compare-first _ _ _ _ _ h (omega arith) (c .before .if3 .taken) in
-    ((file, compare-second _ _ _ _ _ h (omega arith) (c .before .if3 .taken) _ (c .eval-int .ensures file first .1)), omega arith, omega arith)
+    ((file, depth - 1, compare-second _ _ _ _ _ h (omega arith) (c .before .if3 .taken) _ (c .eval-int .ensures file (depth - 1) first .1)), omega arith, omega arith)
 
 eval-bool-compare-requires : (t : ℕ) → eval-bool-lts.Need-compare-requires (eval-bool-claims t) (eval-bool-at t) eval-bool.Post
 eval-bool-compare-requires t c κs = tt
@@ -151,7 +130,7 @@ eval-bool-bool-at-requires-6 t c κs = tt
 eval-bool-returns : (t : ℕ) → eval-bool-lts.Need-returns (eval-bool-claims t) (eval-bool-at t) eval-bool.Post
 unfolding evalBool
 eval-bool-returns t c =
-    λ file h.
+    λ file depth h.
     let entry = c .before .before .before .before .before .before in
     let k = bool-constant _ _ _ _ _ h (c .before .before .match .keys1) in (
       c .bool-at .ensures .0 ∙ truth-test (getD (entry .args .text .now) (entry .args .at + 1) 0) ∙ sym (ap (boolValue _ _) (k .1)),
@@ -161,7 +140,7 @@ eval-bool-returns t c =
 eval-bool-returns-2 : (t : ℕ) → eval-bool-lts.Need-returns-2 (eval-bool-claims t) (eval-bool-at t) eval-bool.Post
 unfolding evalBool
 eval-bool-returns-2 t c =
-    λ file h.
+    λ file depth h.
     let entry = c .before .before .before .before .before .before .before .before in
     let k = bool-variable _ _ _ _ _ h (c .before .before .before .before .match .keys2) in (
       c .bool-at2 .ensures .0
@@ -173,34 +152,34 @@ eval-bool-returns-2 t c =
 
 eval-bool-returns-3 : (t : ℕ) → eval-bool-lts.Need-returns-3 (eval-bool-claims t) (eval-bool-at t) eval-bool.Post
 eval-bool-returns-3 t c =
-    λ file h.
+    λ file depth h.
     let key = c .before .before .before .match .keys3 in
-    let a = c .before .before .eval-bool .ensures file (not-first _ _ _ _ _ h key) in
+    let a = c .before .before .eval-bool .ensures file (depth - 1) (not-first _ _ _ _ _ h key) in
     let k = not-value _ _ _ _ _ h key _ _ _ _ (a .0) (a .1) in
     (c .bool-at3 .ensures .0 ∙ k .0, c .bool-at3 .ensures .1 ∙ k .1)
 
 eval-bool-returns-4 : (t : ℕ) → eval-bool-lts.Need-returns-4 (eval-bool-claims t) (eval-bool-at t) eval-bool.Post
 eval-bool-returns-4 t c =
-    λ file h.
+    λ file depth h.
     let taken = c .before .before .before .before .if2 .taken in
-    let a = c .before .before .before .eval-bool2 .ensures file (logic-first _ _ _ _ _ h (omega arith) taken) in
-    let b = c .before .before .eval-bool3 .ensures file (logic-second _ _ _ _ _ h (omega arith) taken _ (a .1)) in
+    let a = c .before .before .before .eval-bool2 .ensures file (depth - 1) (logic-first _ _ _ _ _ h (omega arith) taken) in
+    let b = c .before .before .eval-bool3 .ensures file (depth - 1) (logic-second _ _ _ _ _ h (omega arith) taken _ (a .1)) in
     let k = logic-pair _ _ _ _ _ h (omega arith) taken _ _ _ _ _ _ (a .0) (a .1) (b .0) (b .1) in
     (c .bool-at4 .ensures .0 ∙ c .before .logic .ensures ∙ k .0, c .bool-at4 .ensures .1 ∙ k .1)
 
 eval-bool-returns-5 : (t : ℕ) → eval-bool-lts.Need-returns-5 (eval-bool-claims t) (eval-bool-at t) eval-bool.Post
 eval-bool-returns-5 t c =
-    λ file h.
+    λ file depth h.
     let taken = c .before .before .before .before .if3 .taken in
-    let a = c .before .before .before .eval-int .ensures file (compare-first _ _ _ _ _ h (omega arith) taken) in
-    let b = c .before .before .eval-int2 .ensures file (compare-second _ _ _ _ _ h (omega arith) taken _ (a .1)) in
+    let a = c .before .before .before .eval-int .ensures file (depth - 1) (compare-first _ _ _ _ _ h (omega arith) taken) in
+    let b = c .before .before .eval-int2 .ensures file (depth - 1) (compare-second _ _ _ _ _ h (omega arith) taken _ (a .1)) in
     let k = compare-pair _ _ _ _ _ h (omega arith) taken _ _ _ _ _ _ (a .0) (a .1) (b .0) (b .1) in
     (c .bool-at5 .ensures .0 ∙ c .before .compare .ensures ∙ k .0, c .bool-at5 .ensures .1 ∙ k .1)
 
 eval-bool-returns-6 : (t : ℕ) → eval-bool-lts.Need-returns-6 (eval-bool-claims t) (eval-bool-at t) eval-bool.Post
 eval-bool-returns-6 t c =
     let entry = c .before .before .before .before .before .before in
-    absurd (⊎-elim (λ w. bool-unknown _ _ _ _ _ (entry .pre .1 .0 .1) (inl (w .taken))) (λ w. bool-unknown _ _ _ _ _ (entry .pre .1 .0 .1) (inr (w .2 .left)))
+    absurd (⊎-elim (λ w. bool-unknown _ _ _ _ _ (entry .pre .1 .0 .2) (inl (w .taken))) (λ w. bool-unknown _ _ _ _ _ (entry .pre .1 .0 .2) (inr (w .2 .left)))
     (c .before .if1 .came))
 
 pub +eval-bool-spec : {M : Type 1} → statement M
@@ -231,18 +210,13 @@ pub +eval-bool-spec : {M : Type 1} → statement M
     (eval-bool-shared-slice-read-bool-at-2 t)
     (eval-bool-add-bool-at-2 t)
     (eval-bool-bool-at-requires-2 t)
-    (eval-bool-sub-eval-bool t)
     (eval-bool-eval-bool-requires t)
     (eval-bool-bool-at-requires-3 t)
-    (eval-bool-sub-eval-bool-2 t)
     (eval-bool-eval-bool-requires-2 t)
-    (eval-bool-sub-eval-bool-3 t)
     (eval-bool-eval-bool-requires-3 t)
     (eval-bool-logic-requires t)
     (eval-bool-bool-at-requires-4 t)
-    (eval-bool-sub-eval-int t)
     (eval-bool-eval-int-requires t)
-    (eval-bool-sub-eval-int-2 t)
     (eval-bool-eval-int-requires-2 t)
     (eval-bool-compare-requires t)
     (eval-bool-bool-at-requires-5 t)

@@ -3,10 +3,10 @@ use native.Mathlib.Omega.{arith}
 use mathlib.Core.Path.{sym, ap, _∙_}
 use mathlib.Core.Logic.{inl, inr, ⊎-elim}
 use lib.ListN.{getD}
-use Prim.Native.Nat.{ℕ, _<_, _+_}
+use Prim.Native.Nat.{ℕ, _<_, _+_, _-_}
 use Rattle.step.specs.Evaluation.{evalInt}
 use Rattle.step.specs.Accepted.{past, intValue}
-use Rattle.step.proofs.Values.{int-live, int-constant, int-variable, int-status, int-unknown, int-first, int-second, int-pair}
+use Rattle.step.proofs.Values.{int-live, int-forward, int-constant, int-variable, int-status, int-unknown, int-first, int-second, int-pair}
 use borrow.Fn.Kinds.{In}
 use borrow.Fn.PlainCycle.{Measures, is, falls, and}
 use Rattle.step.proofs.evaluate.eval_int.Reads as eval-int
@@ -20,7 +20,7 @@ use Rattle.step.proofs.evaluate.+eval_int.{statement}
 use Rattle.step.proofs.evaluate.+eval_int.Tie.{close}
 
 abbrev μ-eval-int : Measures 2 eval-int-kinds.ps ℕ
-μ-eval-int κs a = a .1 .1 .1 .1 .0
+μ-eval-int κs a = a .1 .1 .0 - a .1 .0
 
 abbrev eval-int-at : ℕ → In 2 eval-int-kinds.ps
 eval-int-at t = and 2 eval-int-kinds.ps (is 2 eval-int-kinds.ps μ-eval-int t) eval-int.Pre
@@ -33,27 +33,27 @@ abbrev eval-int-claims : ℕ → eval-int-lts.Claims
 eval-int-claims t = (word-reads.Asked, word-reads.Learnt, int-at-reads.Asked, int-at-reads.Learnt, wide-reads.Asked, wide-reads.Learnt, eval-int-below t, eval-int.Post, arithmetic-reads.Asked, arithmetic-reads.Learnt)
 
 eval-int-shared-slice-read-op : (t : ℕ) → eval-int-lts.Need-shared-slice-read-op (eval-int-claims t) (eval-int-at t) eval-int.Post
-eval-int-shared-slice-read-op t c = omega (arith, int-live _ _ _ _ _ (c .before .before .before .pre .1 .0 .1) .inside)
+eval-int-shared-slice-read-op t c = omega (arith, int-live _ _ _ _ _ (c .before .before .before .pre .1 .0 .2) .inside)
 
 eval-int-add-p : (t : ℕ) → eval-int-lts.Need-add-p (eval-int-claims t) (eval-int-at t) eval-int.Post
-eval-int-add-p t c = omega (arith, int-live _ _ _ _ _ (c .before .before .before .pre .1 .0 .1) .inside)
+eval-int-add-p t c = omega (arith, int-live _ _ _ _ _ (c .before .before .before .pre .1 .0 .2) .inside)
 
 eval-int-word-requires : (t : ℕ) → eval-int-lts.Need-word-requires (eval-int-claims t) (eval-int-at t) eval-int.Post
-eval-int-word-requires t c κs = omega (arith, int-constant _ _ _ _ _ (c .before .before .before .before .pre .1 .0 .1) (c .match .keys1) .0)
+eval-int-word-requires t c κs = omega (arith, int-constant _ _ _ _ _ (c .before .before .before .before .pre .1 .0 .2) (c .match .keys1) .0)
 
 eval-int-cast-int-at : (t : ℕ) → eval-int-lts.Need-cast-int-at (eval-int-claims t) (eval-int-at t) eval-int.Post
 eval-int-cast-int-at t c = omega (arith, c .word .ensures .1)
 
 eval-int-add-int-at : (t : ℕ) → eval-int-lts.Need-add-int-at (eval-int-claims t) (eval-int-at t) eval-int.Post
 eval-int-add-int-at t c =
-    omega (arith, int-constant _ _ _ _ _ (c .before .before .before .before .before .pre .1 .0 .1) (c .before .match .keys1) .0)
+    omega (arith, int-constant _ _ _ _ _ (c .before .before .before .before .before .pre .1 .0 .2) (c .before .match .keys1) .0)
 
 eval-int-int-at-requires : (t : ℕ) → eval-int-lts.Need-int-at-requires (eval-int-claims t) (eval-int-at t) eval-int.Post
 eval-int-int-at-requires t c κs = tt
 
 eval-int-shared-slice-read-wide : (t : ℕ) → eval-int-lts.Need-shared-slice-read-wide (eval-int-claims t) (eval-int-at t) eval-int.Post
 eval-int-shared-slice-read-wide t c =
-    omega (arith, int-variable _ _ _ _ _ (c .before .before .before .before .before .pre .1 .0 .1) (c .before .match .keys2) .0)
+    omega (arith, int-variable _ _ _ _ _ (c .before .before .before .before .before .pre .1 .0 .2) (c .before .match .keys2) .0)
 
 eval-int-wide-requires : (t : ℕ) → eval-int-lts.Need-wide-requires (eval-int-claims t) (eval-int-at t) eval-int.Post
 eval-int-wide-requires t c κs = tt
@@ -64,19 +64,19 @@ eval-int-mul-int-at t c = omega (arith, c .wide .ensures .1)
 eval-int-shared-slice-read-int-at : (t : ℕ) → eval-int-lts.Need-shared-slice-read-int-at (eval-int-claims t) (eval-int-at t) eval-int.Post
 eval-int-shared-slice-read-int-at t c =
     let entry = c .before .before .before .before .before .before .before in
-    omega (arith, c .before .wide .ensures .0, int-variable _ _ _ _ _ (entry .pre .1 .0 .1) (c .before .before .before .match .keys2) .1)
+    omega (arith, c .before .wide .ensures .0, int-variable _ _ _ _ _ (entry .pre .1 .0 .2) (c .before .before .before .match .keys2) .1)
 
 eval-int-add-int-at-2 : (t : ℕ) → eval-int-lts.Need-add-int-at-2 (eval-int-claims t) (eval-int-at t) eval-int.Post
 eval-int-add-int-at-2 t c =
     let entry = c .before .before .before .before .before .before .before in
-    omega (arith, int-variable _ _ _ _ _ (entry .pre .1 .0 .1) (c .before .before .before .match .keys2) .0)
+    omega (arith, int-variable _ _ _ _ _ (entry .pre .1 .0 .2) (c .before .before .before .match .keys2) .0)
 
 eval-int-int-at-requires-2 : (t : ℕ) → eval-int-lts.Need-int-at-requires-2 (eval-int-claims t) (eval-int-at t) eval-int.Post
 eval-int-int-at-requires-2 t c κs = tt
 
 eval-int-shared-slice-read-wide-2 : (t : ℕ) → eval-int-lts.Need-shared-slice-read-wide-2 (eval-int-claims t) (eval-int-at t) eval-int.Post
 eval-int-shared-slice-read-wide-2 t c =
-    omega (arith, int-status _ _ _ _ _ (c .before .before .before .before .before .pre .1 .0 .1) (c .before .match .keys3) .0)
+    omega (arith, int-status _ _ _ _ _ (c .before .before .before .before .before .pre .1 .0 .2) (c .before .match .keys3) .0)
 
 eval-int-wide-requires-2 : (t : ℕ) → eval-int-lts.Need-wide-requires-2 (eval-int-claims t) (eval-int-at t) eval-int.Post
 eval-int-wide-requires-2 t c κs = tt
@@ -84,48 +84,40 @@ eval-int-wide-requires-2 t c κs = tt
 eval-int-add-int-at-3 : (t : ℕ) → eval-int-lts.Need-add-int-at-3 (eval-int-claims t) (eval-int-at t) eval-int.Post
 eval-int-add-int-at-3 t c =
     let entry = c .before .before .before .before .before .before .before in
-    omega (arith, c .before .wide2 .ensures .0, int-status _ _ _ _ _ (entry .pre .1 .0 .1) (c .before .before .before .match .keys3) .1)
+    omega (arith, c .before .wide2 .ensures .0, int-status _ _ _ _ _ (entry .pre .1 .0 .2) (c .before .before .before .match .keys3) .1)
 
 eval-int-mul-int-at-2 : (t : ℕ) → eval-int-lts.Need-mul-int-at-2 (eval-int-claims t) (eval-int-at t) eval-int.Post
 eval-int-mul-int-at-2 t c =
     let entry = c .before .before .before .before .before .before .before in
-    omega (arith, c .before .wide2 .ensures .0, int-status _ _ _ _ _ (entry .pre .1 .0 .1) (c .before .before .before .match .keys3) .1)
+    omega (arith, c .before .wide2 .ensures .0, int-status _ _ _ _ _ (entry .pre .1 .0 .2) (c .before .before .before .match .keys3) .1)
 
 eval-int-shared-slice-read-int-at-2 : (t : ℕ) → eval-int-lts.Need-shared-slice-read-int-at-2 (eval-int-claims t) (eval-int-at t) eval-int.Post
 eval-int-shared-slice-read-int-at-2 t c =
     let entry = c .before .before .before .before .before .before .before .before in
-    omega (arith, c .before .before .wide2 .ensures .0, int-status _ _ _ _ _ (entry .pre .1 .0 .1) (c .before .before .before .before .match .keys3) .1)
+    omega (arith, c .before .before .wide2 .ensures .0, int-status _ _ _ _ _ (entry .pre .1 .0 .2) (c .before .before .before .before .match .keys3) .1)
 
 eval-int-add-int-at-4 : (t : ℕ) → eval-int-lts.Need-add-int-at-4 (eval-int-claims t) (eval-int-at t) eval-int.Post
 eval-int-add-int-at-4 t c =
     let entry = c .before .before .before .before .before .before .before .before in
-    omega (arith, int-status _ _ _ _ _ (entry .pre .1 .0 .1) (c .before .before .before .before .match .keys3) .0)
+    omega (arith, int-status _ _ _ _ _ (entry .pre .1 .0 .2) (c .before .before .before .before .match .keys3) .0)
 
 eval-int-int-at-requires-3 : (t : ℕ) → eval-int-lts.Need-int-at-requires-3 (eval-int-claims t) (eval-int-at t) eval-int.Post
 eval-int-int-at-requires-3 t c κs = tt
 
-eval-int-sub-eval-int : (t : ℕ) → eval-int-lts.Need-sub-eval-int (eval-int-claims t) (eval-int-at t) eval-int.Post
-eval-int-sub-eval-int t c = omega (arith, int-live _ _ _ _ _ (c .before .before .before .before .before .before .pre .1 .0 .1) .deep)
-
 eval-int-eval-int-requires : (t : ℕ) → eval-int-lts.Need-eval-int-requires (eval-int-claims t) (eval-int-at t) eval-int.Post
 eval-int-eval-int-requires t c κs =
     let entry = c .before .before .before .before .before .before in (
-      omega (arith, int-live _ _ _ _ _ (entry .pre .1 .0 .1) .deep),
-      ((entry .pre .1 .0 .0, int-first _ _ _ _ _ (entry .pre .1 .0 .1) (omega arith) (c .if2 .taken)), omega arith, omega arith),
+      omega (arith, int-live _ _ _ _ _ (entry .pre .1 .0 .2) .inside),
+      ((entry .pre .1 .0 .0, entry .pre .1 .0 .1 - 1, int-first _ _ _ _ _ (entry .pre .1 .0 .2) (omega arith) (c .if2 .taken)), omega arith, omega arith),
     )
-
-eval-int-sub-eval-int-2 : (t : ℕ) → eval-int-lts.Need-sub-eval-int-2 (eval-int-claims t) (eval-int-at t) eval-int.Post
-eval-int-sub-eval-int-2 t c =
-    let entry = c .before .before .before .before .before .before .before in
-    omega (arith, int-live _ _ _ _ _ (entry .pre .1 .0 .1) .deep)
 
 eval-int-eval-int-requires-2 : (t : ℕ) → eval-int-lts.Need-eval-int-requires-2 (eval-int-claims t) (eval-int-at t) eval-int.Post
 eval-int-eval-int-requires-2 t c κs =
     let entry = c .before .before .before .before .before .before .before in
-    let (file, h) = entry .pre .1 .0 in
+    let (file, depth, h) = entry .pre .1 .0 in
     let first = int-first _ _ _ _ _ h (omega arith) (c .before .if2 .taken) in (
-      omega (arith, int-live _ _ _ _ _ h .deep),
-      ((file, int-second _ _ _ _ _ h (omega arith) (c .before .if2 .taken) _ (c .eval-int .ensures file first .1)), omega arith, omega arith),
+      omega (arith, int-live _ _ _ _ _ h .inside, int-forward _ _ _ _ _ _ first (c .eval-int .ensures file (depth - 1) first .1)),
+      ((file, depth - 1, int-second _ _ _ _ _ h (omega arith) (c .before .if2 .taken) _ (c .eval-int .ensures file (depth - 1) first .1)), omega arith, omega arith),
     )
 
 eval-int-arithmetic-requires : (t : ℕ) → eval-int-lts.Need-arithmetic-requires (eval-int-claims t) (eval-int-at t) eval-int.Post
@@ -140,7 +132,7 @@ eval-int-int-at-requires-5 t c κs = tt
 eval-int-returns : (t : ℕ) → eval-int-lts.Need-returns (eval-int-claims t) (eval-int-at t) eval-int.Post
 unfolding evalInt
 eval-int-returns t c =
-    λ file h.
+    λ file depth h.
     let k = int-constant _ _ _ _ _ h (c .before .before .match .keys1) in (
       c .int-at .ensures .0 ∙ c .before .word .ensures .0 ∙ sym (ap (intValue _ _) (k .1)),
       c .int-at .ensures .1 ∙ sym (ap past (k .1)),
@@ -149,7 +141,7 @@ eval-int-returns t c =
 eval-int-returns-2 : (t : ℕ) → eval-int-lts.Need-returns-2 (eval-int-claims t) (eval-int-at t) eval-int.Post
 unfolding evalInt
 eval-int-returns-2 t c =
-    λ file h.
+    λ file depth h.
     let entry = c .before .before .before .before .before .before .before .before in
     let k = int-variable _ _ _ _ _ h (c .before .before .before .before .match .keys2) in (
       c .int-at2 .ensures .0
@@ -161,7 +153,7 @@ eval-int-returns-2 t c =
 eval-int-returns-3 : (t : ℕ) → eval-int-lts.Need-returns-3 (eval-int-claims t) (eval-int-at t) eval-int.Post
 unfolding evalInt
 eval-int-returns-3 t c =
-    λ file h.
+    λ file depth h.
     let entry = c .before .before .before .before .before .before .before .before .before in
     let k = int-status _ _ _ _ _ h (c .before .before .before .before .before .match .keys3) in (
       c .int-at3 .ensures .0
@@ -172,10 +164,10 @@ eval-int-returns-3 t c =
 
 eval-int-returns-4 : (t : ℕ) → eval-int-lts.Need-returns-4 (eval-int-claims t) (eval-int-at t) eval-int.Post
 eval-int-returns-4 t c =
-    λ file h.
+    λ file depth h.
     let taken = c .before .before .before .before .if2 .taken in
-    let a = c .before .before .before .eval-int .ensures file (int-first _ _ _ _ _ h (omega arith) taken) in
-    let b = c .before .before .eval-int2 .ensures file (int-second _ _ _ _ _ h (omega arith) taken _ (a .1)) in
+    let a = c .before .before .before .eval-int .ensures file (depth - 1) (int-first _ _ _ _ _ h (omega arith) taken) in
+    let b = c .before .before .eval-int2 .ensures file (depth - 1) (int-second _ _ _ _ _ h (omega arith) taken _ (a .1)) in
     let k = int-pair _ _ _ _ _ h (omega arith) taken _ _ _ _ _ _ (a .0) (a .1) (b .0) (b .1) in (
       c .int-at4 .ensures .0 ∙ c .before .arithmetic .ensures ∙ k .0,
       c .int-at4 .ensures .1 ∙ k .1,
@@ -184,7 +176,7 @@ eval-int-returns-4 t c =
 eval-int-returns-5 : (t : ℕ) → eval-int-lts.Need-returns-5 (eval-int-claims t) (eval-int-at t) eval-int.Post
 eval-int-returns-5 t c =
     let entry = c .before .before .before .before .before .before in
-    absurd (⊎-elim (λ w. int-unknown _ _ _ _ _ (entry .pre .1 .0 .1) (inl (w .taken))) (λ w. int-unknown _ _ _ _ _ (entry .pre .1 .0 .1) (inr (w .1 .left))) (c
+    absurd (⊎-elim (λ w. int-unknown _ _ _ _ _ (entry .pre .1 .0 .2) (inl (w .taken))) (λ w. int-unknown _ _ _ _ _ (entry .pre .1 .0 .2) (inr (w .1 .left))) (c
     .before .if1 .came))
 
 pub +eval-int-spec : {M : Type 1} → statement M
@@ -221,9 +213,7 @@ pub +eval-int-spec : {M : Type 1} → statement M
     (eval-int-shared-slice-read-int-at-2 t)
     (eval-int-add-int-at-4 t)
     (eval-int-int-at-requires-3 t)
-    (eval-int-sub-eval-int t)
     (eval-int-eval-int-requires t)
-    (eval-int-sub-eval-int-2 t)
     (eval-int-eval-int-requires-2 t)
     (eval-int-arithmetic-requires t)
     (eval-int-int-at-requires-4 t)

@@ -3,8 +3,9 @@ use mathlib.Core.Logic.{inl, inr}
 use Prim.Native.Nat.{ℕ, _<_, _-_}
 use Rattle.design.specs.Check.{namesOf}
 use Rattle.design.specs.State.{layoutOf}
-use Rattle.step.proofs.Runs.{stmt-unknown, bool-forward, list-forward, list-live, seq-first, Going, going-start, going-on, going-end, stmt-live, assign-live, assign-runs, if-deep, if-test, if-then, if-else, runs-then, runs-else}
-use Prim.Native.Nat.{ℕ, _<_}
+use Rattle.design.specs.Limits.{maxDepth}
+use Rattle.step.proofs.Values.{bool-forward}
+use Rattle.step.proofs.Runs.{stmt-unknown, list-forward, list-live, seq-first, Going, going-start, going-on, going-end, stmt-live, assign-live, assign-runs, if-deep, if-test, if-then, if-else, runs-then, runs-else}
 use borrow.Fn.Kinds.{In}
 use borrow.Fn.PlainCycle.{Measures, is, falls, and}
 use Rattle.step.proofs.execute.run_list.Reads as run-list
@@ -127,7 +128,7 @@ run-stmt-add-eval-bool t c = omega (arith, stmt-live _ _ _ _ _ (c .before .befor
 run-stmt-eval-bool-requires : (t : ℕ) → run-stmt-lts.Need-eval-bool-requires (run-stmt-claims t) (run-stmt-at t) run-stmt.Post
 run-stmt-eval-bool-requires t c κs =
     let entry = c .before .before .before .before .before .before .before .before in
-    ((entry .args .file .now, if-test _ _ _ _ _ (entry .pre .1 .0) (c .before .if3 .left)), omega arith, omega arith)
+    ((entry .args .file .now, maxDepth, if-test _ _ _ _ _ (entry .pre .1 .0) (c .before .if3 .left)), omega arith, omega arith)
 
 run-stmt-sub-run-list : (t : ℕ) → run-stmt-lts.Need-sub-run-list (run-stmt-claims t) (run-stmt-at t) run-stmt.Post
 run-stmt-sub-run-list t c =
@@ -139,9 +140,9 @@ run-stmt-run-list-requires t c κs =
     let entry = c .before .before .before .before .before .before .before .before .before .before .before in
     let left = c .before .before .before .before .if3 .left in
     let test = if-test _ _ _ _ _ (entry .pre .1 .0) left in
-    let after = c .before .before .eval-bool .ensures (entry .args .file .now) test .1 in
+    let after = c .before .before .eval-bool .ensures (entry .args .file .now) maxDepth test .1 in
     let then = if-then _ _ _ _ _ (entry .pre .1 .0) left _ after in (
-      omega (arith, stmt-live _ _ _ _ _ (entry .pre .1 .0), bool-forward _ _ _ _ _ test after, list-live _ _ _ _ _ then),
+      omega (arith, stmt-live _ _ _ _ _ (entry .pre .1 .0), bool-forward _ _ _ maxDepth _ _ test after, list-live _ _ _ _ _ then),
       (then, omega arith, omega arith, omega arith),
     )
 
@@ -171,13 +172,13 @@ run-stmt-run-list-requires-2 t c κs =
     let entry = c .before .before .before .before .before .before .before .before .before .before .before .before in
     let left = c .before .before .before .before .before .if3 .left in
     let test = if-test _ _ _ _ _ (entry .pre .1 .0) left in
-    let after = c .before .before .before .eval-bool .ensures (entry .args .file .now) test .1 in
+    let after = c .before .before .before .eval-bool .ensures (entry .args .file .now) maxDepth test .1 in
     let then = if-then _ _ _ _ _ (entry .pre .1 .0) left _ after in
     let other = if-else _ _ _ _ _ (entry .pre .1 .0) left _ after _ (c .before .skip-list2 .ensures) in (
       omega (
         arith,
         stmt-live _ _ _ _ _ (entry .pre .1 .0),
-        bool-forward _ _ _ _ _ test after,
+        bool-forward _ _ _ maxDepth _ _ test after,
         list-forward _ _ _ _ _ _ then (c .before .skip-list2 .ensures),
         list-live _ _ _ _ _ other,
       ),
@@ -192,7 +193,7 @@ run-stmt-returns-2 t c =
     let at-eval-bool = c .before .before .before .before .before .before in
     let at-if3 = at-eval-bool .before .before in
     let entry = at-if3 .before .before .before .before .before .before .before in
-    let test = at-eval-bool .eval-bool .ensures (entry .args .file .now) (if-test _ _ _ _ _ (entry .pre .1 .0) (at-if3 .if3 .left)) in
+    let test = at-eval-bool .eval-bool .ensures (entry .args .file .now) maxDepth (if-test _ _ _ _ _ (entry .pre .1 .0) (at-if3 .if3 .left)) in
     runs-then _ _ _ _ _ (entry .pre .1 .0) (at-if3 .if3 .left) _ (test .1) _ _ _ _ _ _ (test .0) (c .before .before .before .before .before .if4 .taken)
     (c .before .before .before .run-list .ensures) (c .skip-list .ensures)
 
@@ -204,7 +205,7 @@ run-stmt-returns-3 t c =
     let at-eval-bool = c .before .before .before .before .before .before in
     let at-if3 = at-eval-bool .before .before in
     let entry = at-if3 .before .before .before .before .before .before .before in
-    let test = at-eval-bool .eval-bool .ensures (entry .args .file .now) (if-test _ _ _ _ _ (entry .pre .1 .0) (at-if3 .if3 .left)) in
+    let test = at-eval-bool .eval-bool .ensures (entry .args .file .now) maxDepth (if-test _ _ _ _ _ (entry .pre .1 .0) (at-if3 .if3 .left)) in
     runs-else _ _ _ _ _ (entry .pre .1 .0) (at-if3 .if3 .left) _ (test .1) _ _ _ _ _ _ (test .0) (c .before .before .before .before .before .if4 .left)
     (c .before .before .before .before .skip-list2 .ensures) (c .before .before .run-list2 .ensures)
 

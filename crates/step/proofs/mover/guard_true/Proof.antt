@@ -1,6 +1,7 @@
 use native.Mathlib.Omega.{arith}
 use mathlib.Core.Path.{sym, _∙_}
 use Rattle.design.proofs.Indexed.{normal-fields}
+use Rattle.design.specs.Limits.{maxDepth}
 use Rattle.step.proofs.Cells.{sizes, guard-empty, guard-reads, guard-value}
 use borrow.Author.Needs.{needs}
 use Rattle.step.proofs.mover.guard_true.Statement.{statement}
@@ -31,7 +32,7 @@ eval-bool-requires : tie.Need-eval-bool-requires
 eval-bool-requires c κs =
     let entry = c .before .before .before .before .before in
     let (table, ready) = entry .pre .0 in (
-      (entry .args .file .now, guard-reads _ _ _ _ ready _ (entry .pre .1) _ (c .before .wide .ensures .0) (c .if1 .left)),
+      (entry .args .file .now, maxDepth, guard-reads _ _ _ _ ready _ (entry .pre .1) _ (c .before .wide .ensures .0) (c .if1 .left)),
       omega (arith, c .before .wide .ensures .0, normal-fields _ _ _ (ready .indexed) _ (entry .pre .1) .past, sizes _ _ _ _ ready),
       omega (arith, ready .size),
     )
@@ -43,7 +44,7 @@ returns-2 c =
     let (table, ready) = entry .pre .0 in
     let length = c .before .before .wide .ensures .0 in
     let reads = guard-reads _ _ _ _ ready _ x _ length (c .before .if1 .left) in
-    guard-value _ _ _ _ ready _ x _ length (c .before .if1 .left) _ (c .eval-bool .ensures (entry .args .file .now) reads .0)
+    guard-value _ _ _ _ ready _ x _ length (c .before .if1 .left) _ (c .eval-bool .ensures (entry .args .file .now) maxDepth reads .0)
 
 pub guard-true-spec : {M : Type 1} → statement M
 guard-true-spec =

@@ -1,5 +1,6 @@
 -- `step::property::invariant_true` meets its contract. Assumes nothing.
 use native.Mathlib.Omega.{arith}
+use Rattle.design.specs.Limits.{maxDepth}
 use Rattle.step.proofs.Cells.{sizes}
 use Rattle.step.proofs.Scanning.{invariant-reads, invariant-value}
 use Rattle.step.proofs.property.invariant_true.Statement.{statement}
@@ -12,7 +13,7 @@ eval-bool-requires : tie.Need-eval-bool-requires
 eval-bool-requires c κs =
     let entry = c .before .before .before in
     let (table, ready) = entry .pre in (
-      (entry .args .file .now, invariant-reads _ _ _ _ ready _ _ (c .invariant .ensures .0) (c .invariant .ensures .1)),
+      (entry .args .file .now, maxDepth, invariant-reads _ _ _ _ ready _ _ (c .invariant .ensures .0) (c .invariant .ensures .1)),
       omega (arith, sizes _ _ _ _ ready, c .invariant .ensures .1),
       omega (arith, ready .size),
     )
@@ -23,7 +24,7 @@ returns c =
     let (table, ready) = entry .pre in
     let stands = c .before .invariant .ensures in
     let reads = invariant-reads _ _ _ _ ready _ _ (stands .0) (stands .1) in
-    invariant-value _ _ _ _ ready _ _ (stands .0) (stands .1) _ (c .eval-bool .ensures (entry .args .file .now) reads .0)
+    invariant-value _ _ _ _ ready _ _ (stands .0) (stands .1) _ (c .eval-bool .ensures (entry .args .file .now) maxDepth reads .0)
 
 pub invariant-true-spec : {M : Type 1} → statement M
 invariant-true-spec = tie.close (tie.spec invariant-requires eval-bool-requires returns)
