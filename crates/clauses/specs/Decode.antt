@@ -30,10 +30,10 @@ abbrev pub withChoice : ℕ → Answer (List ℕ) → Answer (List ℕ)
 withChoice c (refused number place) = refused number place
 withChoice c (answer cs) = answer (c ∷ cs)
 
-module _ (d : Design) (p : Property) (values : List ℕ) where
+module _ (d : Design) (q : Property) (values : List ℕ) where
   -- the values of a frame's flags, which are its variables after S state bits and P property gates
   unfoldable pub flagValues : ℕ → List ℕ
-  flagValues j = take (w d) (drop (frame d p j + S d + P d p - 1) values)
+  flagValues j = take (w d) (drop (frame d q j + S d + P d q - 1) values)
 
   -- "18 a flag value not 0/1 or a frame without just one 1 (place: first such frame)": of so many frames from frame j on
   unfoldable pub chosenFrom : ℕ → ℕ → Answer (List ℕ)

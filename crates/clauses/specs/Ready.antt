@@ -131,7 +131,7 @@ pub record Writable (file : List ℕ) (p k : ℕ) (buffer : List ℤ) : Type 0 w
   pub bound : k ≤ maxBound
   pub room : length (words (formula design (propertyOf design p) k)) ≤ length buffer
 
-pub record Written (d : Design) (p : Property) (k : ℕ) (before after : List ℤ) (count variables : ℕ) : Type 0 where
-  pub counted : count ≡ length (words (formula d p k))
-  pub numbered : variables ≡ n d p k
-  pub written : after ≡ words (formula d p k) ++ drop (length (words (formula d p k))) before
+pub record Written (d : Design) (q : Property) (k : ℕ) (before after : List ℤ) (count variables : ℕ) : Type 0 where
+  pub counted : count ≡ length (words (formula d q k))
+  pub numbered : variables ≡ n d q k
+  pub written : after ≡ words (formula d q k) ++ drop (length (words (formula d q k))) before

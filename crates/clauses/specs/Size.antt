@@ -20,14 +20,14 @@ pub record Sizes : Type 0 where
 
 -- "S, P, w, G, n and the whole formula's clauses and words"
 unfoldable pub sizesOf : Design → Property → ℕ → Sizes
-sizesOf d p k = record {
+sizesOf d q k = record {
   stateBits = S d;
-  propertyGates = P d p;
+  propertyGates = P d q;
   movers = w d;
-  stepGates = G d p;
-  variables = n d p k;
-  clauses = length (formula d p k);
-  words = length (words (formula d p k));
+  stepGates = G d q;
+  variables = n d q k;
+  clauses = length (formula d q k);
+  words = length (words (formula d q k));
 }
 
 -- "SIZE: 13; 14 bound over 100." 13 is "property over 1". "Places not named are 0."

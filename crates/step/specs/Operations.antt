@@ -76,10 +76,10 @@ unfoldable pub HOLDS : List ℕ → List ℤ → List ℕ → ℕ → Held
 HOLDS file values statuses p = held (holdsAnswer file values statuses p)
 
 -- the first step, from step i on, at which the property is false
-module _ (d : Design) (p : Property) where
+module _ (d : Design) (q : Property) where
   unfoldable pub firstBreak : State → List ℕ → ℕ → Option ℕ
-  firstBreak s [] i = cond (holds d p s) none (some i)
-  firstBreak s (c ∷ cs) i = cond (holds d p s) (firstBreak (step d s c) cs (suc i)) (some i)
+  firstBreak s [] i = cond (holds d q s) none (some i)
+  firstBreak s (c ∷ cs) i = cond (holds d q s) (firstBreak (step d s c) cs (suc i)) (some i)
 
 abbrev pub choicesRight : Design → List ℕ → List Bool
 choicesRight d cs = map (λ (c : ℕ). ltb c (length (movers d))) cs

@@ -21,10 +21,10 @@ use Rattle.step.specs.declared.Replayed.{Replayed}
 use Rattle.text.specs.Text.{digits, decimal}
 use Rattle.text.specs.Line.{spaced, head, tail, line}
 
-module _ (d : Design) (p : Property) where
+module _ (d : Design) (q : Property) where
   -- the line of a state, with the step and the mover that led to it: variables as signed numbers, then statuses
   unfoldable pub stateLine : ℕ → ℕ → Bool → State → List ℕ
-  stateLine i mover idled s = line i mover idled (holds d p s) (take (length (d .variables)) (map signed s)) (map pos (statusesIn (layout d) s))
+  stateLine i mover idled s = line i mover idled (holds d q s) (take (length (d .variables)) (map signed s)) (map pos (statusesIn (layout d) s))
 
   -- the lines after step i: "Every choice is printed, past a break too."
   unfoldable pub nextLines : ℕ → State → List ℕ → List ℕ

@@ -1,6 +1,6 @@
 -- Demand 3 of document 01, whole: "one claim about such lists as wholes, not one for each choice". A list's choices are movers' numbers,
 -- idle ones included (`AllBelow (length (movers d)) cs`). `Breaking d q k cs`: cs is a list of just k choices that breaks property q; `Breakable d q k`: some
--- list of at most k does.
+-- list of at most k does. `p` is the number of a property.
 use mathlib.Core.Path.{_≡_}
 use mathlib.Core.Logic.{_↔_}
 use mathlib.Core.Bool.{true}

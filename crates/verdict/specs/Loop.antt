@@ -26,25 +26,25 @@ pub record ReadyMemory (file : List ℕ) (p k : ℕ) (lent : Memory) : Type 0 wh
   pub bound : k ≤ maxBound
   pub room : roomFor design (propertyOf design p) k lent ≡ true
 
-module _ (d : Design) (p : Property) (k budget : ℕ) (lent : Memory) where
+module _ (d : Design) (q : Property) (k budget : ℕ) (lent : Memory) where
   -- Before bound i, after t tries: what is still to do, and lent memory, which is as it was lent past what bound i's formula and variables take.
   pub record Judging (i t : ℕ) (clauses : List ℤ) (values trail : List ℕ) : Type 0 where
     pub low : i ≤ k
     pub paid : t ≤ budget
-    pub same : judgedFrom d p budget (k - i) i t ≡ judge d p k budget
-    pub clauses-kept : drop (length (words (formula d p i))) clauses ≡ drop (length (words (formula d p i))) (lent .clauses)
-    pub values-kept : drop (n d p i) values ≡ drop (n d p i) (lent .values)
-    pub trail-kept : drop (n d p i) trail ≡ drop (n d p i) (lent .trail)
+    pub same : judgedFrom d q budget (k - i) i t ≡ judge d q k budget
+    pub clauses-kept : drop (length (words (formula d q i))) clauses ≡ drop (length (words (formula d q i))) (lent .clauses)
+    pub values-kept : drop (n d q i) values ≡ drop (n d q i) (lent .values)
+    pub trail-kept : drop (n d q i) trail ≡ drop (n d q i) (lent .trail)
     pub clauses-long : length clauses ≡ length (lent .clauses)
     pub values-long : length values ≡ length (lent .values)
     pub trail-long : length trail ≡ length (lent .trail)
 
   -- Bound i was tried: its formula was written, the search came to a result, and this is what they left.
   pub record Tried (i t : ℕ) (clauses : List ℤ) (values trail : List ℕ) (r : Solved) (clauses′ : List ℤ) (values′ trail′ : List ℕ) : Type 0 where
-    pub result : r ≡ declaredSolved (searched d p (upTo (budget - t)) i)
-    pub written : clauses′ ≡ words (formula d p i) ++ drop (length (words (formula d p i))) clauses
-    pub values-left : values′ ≡ valuesLeft (n d p i) ((searched d p (upTo (budget - t)) i) .answer) ++ drop (n d p i) values
-    pub trail-left : trail′ ≡ replicate (n d p i) 0 ++ drop (n d p i) trail
+    pub result : r ≡ declaredSolved (searched d q (upTo (budget - t)) i)
+    pub written : clauses′ ≡ words (formula d q i) ++ drop (length (words (formula d q i))) clauses
+    pub values-left : values′ ≡ valuesLeft (n d q i) ((searched d q (upTo (budget - t)) i) .answer) ++ drop (n d q i) values
+    pub trail-left : trail′ ≡ replicate (n d q i) 0 ++ drop (n d q i) trail
 
 -- the loop's invariant
 pub record Standing (file : List ℕ) (p k budget : ℕ) (lent : Memory) (i t : ℕ) (clauses : List ℤ) (values trail choices : List ℕ) : Type 0 where

@@ -1,4 +1,4 @@
--- VERDICT (document 01, "The search" and "Turned-back calls").
+-- VERDICT (document 01, "The search" and "Turned-back calls"). `p` is the number of a property, `q` the property.
 use mathlib.Core.Bool.{Bool, _&&_}
 use mathlib.Core.List.{List, _++_}
 use Prim.Native.Nat.{ℕ, zero, suc, _+_, _-_}
