@@ -29,7 +29,7 @@ bench: archive
 	@$(CARGO) run --release --manifest-path reference/proved/Cargo.toml --bin bench
 	@$(CARGO) run --release --manifest-path reference/proved/Cargo.toml --bin bench-formula
 
-runs:
+runs: build/serve-reference
 	@rm -f tests/runs/*
 	@tests/replay --write
 	@tests/printer --write

@@ -4,6 +4,9 @@ pub const TRAILER_LENGTH: usize = 16;
 pub const MAX_FILE: usize = 16_384;
 pub const MAX_DEPTH: u32 = 16;
 pub const MAX_NESTED_IFS: u32 = 4;
+pub const MAX_VARIABLES: usize = 32;
+pub const MAX_MATRICES: usize = 8;
+pub const MAX_CELLS: usize = 256;
 pub const MAX_MOVERS: usize = 64;
 
 /// A turned-back call: its number and its place.
@@ -150,7 +153,7 @@ fn read_trailer(file: &[u8]) -> Result<Trailer, Refusal> {
     if field(0) != 1 {
         return Err(refusal(2, at));
     }
-    if field(1) > 32 || !(1..=8).contains(&field(3)) || field(6) > 256 {
+    if field(1) > MAX_VARIABLES || !(1..=MAX_MATRICES).contains(&field(3)) || field(6) > MAX_CELLS {
         return Err(refusal(3, at));
     }
     Ok(Trailer {

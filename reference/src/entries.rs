@@ -13,20 +13,20 @@ macro_rules! entries {
             ];
             stm_start[
                 (design: *const u8, design_len: usize)
-                (values: *mut [i16; 32])
-                (statuses: *mut [u16; 8])
+                (values: *mut [i16; $crate::design::MAX_VARIABLES])
+                (statuses: *mut [u16; $crate::design::MAX_MATRICES])
             ];
             stm_step[
                 (design: *const u8, design_len: usize)
-                (values: *mut [i16; 32])
-                (statuses: *mut [u16; 8])
+                (values: *mut [i16; $crate::design::MAX_VARIABLES])
+                (statuses: *mut [u16; $crate::design::MAX_MATRICES])
                 (choice: u64)
                 (idle: *mut [u8; 1])
             ];
             stm_holds[
                 (design: *const u8, design_len: usize)
-                (values: *const [i16; 32])
-                (statuses: *const [u16; 8])
+                (values: *const [i16; $crate::design::MAX_VARIABLES])
+                (statuses: *const [u16; $crate::design::MAX_MATRICES])
                 (property: u64)
                 (holds: *mut [u8; 1])
             ];

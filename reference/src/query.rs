@@ -3,7 +3,7 @@
 
 use crate::design::{check, refusal, Design, Refusal};
 
-const MAX_PROPERTY: u64 = 1;
+pub const MAX_PROPERTY: u64 = 1;
 /// The greatest bound, and the most choices that REPLAY takes.
 pub const MAX_BOUND: u64 = 100;
 

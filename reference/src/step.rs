@@ -2,14 +2,19 @@
 
 use crate::design::{
     refusal, Boolean, Cell, CellKind, Design, Integer, Kind, Mover, Refusal, Statement,
+    MAX_MATRICES, MAX_VARIABLES,
 };
 use crate::query::Query;
 
 /// The lent form of a state; entries that the design does not use are 0.
 #[derive(Clone, Copy, Debug, PartialEq, Eq, Hash)]
 pub struct State {
-    pub values: [i16; 32],
-    pub statuses: [u8; 8],
+    pub values: [i16; MAX_VARIABLES],
+    pub statuses: [u8; MAX_MATRICES],
+}
+
+impl State {
+    pub const ZERO: State = State { values: [0; MAX_VARIABLES], statuses: [0; MAX_MATRICES] };
 }
 
 #[derive(Clone, Copy, Debug, PartialEq, Eq)]
@@ -20,7 +25,7 @@ pub struct Stepped {
 
 /// START: initial values, every status 0.
 pub fn start(design: &Design) -> State {
-    let mut state = State { values: [0; 32], statuses: [0; 8] };
+    let mut state = State::ZERO;
     for (value, variable) in state.values.iter_mut().zip(&design.variables) {
         *value = variable.initial;
     }
@@ -74,9 +79,9 @@ pub fn run(design: &Design, choices: &[u8]) -> Vec<Stepped> {
 }
 
 fn check_state(design: &Design, state: &State) -> Result<(), Refusal> {
-    let bad_value = (0..32).find(|&i| !value_fits(design, i, state.values[i]));
-    let bad_status = || (0..8).find(|&i| !status_fits(design, i, state.statuses[i]));
-    match bad_value.or_else(|| bad_status().map(|i| 32 + i)) {
+    let bad_value = (0..MAX_VARIABLES).find(|&i| !value_fits(design, i, state.values[i]));
+    let bad_status = || (0..MAX_MATRICES).find(|&i| !status_fits(design, i, state.statuses[i]));
+    match bad_value.or_else(|| bad_status().map(|i| MAX_VARIABLES + i)) {
         Some(index) => Err(refusal(11, index)),
         None => Ok(()),
     }

@@ -10,10 +10,9 @@ use lib.ListN.{length, getD, take}
 use lib.IntN.{ℤ}
 use borrow.Author.Tests.{le-leb, lt-leb, le-ltb, lt-ltb}
 use Rattle.step.specs.Property.{Property, propertyOf}
-use Rattle.design.proofs.Widths.{bits-are as bits-by-bytes}
 use Rattle.design.specs.Tree.{Design, movers}
-use Rattle.design.specs.Check.{Checked, check, variableCount, matrixCount}
-use Rattle.design.specs.Places.{Accepted, EventsIndexed, CellsIndexed}
+use Rattle.design.specs.Check.{Checked, check}
+use Rattle.design.specs.Places.{Accepted, EventsIndexed, CellsIndexed, Measured, externalsFrom}
 use Rattle.design.specs.WellFormed.{WellFormed}
 use Rattle.design.proofs.WellFormed.{well-formed}
 use Rattle.design.specs.Sections.{Parts}
@@ -212,36 +211,16 @@ module _ (file : List ℕ) (s : FrameSizes) (p k : ℕ) (xs₀ : List ℤ) where
 
 -- what the writer of parts is given, from the tables that were made
 pub frame-ready : {file events cells : List ℕ} {shape : Shape} (p count : ℕ) (s : FrameSizes) → Accepted file → ((i : ℕ) → getD file i 0 < 256) → EventsIndexed file events → CellsIndexed file cells count → SmallFrame s
-    → ((d : Design) → check file ≡ Checked.accepted d → s ≡ frameSizes d (propertyOf d p))
-    → shape ≡ record { variables = variableCount file; matrices = matrixCount file; normals = count; externals = s .movers - count; bits = s .bits } → FrameReady file events cells shape s
+    → ((d : Design) → check file ≡ Checked.accepted d → s ≡ frameSizes d (propertyOf d p)) → Measured file count shape → FrameReady file events cells shape s
 unfolding w
-frame-ready {file} {events} {cells} {shape} p count s h bytes ei ci small sizes e =
-    let t = read file h in
-    let d = t .tree in
-    let wf = well-formed file bytes d (t .is) in
-    let N = numbers d (propertyOf d p) s wf (sizes d (t .is)) in
-    let many = mover-count file d (t .all .parts) in
-    let all = N .bits ∙ sym (bits-by-bytes file d (t .all .parts) (variableCount file) (matrixCount file) refl refl) in
-    subst (λ (z : Shape). FrameReady file events cells z s) (sym e) (record {
-      ready = record {
-        shaped = record {
-          accepted = h;
-          counts = record { variables = refl; matrices = refl };
-          externals = omega (arith, N .movers, many, ci .count);
-          bits = record { total = all; state = λ d w. all ∙ bits-by-bytes file d w (variableCount file) (matrixCount file) refl refl; few = small .bits };
-        };
-        events = ei;
-      };
-      bytes = bytes;
-      normals = ci;
-      small = small;
-      movers = omega (arith, N .movers, many, ci .count);
-    })
-
--- the normal cells are among the movers
-pub normals-few : {file cells : List ℕ} (p count : ℕ) (s : FrameSizes) → Accepted file → ((i : ℕ) → getD file i 0 < 256) → CellsIndexed file cells count → ((d : Design) → check file ≡ Checked.accepted d → s ≡ frameSizes d (propertyOf d p)) → count ≤ s .movers
-unfolding w
-normals-few {file} p count s h bytes ci sizes =
+frame-ready {file} {events} {cells} {shape} p count s h bytes ei ci small sizes m =
     let t = read file h in
     let N = numbers (t .tree) (propertyOf (t .tree) p) s (well-formed file bytes (t .tree) (t .is)) (sizes (t .tree) (t .is)) in
-    omega (arith, N .movers, mover-count file (t .tree) (t .all .parts), ci .count)
+    let raised = m .externals ∙ ap (λ (n : ℕ). length (externalsFrom file 0 n)) (m .shaped .variables) in
+    record {
+      ready = record { shaped = record { accepted = h; counts = m .shaped; externals = m .externals; bits = m .bits }; events = ei };
+      bytes = bytes;
+      normals = subst (CellsIndexed file cells) (sym (m .normals)) ci;
+      small = small;
+      movers = omega (arith, N .movers, mover-count file (t .tree) (t .all .parts), ci .count, m .normals, raised);
+    }

@@ -1,29 +1,24 @@
 // ENCODE, and the whole formula for VERDICT.
 ghost use mathlib.Core.Path.{_≡_};
-ghost use Prim.Native.Nat.{_+_, _-_, _≤_};
+ghost use Prim.Native.Nat.{_+_, _≤_};
 ghost use Rattle.step.specs.Property.{propertyOf};
 ghost use Rattle.design.specs.Tree.{Design};
-ghost use Rattle.design.specs.Check.{check, accepted, variableCount, matrixCount};
+ghost use Rattle.design.specs.Check.{check, accepted};
 ghost use Rattle.design.specs.Places.{Accepted};
 ghost use Rattle.step.specs.Limits.{lastProperty, maxBound};
-ghost use Rattle.clauses.specs.FrameSizes.{SmallFrame};
 ghost use Rattle.clauses.specs.Replies.{ENCODE};
 ghost use Rattle.clauses.specs.Ready.{Writable, Written};
-use super::frame::FrameSizes;
 use super::frame::part_words;
 use super::frame::sizes;
 use super::frame::variables;
 use super::instance::Instance;
 use super::part::put_part;
 use super::part::put_parts;
-use design::index::MATRICES;
-use design::index::VARIABLES;
 use design::index::index_cells;
 use design::index::index_events;
-use design::index::trailer_word;
+use design::index::shape;
 use design::limits::EVENT_PLACES;
 use design::limits::MAX_MOVERS;
-use design::shape::Shape;
 use step::gate::gate;
 
 pub enum EncodeReply {
@@ -35,20 +30,6 @@ pub enum EncodeReply {
 pub struct Formula {
     pub words: usize,
     pub variables: usize,
-}
-
-// The shape of an accepted design, of which the sizes of a frame and the number of normal cells are known.
-fn shape_in(file: &[u8], s: FrameSizes, normals: usize) -> Shape
-    requires { ⌜ Accepted (now file) × SmallFrame s × (normals ≤ s .movers) ⌝ }
-    ensures { λ r. ⌜ r ≡ record { variables = variableCount (now (file .entry)); matrices = matrixCount (now (file .entry)); normals = normals; externals = s .movers - normals; bits = s .bits } ⌝ }
-{
-    Shape {
-        variables: trailer_word(file, VARIABLES),
-        matrices: trailer_word(file, MATRICES),
-        normals: normals,
-        externals: s.movers as usize - normals,
-        bits: s.bits as usize,
-    }
 }
 
 // ENCODE on an accepted design, for a property, a bound and a part that are in range.
@@ -73,7 +54,7 @@ pub fn encode_accepted(
     let mut events = [0u16; EVENT_PLACES];
     index_events(file, &mut events);
     let mut cells = [0u16; MAX_MOVERS];
-    let shape = shape_in(file, s, index_cells(file, &mut cells));
+    let shape = shape(file, index_cells(file, &mut cells));
     let inst = Instance {
         shape: shape,
         sizes: s,
@@ -113,7 +94,7 @@ pub fn write_formula(file: &[u8], property: u64, bound: u64, clauses: &mut [i32]
     let mut events = [0u16; EVENT_PLACES];
     index_events(file, &mut events);
     let mut cells = [0u16; MAX_MOVERS];
-    let shape = shape_in(file, s, index_cells(file, &mut cells));
+    let shape = shape(file, index_cells(file, &mut cells));
     let inst = Instance {
         shape: shape,
         sizes: s,

@@ -26,6 +26,7 @@ use super::literal::negate;
 use design::bits::offset;
 use design::bytes::wide;
 use design::limits::EVENT_PLACES;
+use design::limits::EVENT_ROW;
 use design::limits::MAX_BITS;
 use design::shape::Shape;
 
@@ -55,7 +56,7 @@ pub fn status_and_event(
     let k = constant(wide(file[p + 1]) as u16);
     let q = equal(x, k, buf, pen.cur, pen.var);
     let e = wide(file[p + 2]);
-    let at = events[16 * m + e] as usize;
+    let at = events[EVENT_ROW * m + e] as usize;
     let v = encode_bool(
         file,
         file,

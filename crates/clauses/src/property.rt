@@ -17,7 +17,7 @@ use design::bytes::wide;
 use design::bytes::word;
 use design::index::CELLS;
 use design::index::CELLS_AT;
-use design::index::INVARIANT_AT;
+use design::index::invariant;
 use design::index::trailer_word;
 use design::limits::EVENT_PLACES;
 use design::limits::MAX_BITS;
@@ -101,8 +101,8 @@ pub fn encode_property(
     ensures { λ r. ⌜ ((d : Design) (parts : Parts (now (file .entry)) d) → PropertyGates (now (file .entry)) shape (now (bits .entry)) d property pen (now (buf .entry)) (now (buf .exit)) r) ⌝ }
 {
     if property == 0 {
-        let at = trailer_word(file, INVARIANT_AT);
-        let x = encode_bool(file, file, at, shape, bits, buf, pen);
+        let stands = invariant(file);
+        let x = encode_bool(file, file, stands.at, shape, bits, buf, pen);
         Out {
             lit: x.lit,
             cur: x.pen.cur,

@@ -16,7 +16,7 @@ use Rattle.design.specs.DesignFile.{events, at8, c-kind, c-past}
 use Rattle.design.specs.Check.{trailer, matricesOffset, matrixCount, eventsOffset, cellsOffset, cellCount}
 use Rattle.design.specs.Places.{Accepted, pastEvents, pastCells, eventsStart, eventPlace, normalsFrom, normalPlaces, EventsIndexed, CellsIndexed}
 use Rattle.design.proofs.Places.{read, event-stands, matrix-inside, events-few, normal-stands, cell-inside}
-use Rattle.design.specs.Limits.{maxMatrices, maxMovers, eventPlaces, maxEvents, trailerBytes}
+use Rattle.design.specs.Limits.{maxBytes, maxMatrices, maxMovers, eventPlaces, maxEvents, trailerBytes}
 
 less-or-same : (k i : ℕ) → k < i + 1 → (P : ℕ → Type 0) → (k < i → P k) → P i → P k
 less-or-same k i l P f p = ⊎-elim (λ e. subst P (sym e) p) f (eq-or-lt-of-le (let z : k ≤ i = omega arith in z))
@@ -25,7 +25,7 @@ less-or-same k i l P f p = ⊎-elim (λ e. subst P (sym e) p) f (eq-or-lt-of-le 
 module _ (file : List ℕ) (h : Accepted file) where
   pub record Bounds : Type 0 where
     pub long : trailerBytes ≤ length file
-    pub short : length file ≤ 16384
+    pub short : length file ≤ maxBytes
     pub matrices : matrixCount file ≤ maxMatrices
 
   pub bounds : Bounds

@@ -11,6 +11,7 @@ use super::bits::state_bits;
 use super::bytes::wide;
 use super::bytes::word;
 use super::limits::EVENT_PLACES;
+use super::limits::EVENT_ROW;
 use super::limits::MAX_MOVERS;
 use super::limits::TRAILER;
 use super::shape::Counts;
@@ -99,7 +100,7 @@ pub fn index_row(
     let mut p = at;
     let mut i = 0;
     while i < count {
-        table[16 * m + i] = p as u16;
+        table[EVENT_ROW * m + i] = p as u16;
         p = p + 1 + wide(file[p]);
         i = i + 1;
     }

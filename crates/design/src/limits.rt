@@ -22,8 +22,10 @@ pub const MAX_DEPTH: usize = 16;
 
 pub const MAX_NEST: usize = 4;
 
-// Places of events, 16 for a matrix.
-pub const EVENT_PLACES: usize = MAX_MATRICES * 16;
+// Places of a matrix's events in the table of events, MAX_EVENTS, and of all.
+pub const EVENT_ROW: usize = 16;
+
+pub const EVENT_PLACES: usize = MAX_MATRICES * EVENT_ROW;
 
 // Slots of a state, and their bits where every variable is an integer.
 pub const MAX_SLOTS: usize = MAX_VARIABLES + MAX_MATRICES;

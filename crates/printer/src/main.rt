@@ -3,14 +3,15 @@
 // Plain to read below: they are written in order. No contract can say what is written.
 use libc::STDIN_FILENO;
 use libc::STDOUT_FILENO;
+use text::input::MAX_READ;
 use text::listing::MAX_TEXT;
 use text::listing::MAX_WORDS;
 use text::listing::PartRange;
 use text::listing::parts_of;
 use text::listing::put_part_of;
 
-// Two bytes, and 16,385 bytes of a design: what is past them is not read.
-const MAX_INPUT: usize = 16387;
+// Two bytes, and a design: what is past them is not read.
+const MAX_INPUT: usize = 2 + MAX_READ;
 
 fn find_parts(input: &[u8]) -> PartRange {
     let mut words = [0i32; MAX_WORDS];

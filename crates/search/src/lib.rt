@@ -17,6 +17,9 @@ use run::run as run_turns;
 use words::Spot;
 use words::bad_word;
 
+// A word names a variable by an i32.
+const MAX_VARIABLE: u64 = 2147483647;
+
 // The search's answer.
 pub enum Answered {
     Sat,
@@ -55,7 +58,7 @@ pub fn search(words: &[i32], values: &mut [u8], trail: &mut [u32], budget: u64) 
 pub fn solve(n: u64, words: &[i32], values: &mut [u8], trail: &mut [u32], budget: u64) -> Reply
     ensures { λ r. ⌜ record { reply = r; values = now (values .exit); trail = now (trail .exit) } ≡ solveOf n (now (words .entry)) (now (values .entry)) (now (trail .entry)) budget ⌝ }
 {
-    if n > 2147483647 {
+    if n > MAX_VARIABLE {
         return Reply::Refused {
             number: 17,
             place: 0,

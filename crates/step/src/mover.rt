@@ -19,6 +19,7 @@ use design::bytes::wide;
 use design::bytes::word;
 use design::index::external;
 use design::limits::EVENT_PLACES;
+use design::limits::EVENT_ROW;
 use design::limits::MAX_MOVERS;
 use design::limits::MAX_NEST;
 use design::shape::Shape;
@@ -35,7 +36,7 @@ pub fn event_true(
     requires { ⌜ ReadyState (now file) (now events) shape (now slots) × (m < shape .matrices) × (e < eventCount (now file) (matricesOffset (now file)) m) ⌝ }
     ensures { λ r. ⌜ ((d : Design) (parts : Parts (now (file .entry)) d) → r ≡ evalBool (layoutOf shape) (now (slots .entry)) (eventIn (parts .rows) m e)) ⌝ }
 {
-    let at = events[16 * m + e] as usize;
+    let at = events[EVENT_ROW * m + e] as usize;
     let past = at + 1 + wide(file[at]);
     let x = eval_bool(file, at + 1, past, shape, slots);
     x.value

@@ -2,7 +2,7 @@
 use mathlib.Core.Path.{_≡_, refl}
 use mathlib.Core.Bool.{Bool, true, false, cond, _&&_}
 use mathlib.Core.List.{List, [], _∷_, _++_}
-use Prim.Native.Nat.{ℕ, zero, suc, _+_}
+use Prim.Native.Nat.{ℕ, zero, suc, _+_, _*_}
 use lib.Dec.{leb}
 use lib.IntN.{ℤ, pos, negsuc}
 use lib.ListN.{length, getD, take, drop}
@@ -34,10 +34,14 @@ two-lines = refl
 abbrev pub maxWords : ℕ
 maxWords = 16384
 
+-- no part's text is longer: a word and what parts it from the next take 22 bytes at most
+abbrev pub maxPartText : ℕ
+maxPartText = 22 * maxWords
+
 -- no part is, of so many from part i on
 unfoldable pub noneOver : Design → Property → ℕ → ℕ → ℕ → Bool
-noneOver d p k zero i = true
-noneOver d p k (suc m) i = leb (length (words (part d p k i))) maxWords && noneOver d p k m (suc i)
+noneOver d q k zero i = true
+noneOver d q k (suc m) i = leb (length (words (part d q k i))) maxWords && noneOver d q k m (suc i)
 
 -- the words that are printed: all parts, 0 to k + 2, which joined are the formula
 -- "It refuses likewise; a part over 16,384 words gives `refused 16 at 0` and nothing else."

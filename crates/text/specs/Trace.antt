@@ -6,6 +6,7 @@ use Prim.Native.Nat.{ℕ, suc, _+_}
 use lib.Dec.{eqb, leb}
 use lib.IntN.{pos}
 use lib.ListN.{length, getD, take, drop}
+use Rattle.design.specs.Limits.{maxBytes}
 use Rattle.design.specs.Tree.{Design}
 use Rattle.design.specs.State.{State, layout, statusesIn, start}
 use Rattle.design.specs.Check.{Checked, refused, accepted, check, checking}
@@ -53,7 +54,7 @@ trace file p cs = traced (check file) (REPLAY file p cs) p cs
 
 -- "Design bytes past the first 16,385 are not read."
 abbrev pub maxRead : ℕ
-maxRead = 16385
+maxRead = maxBytes + 1
 
 -- "Replay reads property byte, count byte, choices, design."
 -- "An input too short for the bytes before the design gives `refused 1 at 0`."

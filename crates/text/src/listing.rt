@@ -5,7 +5,7 @@ ghost use lib.IntN.{pos};
 ghost use lib.ListN.{length, getD};
 ghost use Rattle.clauses.specs.Encode.{wordsToWrite};
 ghost use Rattle.text.specs.Text.{TextWritten};
-ghost use Rattle.text.specs.Listing.{wordText, wordsText, wordsToPrint, printed, isRefused, clausesText, partText, partOfInput, joined};
+ghost use Rattle.text.specs.Listing.{maxWords, maxPartText, wordText, wordsText, wordsToPrint, printed, isRefused, clausesText, partText, partOfInput, joined};
 use super::input::design_end;
 use super::number::put_byte;
 use super::number::put_signed;
@@ -18,7 +18,7 @@ use search::words::ends;
 pub const MAX_WORDS: usize = 16384;
 
 // Its text: 22 bytes for a word.
-pub const MAX_TEXT: usize = 360448;
+pub const MAX_TEXT: usize = 22 * MAX_WORDS;
 
 // The parts that are printed: from first up to end.
 pub struct PartRange {
@@ -61,8 +61,8 @@ fn put_part(
     words: &mut [i32],
     out: &mut [u8],
 ) -> usize
-    requires { ⌜ (length (now words) ≡ 16384) × (360448 ≤ length (now out)) ⌝ }
-    ensures { λ r. ⌜ TextWritten (partText (now (file .entry)) property bound part) (now (out .entry)) (now (out .exit)) 0 r × (r ≤ 360448) ⌝ }
+    requires { ⌜ (length (now words) ≡ maxWords) × (maxPartText ≤ length (now out)) ⌝ }
+    ensures { λ r. ⌜ TextWritten (partText (now (file .entry)) property bound part) (now (out .entry)) (now (out .exit)) 0 r × (r ≤ maxPartText) ⌝ }
 {
     match encode(file, property as u64, bound as u64, part, words) {
         EncodeReply::Refused { number, place } => put_refusal(out, number, place),
@@ -88,7 +88,7 @@ fn refuses(file: &[u8], property: u8, bound: u8, part: u64, words: &mut [i32]) -
 
 // All parts, or the first that is refused.
 fn printed_parts(file: &[u8], property: u8, bound: u8, words: &mut [i32]) -> PartRange
-    requires { ⌜ length (now words) ≡ 16384 ⌝ }
+    requires { ⌜ length (now words) ≡ maxWords ⌝ }
     ensures { λ r. ⌜ printed (wordsToPrint (now (file .entry)) property bound) ≡ joined (partText (now (file .entry)) property bound) (r .end - r .first) (r .first) ⌝ }
 {
     let end = (bound as u64) + 3;
@@ -107,7 +107,7 @@ fn printed_parts(file: &[u8], property: u8, bound: u8, words: &mut [i32]) -> Par
 
 // The parts whose texts, one after the other, are all that is printed for the input.
 pub fn parts_of(input: &[u8], words: &mut [i32]) -> PartRange
-    requires { ⌜ length (now words) ≡ 16384 ⌝ }
+    requires { ⌜ length (now words) ≡ maxWords ⌝ }
     ensures { λ r. ⌜ clausesText (now (input .entry)) ≡ joined (partOfInput (now (input .entry))) (r .end - r .first) (r .first) ⌝ }
 {
     if input.len() < 2 {
@@ -119,8 +119,8 @@ pub fn parts_of(input: &[u8], words: &mut [i32]) -> PartRange
 
 // The text of one of these parts, at the front.
 pub fn put_part_of(input: &[u8], part: u64, words: &mut [i32], out: &mut [u8]) -> usize
-    requires { ⌜ (length (now words) ≡ 16384) × (360448 ≤ length (now out)) ⌝ }
-    ensures { λ r. ⌜ TextWritten (partOfInput (now (input .entry)) part) (now (out .entry)) (now (out .exit)) 0 r × (r ≤ 360448) ⌝ }
+    requires { ⌜ (length (now words) ≡ maxWords) × (maxPartText ≤ length (now out)) ⌝ }
+    ensures { λ r. ⌜ TextWritten (partOfInput (now (input .entry)) part) (now (out .entry)) (now (out .exit)) 0 r × (r ≤ maxPartText) ⌝ }
 {
     if input.len() < 2 {
         return put_refusal(out, 1, 0);

@@ -5,7 +5,7 @@ mod formula;
 pub mod timing;
 
 use entries::{stm_check, stm_holds, stm_replay, stm_solve, stm_start, stm_step};
-use reference::design::Refusal;
+use reference::design::{Refusal, MAX_MATRICES, MAX_VARIABLES};
 use reference::operations::{Answer, Operations};
 use reference::query::Query;
 use reference::search::{Outcome, Solved};
@@ -30,13 +30,13 @@ fn answered<T>(code: u64, done: impl FnOnce() -> T) -> Answer<T> {
 /// A state as the entries take it, with statuses of 16 bits.
 #[derive(Clone, Copy, Debug, PartialEq, Eq)]
 pub struct Lent {
-    pub values: [i16; 32],
-    pub statuses: [u16; 8],
+    pub values: [i16; MAX_VARIABLES],
+    pub statuses: [u16; MAX_MATRICES],
 }
 
 impl Lent {
     /// What stands in lent memory before START; a refused call must leave it.
-    pub const FILLED: Lent = Lent { values: [-77; 32], statuses: [777; 8] };
+    pub const FILLED: Lent = Lent { values: [-77; MAX_VARIABLES], statuses: [777; MAX_MATRICES] };
 
     fn of(state: &State) -> Lent {
         Lent { values: state.values, statuses: state.statuses.map(u16::from) }

@@ -3,10 +3,10 @@
 use super::files::{any_design, any_file, design_to_encode, small_design};
 use super::near::{affordable_bound, budget_near, exact_tries, length_near, MAX_TRIES};
 use super::trees::number;
-use crate::design::{Design, Kind};
+use crate::design::{Design, Kind, MAX_MATRICES, MAX_VARIABLES};
 use crate::formula::Formula;
 use crate::protocol::{hex, list_text};
-use crate::query::Query;
+use crate::query::{Query, MAX_BOUND, MAX_PROPERTY};
 use crate::random::Random;
 use crate::step::State;
 
@@ -60,7 +60,7 @@ pub fn encode(random: &mut Random) -> String {
     let (design, file) = design_to_encode(random);
     let (property, bound) = (any_property(random), any_bound(random));
     let part = any_part(random, bound);
-    let words = if property > 1 || bound > 100 || part > bound + 2 {
+    let words = if property > MAX_PROPERTY || bound > MAX_BOUND || part > bound + 2 {
         random.between(0, 20) as u64
     } else {
         Formula::new(Query::new(&design, property), bound).part_count(part).words
@@ -134,7 +134,7 @@ fn property_byte(random: &mut Random) -> u64 {
 fn any_bound(random: &mut Random) -> u64 {
     match random.below(10) {
         0..=7 => random.between(0, 5) as u64,
-        8 => random.pick(&[99, 100]),
+        8 => random.pick(&[MAX_BOUND - 1, MAX_BOUND]),
         _ => far_bound(random),
     }
 }
@@ -144,7 +144,7 @@ fn far_bound(random: &mut Random) -> u64 {
     if random.chance(40) {
         random.pick(&OVER_A_BYTE)
     } else {
-        random.pick(&[100, 101, 255])
+        random.pick(&[MAX_BOUND, MAX_BOUND + 1, 255])
     }
 }
 
@@ -199,7 +199,7 @@ fn state_fields(random: &mut Random, design: &Design) -> String {
 
 /// A state of the design, often at the place of one of its cells.
 fn any_state(random: &mut Random, design: &Design) -> State {
-    let mut state = State { values: [0; 32], statuses: [0; 8] };
+    let mut state = State::ZERO;
     for (value, variable) in state.values.iter_mut().zip(&design.variables) {
         *value = match variable.kind {
             Kind::Integer => number(random),
@@ -218,12 +218,12 @@ fn any_state(random: &mut Random, design: &Design) -> State {
 
 fn state_fault(random: &mut Random, design: &Design, state: &mut State) {
     if random.chance(50) {
-        let at = random.below(32);
+        let at = random.below(MAX_VARIABLES);
         let integer = design.variables.get(at).is_some_and(|v| v.kind == Kind::Integer);
         state.values[at] = if integer { number(random) } else { random.pick(&[1, 2, -1, 256]) };
         return;
     }
-    let at = random.below(8);
+    let at = random.below(MAX_MATRICES);
     let statuses = design.matrices.get(at).map_or(1, |m| m.statuses);
     state.statuses[at] = random.pick(&[statuses - 1, statuses, statuses + 1, 255]);
 }

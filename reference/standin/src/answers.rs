@@ -1,6 +1,6 @@
 //! What each entry answers. A refused call writes nothing.
 
-use reference::design::Refusal;
+use reference::design::{Refusal, MAX_MATRICES, MAX_VARIABLES};
 use reference::operations::{Answer, Operations, Reference};
 use reference::query::Query;
 use reference::search::Outcome;
@@ -23,7 +23,7 @@ fn code<T>(answer: Answer<T>, done: impl FnOnce(T)) -> u64 {
 }
 
 /// A state as it is lent; a status over 255 is refused like 255, which no design has either.
-fn state(values: &[i16; 32], statuses: &[u16; 8]) -> State {
+fn state(values: &[i16; MAX_VARIABLES], statuses: &[u16; MAX_MATRICES]) -> State {
     State { values: *values, statuses: statuses.map(|s| s.min(255) as u8) }
 }
 
@@ -31,7 +31,7 @@ pub fn stm_check(design: &[u8]) -> u64 {
     code(Reference.check(design), |()| ())
 }
 
-pub fn stm_start(design: &[u8], values: &mut [i16; 32], statuses: &mut [u16; 8]) -> u64 {
+pub fn stm_start(design: &[u8], values: &mut [i16; MAX_VARIABLES], statuses: &mut [u16; MAX_MATRICES]) -> u64 {
     code(Reference.start(design), |first| {
         *values = first.values;
         *statuses = first.statuses.map(u16::from);
@@ -40,8 +40,8 @@ pub fn stm_start(design: &[u8], values: &mut [i16; 32], statuses: &mut [u16; 8])
 
 pub fn stm_step(
     design: &[u8],
-    values: &mut [i16; 32],
-    statuses: &mut [u16; 8],
+    values: &mut [i16; MAX_VARIABLES],
+    statuses: &mut [u16; MAX_MATRICES],
     choice: u64,
     idle: &mut [u8; 1],
 ) -> u64 {
@@ -55,8 +55,8 @@ pub fn stm_step(
 
 pub fn stm_holds(
     design: &[u8],
-    values: &[i16; 32],
-    statuses: &[u16; 8],
+    values: &[i16; MAX_VARIABLES],
+    statuses: &[u16; MAX_MATRICES],
     property: u64,
     holds: &mut [u8; 1],
 ) -> u64 {

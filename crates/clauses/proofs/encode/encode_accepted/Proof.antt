@@ -1,6 +1,6 @@
 use native.Mathlib.Omega.{arith}
 use Rattle.clauses.proofs.EncodeCall.{encode-short, encode-done}
-use Rattle.clauses.proofs.EmitFormula.{frame-ready, normals-few}
+use Rattle.clauses.proofs.EmitFormula.{frame-ready}
 use borrow.Author.Needs.{needs}
 use Rattle.clauses.proofs.encode.encode_accepted.Statement.{statement}
 use Rattle.clauses.proofs.encode.encode_accepted.Tie as tie
@@ -28,18 +28,8 @@ index-events-requires c κs = search needs
 index-cells-requires : tie.Need-index-cells-requires
 index-cells-requires c κs = search needs
 
-shape-in-requires : tie.Need-shape-in-requires
-shape-in-requires c κs =
-    let at-sizes = c .before .before .before .before .before .before in
-    let entry = at-sizes .before .before in (
-      entry .pre .0,
-      at-sizes .sizes .ensures .0,
-      normals-few _ _ _ (entry .pre .0) (λ i. omega (
-        arith,
-        c .before .before .before .before .before .before
-            .before .shared-slice-known .given i,
-      )) (c .index-cells .ensures) (at-sizes .sizes .ensures .1),
-    )
+shape-requires : tie.Need-shape-requires
+shape-requires c κs = search needs
 
 put-part-requires : tie.Need-put-part-requires
 put-part-requires c κs =
@@ -48,7 +38,7 @@ put-part-requires c κs =
     let entry = at-shared-slice-known .before in (
       frame-ready _ _ _ (entry .pre .0) (λ i. omega (arith, at-shared-slice-known .shared-slice-known .given i)) (c .before .before .before .before .before
           .before .index-events .ensures) (c .before .before .before .before .index-cells .ensures) (at-sizes .sizes .ensures .0) (at-sizes .sizes
-          .ensures .1) (c .before .before .before .shape-in .ensures),
+          .ensures .1) (c .before .before .before .shape .ensures),
       entry .pre .2,
       entry .pre .3,
     )
@@ -78,7 +68,7 @@ encode-accepted-spec =
     returns
     index-events-requires
     index-cells-requires
-    shape-in-requires
+    shape-requires
     put-part-requires
     same-length
     returns-2)

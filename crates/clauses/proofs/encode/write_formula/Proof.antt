@@ -1,6 +1,6 @@
 use native.Mathlib.Omega.{arith}
 use Rattle.clauses.proofs.EncodeCall.{formula-written, writable-accepted}
-use Rattle.clauses.proofs.EmitFormula.{frame-ready, normals-few}
+use Rattle.clauses.proofs.EmitFormula.{frame-ready}
 use borrow.Author.Needs.{needs}
 use Rattle.clauses.proofs.encode.write_formula.Statement.{statement}
 use Rattle.clauses.proofs.encode.write_formula.Tie as tie
@@ -16,18 +16,8 @@ index-events-requires c κs = ((writable-accepted (c .before .before .before .pr
 index-cells-requires : tie.Need-index-cells-requires
 index-cells-requires c κs = ((writable-accepted (c .before .before .before .before .before .pre)), search needs)
 
-shape-in-requires : tie.Need-shape-in-requires
-shape-in-requires c κs =
-    let at-sizes = c .before .before .before .before in
-    let entry = at-sizes .before .before in (
-      (writable-accepted (entry .pre)),
-      at-sizes .sizes .ensures .0,
-      normals-few _ _ _ (writable-accepted (entry .pre)) (λ i. omega (
-        arith,
-        c .before
-            .before .before .before .before .shared-slice-known .given i,
-      )) (c .index-cells .ensures) (at-sizes .sizes .ensures .1),
-    )
+shape-requires : tie.Need-shape-requires
+shape-requires c κs = writable-accepted (c .before .before .before .before .before .before .pre)
 
 put-parts-requires : tie.Need-put-parts-requires
 put-parts-requires c κs =
@@ -36,7 +26,7 @@ put-parts-requires c κs =
     let entry = at-shared-slice-known .before in (
       frame-ready _ _ _ (writable-accepted (entry .pre)) (λ i. omega (arith, at-shared-slice-known .shared-slice-known .given i)) (c .before .before
           .before .before .before .before .index-events .ensures) (c .before .before .before .before .index-cells .ensures) (at-sizes .sizes .ensures
-          .0) (at-sizes .sizes .ensures .1) (c .before .before .before .shape-in .ensures),
+          .0) (at-sizes .sizes .ensures .1) (c .before .before .before .shape .ensures),
       entry .pre .bound,
     )
 
@@ -61,7 +51,7 @@ write-formula-spec =
     sizes-requires
     index-events-requires
     index-cells-requires
-    shape-in-requires
+    shape-requires
     put-parts-requires
     variables-requires
     same-length

@@ -9,13 +9,13 @@ use Rattle.clauses.proofs.property.encode_property.Tie as tie
 use Rattle.clauses.proofs.property.encode_property.Reads as reads
 use Rattle.clauses.proofs.property.encode_property.Lts as lts
 
-trailer-word-requires : tie.Need-trailer-word-requires
-trailer-word-requires c κs = omega (arith, sizes (c .before .before .pre .0 .shaped))
+invariant-requires : tie.Need-invariant-requires
+invariant-requires c κs = omega (arith, sizes (c .before .before .pre .0 .shaped))
 
 encode-bool-requires : tie.Need-encode-bool-requires
 encode-bool-requires c κs =
     let entry = c .before .before .before .before .before in
-    (slotted (entry .pre .0 .shaped) _ (entry .pre .1), invariant-here (entry .pre .0 .shaped) _ (c .before .before .trailer-word .ensures .0))
+    (slotted (entry .pre .0 .shaped) _ (entry .pre .1), invariant-here (entry .pre .0 .shaped) _ (c .before .before .invariant .ensures .0))
 
 encode-invalid-requires : tie.Need-encode-invalid-requires
 encode-invalid-requires c κs = c .before .before .before .pre
@@ -26,7 +26,7 @@ same-length c = search needs
 returns : tie.Need-returns
 returns c =
     let entry = c .before .before .before .before .before .before .before in
-    invariant-writes (entry .pre .0 .shaped) _ _ (c .before .before .before .before .trailer-word .ensures .0) (c .before .before .before .before .before
+    invariant-writes (entry .pre .0 .shaped) _ _ (c .before .before .before .before .invariant .ensures .0) (c .before .before .before .before .before
     .if1 .taken) (entry .args .bits .now) (c .before .encode-bool .result) (c .before .encode-bool .ensures)
 
 same-length-2 : tie.Need-same-length-2
@@ -42,7 +42,7 @@ pub encode-property-spec : {M : Type 1} → statement M
 encode-property-spec =
     tie.close
     (tie.spec
-    trailer-word-requires
+    invariant-requires
     encode-bool-requires
     encode-invalid-requires
     same-length
