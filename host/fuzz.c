@@ -173,6 +173,7 @@ static void require(int true_, const char *call, const char *what, uint64_t code
 
 /* Designs: the given files, and the one under test, whole or damaged. */
 enum { MAX_FILES = 64, MAX_DESIGN = 20000 };
+enum { MAX_PROPERTY = 1, MAX_BOUND = 100 };
 static uint8_t *files[MAX_FILES];
 static size_t file_lens[MAX_FILES], file_count;
 static uint8_t draft[MAX_DESIGN + 512];
@@ -301,7 +302,7 @@ static void next_design(void)
 /* What a call with a property and a bound is refused for, before its own reasons. */
 static uint64_t first_refusal(uint64_t property, uint64_t bound)
 {
-    return design_code ? design_code : property > 1 ? 13 : bound > 100 ? 14 : 0;
+    return design_code ? design_code : property > MAX_PROPERTY ? 13 : bound > MAX_BOUND ? 14 : 0;
 }
 
 /* A number over a byte. Cut to one, most of them would be taken. */
@@ -440,7 +441,7 @@ static void call_replay(void)
     keep(ANSWER);
     uint64_t code = stm_replay(design, design_len, property, choices, len, answer);
     ended("replay", code, SET(DESIGN) | SET(CHOICES), SET(ANSWER));
-    uint64_t first = first_refusal(property, len > 100 ? 101 : 0);
+    uint64_t first = first_refusal(property, len);
     require(!first || code == first, "replay", "not the first refusal", code);
     require(first || code == 0 || (STM_NUMBER(code) == 12 && STM_PLACE(code) < len), "replay", "no such refusal", code);
     require(code || (answer[0] <= 1 && answer[1] <= len), "replay", "no such step", answer[1]);

@@ -14,7 +14,7 @@ use Rattle.design.specs.Reading.{Read, got, bad, bind}
 use Rattle.design.specs.Expression.{Names, intExpr, boolExpr}
 use Rattle.step.specs.Accepted.{isRead, past}
 use Rattle.step.proofs.Accepted.{two, three}
-use Rattle.step.proofs.Values.{arithmeticOf, logicOf, compareOf, i-two, b-one, b-logic, b-compare, int-constant, int-variable, int-status, bool-constant, bool-variable, int-second, logic-second, compare-second}
+use Rattle.step.proofs.Values.{arithmeticOf, logicOf, compareOf, int-forward, bool-forward, i-two, b-one, b-logic, b-compare, int-constant, int-variable, int-status, bool-constant, bool-variable, int-second, logic-second, compare-second}
 use Rattle.clauses.specs.Cost.{Cost, cost, addCosts, intCost, boolCost}
 use Rattle.clauses.specs.FrameSizes.{gatesAt, both}
 use Rattle.clauses.specs.declared.cost.GatesAt.{GatesAt}
@@ -114,6 +114,9 @@ module _ (text : List ℕ) (N : Names) (end d at : ℕ) where
   BoolLeaf n = (n ≤ end) × (gates 0 0 n ≡ gatesAt boolCost (B d at))
 
   module _ (h : isRead (I d at) ≡ true) where
+    pub int-next : (r : GatesAt) → r ≡ gatesAt intCost (I d at) → at ≤ r .next
+    int-next r e = int-forward text N end d at (r .next) h (gates-past intCost (I d at) r e)
+
     pub int-number : op ≡ 0x01 → IntLeaf (at + 3)
     unfolding intCost
     int-number e = let k = int-constant text N end d at h e in (omega (arith, k .0), no-gates intCost (I d at) _ _ (at + 3) (k .1) refl (omega arith))
@@ -135,6 +138,9 @@ module _ (text : List ℕ) (N : Names) (end d at : ℕ) where
         two-gates (arithmeticOf op) intCost intCost intCost 48 32 (arithmetic-cost (eqb op 0x04)) (I (d - 1) (at + 1)) (I (d - 1)) (sym (ap isRead q) ∙ h) r s e k ∙ sym (ap (gatesAt intCost) q)
 
   module _ (h : isRead (B d at) ≡ true) where
+    pub bool-next : (r : GatesAt) → r ≡ gatesAt boolCost (B d at) → at ≤ r .next
+    bool-next r e = bool-forward text N end d at (r .next) h (gates-past boolCost (B d at) r e)
+
     pub bool-name : 0x10 ≤ op → op < 0x12 → BoolLeaf (at + 2)
     unfolding boolCost
     bool-name p q =

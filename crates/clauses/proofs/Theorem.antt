@@ -2,26 +2,22 @@
 use mathlib.Core.Path.{_≡_}
 use mathlib.Core.Bool.{true}
 use mathlib.Core.List.{List, _++_}
-use Prim.Native.Nat.{ℕ, _-_, _<_, _≤_}
+use Prim.Native.Nat.{ℕ, _-_, _<_}
 use native.Mathlib.Omega.{arith}
-use lib.ListN.{length, getD, drop, replicate, length-append, length-replicate}
-use borrow.Author.Tests.{le-leb}
+use lib.ListN.{length, getD, replicate, length-append, length-replicate}
 use Rattle.design.specs.Tree.{Design, movers}
 use Rattle.design.specs.Check.{Checked, check}
 use Rattle.design.specs.WellFormed.{WellFormed}
 use Rattle.design.proofs.WellFormed.{well-formed}
 use Rattle.step.specs.Property.{Property, propertyOf, PropertyOk}
 use Rattle.step.specs.OneStep.{breaks}
-use Rattle.step.specs.Gate.{gate}
 use Rattle.step.specs.Breaking.{Breaking, Breakable}
 use Rattle.step.proofs.Properties.{property-ok}
 use Rattle.clauses.specs.Meaning.{Assignment, satisfies, Satisfiable}
 use Rattle.clauses.specs.Words.{words}
 use Rattle.clauses.specs.Formula.{w, n, formula, choices}
-use Rattle.design.specs.Answer.{answer, onDesign}
-use Rattle.step.specs.Limits.{lastProperty, maxBound}
-use Rattle.clauses.specs.Theorem.{Stored, Theorem}
-use Rattle.clauses.specs.Decode.{choicesToWrite, decode}
+use Rattle.clauses.specs.Theorem.{Theorem}
+use Rattle.clauses.specs.Decode.{decode}
 use Rattle.clauses.proofs.Models.{decodes-long, decodes-movers, decodes-breaks, decodes-once, is-decoded}
 use Rattle.clauses.proofs.Within.{formula-within, words-back}
 use Rattle.clauses.proofs.Decoding.{decode-chooses}
@@ -67,19 +63,3 @@ module _ (d : Design) (wf : WellFormed d) (p : Property) (ok : PropertyOk d p) (
 -- so of every accepted file, whose entries are bytes
 pub theorem-of-file : (file : List ℕ) → ((i : ℕ) → getD file i 0 < 256) → (d : Design) → check file ≡ Checked.accepted d → (p k : ℕ) → Theorem d (propertyOf d p) k
 theorem-of-file file bytes d e p k = let wf = well-formed file bytes d e in theorem d wf (propertyOf d p) (property-ok d wf p) k
-
--- "DECODE, if not refused, writes them": on the values of a satisfying assignment it is not refused.
-pub decode-writes : (file : List ℕ) (d : Design) → WellFormed d → check file ≡ Checked.accepted d → (p k : ℕ) → p ≤ lastProperty → k ≤ maxBound
-    → (ρ : Assignment) (values buffer : List ℕ) → satisfies ρ (formula d (propertyOf d p) k) ≡ true → Stored (n d (propertyOf d p) k) ρ values → k ≤ length buffer
-    → decode file p k values buffer ≡ record { answer = answer tt; choices = choices d (propertyOf d p) ρ k ++ drop k buffer }
-unfolding decode choicesToWrite gate onDesign
-decode-writes file d wf e p k hp hk ρ values buffer s h l =
-    rw (
-      e,
-      le-leb p lastProperty hp,
-      le-leb k maxBound hk,
-      le-leb (n d (propertyOf d p) k) (length values) (h .long),
-      le-leb k (length buffer) l,
-      decode-chooses d wf (propertyOf d p) (property-ok d wf p) ρ values k s (h .long) (h .value),
-      decodes-long d wf (propertyOf d p) (property-ok d wf p) k ρ,
-    )

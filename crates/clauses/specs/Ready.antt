@@ -27,7 +27,7 @@ use Rattle.step.specs.Limits.{lastProperty, maxBound}
 use Rattle.clauses.specs.declared.gate.Cursor.{Cursor}
 use Rattle.clauses.specs.declared.gate.Out.{Out}
 use Rattle.clauses.specs.declared.mover.Moved.{Moved}
-use Rattle.clauses.specs.declared.movers.Stepped.{Stepped}
+use Rattle.clauses.specs.declared.movers.StepOut.{StepOut}
 use Rattle.clauses.specs.declared.frame.FrameSizes.{FrameSizes}
 use Rattle.clauses.specs.declared.instance.Instance.{Instance}
 
@@ -60,7 +60,7 @@ module _ (file : List ℕ) (shape : Shape) (codes : List ℕ) where
   abbrev pub Moves : Mover → Cursor → List ℤ → List ℤ → Moved → Type 0
   Moves m pen xs ys r = Emits (pen .var) (mover! (layoutOf shape) (slotsOf file shape codes) m (pen .var)) xs ys (pen .cur) (resultFrom file shape (r .first)) (r .cur) (r .var)
 
-  abbrev pub AllMove : Cursor → List ℤ → List ℤ → Stepped → Type 0
+  abbrev pub AllMove : Cursor → List ℤ → List ℤ → StepOut → Type 0
   AllMove pen xs ys r =
       (d : Design) (parts : Parts file d) → Writes pen (movers! (layoutOf shape) (slotsOf file shape codes) (movers d)) xs ys (map (resultFrom file shape) (take (shape .normals + shape .externals) (r .firsts))) (r .pen)
 

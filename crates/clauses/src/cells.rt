@@ -21,7 +21,7 @@ use design::index::CELLS;
 use design::index::CELLS_AT;
 use design::index::trailer_word;
 use design::limits::EVENT_PLACES;
-use design::limits::MAX_DEPTH;
+use design::limits::EVENT_ROW;
 use design::limits::MAX_NEST;
 use design::shape::Shape;
 
@@ -36,9 +36,9 @@ pub fn size_event(
     requires { ⌜ Ready (now file) (now events) shape × (m < shape .matrices) × (e < eventCount (now file) (matricesOffset (now file)) m) ⌝ }
     ensures { λ r. ⌜ FewGates textGates r × ((d : Design) (parts : Parts (now (file .entry)) d) → HasGates r (boolCost (eventIn (parts .rows) m e))) ⌝ }
 {
-    let at = events[16 * m + e] as usize;
+    let at = events[EVENT_ROW * m + e] as usize;
     let past = at + 1 + wide(file[at]);
-    size_bool(file, at + 1, past, shape, MAX_DEPTH)
+    size_bool(file, at + 1, past, shape)
 }
 
 // Status and event of a cell: equal, the event, and an and.
@@ -65,7 +65,7 @@ pub fn size_guard(file: &[u8], shape: Shape, p: usize) -> GatesAt
     if n == 0 {
         return no_gates(p);
     }
-    size_bool(file, p + 8, p + 8 + n, shape, MAX_DEPTH)
+    size_bool(file, p + 8, p + 8 + n, shape)
 }
 
 // The mover of a normal cell: enable, the action, and a mux for each of the state's bits.

@@ -1,7 +1,9 @@
 // How many gates expressions and actions have, over the bytes: a decision over the operator byte, with ranges for operators of one shape.
-// In every function: what is read stands in the file at `at`, does not pass `end`, and the reader accepts it.
+// In every function: what is read starts at `at`, does not pass `end`, and the reader accepts it. An expression stands in `text`; the reader has
+// seen its variables' kinds, in whatever file they stand, and its depth: neither is needed again. A statement stands in the file that has the kinds.
 ghost use mathlib.Core.Path.{_≡_};
 ghost use mathlib.Core.Bool.{true};
+ghost use mathlib.Core.List.{List};
 ghost use Prim.Native.Nat.{ℕ, _+_, _*_, _≤_, _<_};
 ghost use lib.ListN.{length};
 ghost use Rattle.design.specs.Limits.{maxBytes, maxBits};
@@ -12,7 +14,6 @@ ghost use Rattle.step.specs.Accepted.{isRead};
 ghost use Rattle.clauses.specs.Cost.{intCost, boolCost};
 ghost use Rattle.clauses.specs.FrameSizes.{noGates, gatesAt, both, stmtGates, listGates};
 use design::bytes::wide;
-use design::limits::MAX_DEPTH;
 use design::shape::Shape;
 
 // Gates by kind, and the position past what they are built from. `wides` are xors and muxes.
@@ -46,17 +47,18 @@ pub fn join(a: GatesAt, b: GatesAt, ands: u64, wides: u64) -> GatesAt
 }
 
 // The integer expression at `at`.
-pub fn size_int(file: &[u8], at: usize, end: usize, shape: Shape, depth: usize) -> GatesAt
-    requires { ⌜ (isRead (intExpr (now file) (namesOf (now file) shape) end depth at) ≡ true) × (end ≤ length (now file)) × (end ≤ maxBytes) ⌝ }
-    ensures { λ r. ⌜ r ≡ gatesAt intCost (intExpr (now (file .entry)) (namesOf (now (file .entry)) shape) end depth at) ⌝ }
+pub fn size_int(text: &[u8], at: usize, end: usize, shape: Shape) -> GatesAt
+    requires { ⌜ ((file : List ℕ) × (depth : ℕ) × (isRead (intExpr (now text) (namesOf file shape) end depth at) ≡ true)) × (end ≤ length (now text)) × (end ≤ maxBytes) ⌝ }
+    ensures { λ r. ⌜ ((file : List ℕ) (depth : ℕ) → isRead (intExpr (now (text .entry)) (namesOf file shape) end depth at) ≡ true
+        → r ≡ gatesAt intCost (intExpr (now (text .entry)) (namesOf file shape) end depth at)) ⌝ }
 {
-    let op = file[at];
+    let op = text[at];
     match op {
         0x01 => no_gates(at + 3),
         0x02..=0x03 => no_gates(at + 2),
         0x04..=0x05 => {
-            let a = size_int(file, at + 1, end, shape, depth - 1);
-            let b = size_int(file, a.next, end, shape, depth - 1);
+            let a = size_int(text, at + 1, end, shape);
+            let b = size_int(text, a.next, end, shape);
             join(a, b, 48, 32)
         }
         _ => no_gates(at),
@@ -64,22 +66,23 @@ pub fn size_int(file: &[u8], at: usize, end: usize, shape: Shape, depth: usize) 
 }
 
 // The Boolean expression at `at`.
-pub fn size_bool(file: &[u8], at: usize, end: usize, shape: Shape, depth: usize) -> GatesAt
-    requires { ⌜ (isRead (boolExpr (now file) (namesOf (now file) shape) end depth at) ≡ true) × (end ≤ length (now file)) × (end ≤ maxBytes) ⌝ }
-    ensures { λ r. ⌜ r ≡ gatesAt boolCost (boolExpr (now (file .entry)) (namesOf (now (file .entry)) shape) end depth at) ⌝ }
+pub fn size_bool(text: &[u8], at: usize, end: usize, shape: Shape) -> GatesAt
+    requires { ⌜ ((file : List ℕ) × (depth : ℕ) × (isRead (boolExpr (now text) (namesOf file shape) end depth at) ≡ true)) × (end ≤ length (now text)) × (end ≤ maxBytes) ⌝ }
+    ensures { λ r. ⌜ ((file : List ℕ) (depth : ℕ) → isRead (boolExpr (now (text .entry)) (namesOf file shape) end depth at) ≡ true
+        → r ≡ gatesAt boolCost (boolExpr (now (text .entry)) (namesOf file shape) end depth at)) ⌝ }
 {
-    let op = file[at];
+    let op = text[at];
     match op {
         0x10..=0x11 => no_gates(at + 2),
-        0x12 => size_bool(file, at + 1, end, shape, depth - 1),
+        0x12 => size_bool(text, at + 1, end, shape),
         0x13..=0x14 => {
-            let a = size_bool(file, at + 1, end, shape, depth - 1);
-            let b = size_bool(file, a.next, end, shape, depth - 1);
+            let a = size_bool(text, at + 1, end, shape);
+            let b = size_bool(text, a.next, end, shape);
             join(a, b, 1, 0)
         }
         0x15..=0x16 => {
-            let a = size_int(file, at + 1, end, shape, depth - 1);
-            let b = size_int(file, a.next, end, shape, depth - 1);
+            let a = size_int(text, at + 1, end, shape);
+            let b = size_int(text, a.next, end, shape);
             if op == 0x15 {
                 join(a, b, 16, 16)
             } else {
@@ -99,9 +102,9 @@ pub fn size_assign(file: &[u8], at: usize, end: usize, shape: Shape) -> GatesAt
     let v = wide(file[at]);
     let k = file[3 * v];
     if k == 1 {
-        size_int(file, at + 1, end, shape, MAX_DEPTH)
+        size_int(file, at + 1, end, shape)
     } else {
-        size_bool(file, at + 1, end, shape, MAX_DEPTH)
+        size_bool(file, at + 1, end, shape)
     }
 }
 
@@ -117,7 +120,7 @@ pub fn size_stmt(file: &[u8], at: usize, end: usize, shape: Shape, nest: usize) 
             if op == 0x20 {
                 return size_assign(file, at + 1, end, shape);
             }
-            let c = size_bool(file, at + 1, end, shape, MAX_DEPTH);
+            let c = size_bool(file, at + 1, end, shape);
             let a = size_list(file, c.next, end, shape, nest - 1);
             let b = size_list(file, a.next, end, shape, nest - 1);
             join(join(c, a, 0, 0), b, 0, shape.bits as u64)

@@ -9,7 +9,6 @@ ghost use Rattle.design.specs.Sections.{Parts};
 ghost use Rattle.step.specs.Limits.{maxBound};
 ghost use Rattle.step.specs.Property.{propertyOf};
 ghost use Rattle.clauses.specs.Writing.{variableLimit};
-ghost use Rattle.step.specs.Limits.{maxBound};
 ghost use Rattle.clauses.specs.Limits.{mostGates, frameLimit, countLimit, sizeLimit};
 ghost use Rattle.clauses.specs.Cost.{pairCount, propertyCost};
 ghost use Rattle.clauses.specs.FrameSizes.{HasGates, FewGates, frameSizes, SmallFrame, frameLength, stepClausesOf, stepWordsOf, partWordsOf, variablesOf, formulaSizes};
@@ -22,7 +21,6 @@ use design::index::index_events;
 use design::index::invariant;
 use design::index::shape;
 use design::limits::EVENT_PLACES;
-use design::limits::MAX_DEPTH;
 use design::limits::MAX_MOVERS;
 use design::shape::Shape;
 
@@ -63,7 +61,7 @@ pub fn size_property(
 {
     if property == 0 {
         let stands = invariant(file);
-        size_bool(file, stands.at, stands.end, shape, MAX_DEPTH)
+        size_bool(file, stands.at, stands.end, shape)
     } else {
         size_cells(file, events, shape, true)
     }

@@ -14,7 +14,7 @@ use design::limits::MAX_MOVERS;
 use design::shape::Shape;
 
 // The first variable of each mover's result, and the cursor.
-pub struct Stepped {
+pub struct StepOut {
     pub firsts: [u32; MAX_MOVERS],
     pub pen: Cursor,
 }
@@ -28,7 +28,7 @@ pub fn encode_step(
     bits: &[u32; MAX_BITS],
     buf: &mut [i32],
     pen: Cursor,
-) -> Stepped
+) -> StepOut
     requires { ⌜ Ready (now file) (now events) shape × (length (now bits) ≡ maxBits) × CellsIndexed (now file) (now cells) (shape .normals) ⌝ }
     ensures { λ r. ⌜ AllMove (now (file .entry)) shape (now (bits .entry)) pen (now (buf .entry)) (now (buf .exit)) r × (length (r .firsts) ≡ maxMovers) ⌝ }
 {
@@ -53,7 +53,7 @@ pub fn encode_step(
             i = i + 1;
         }
     }
-    Stepped {
+    StepOut {
         firsts: firsts,
         pen: Cursor { cur: at, var: g },
     }

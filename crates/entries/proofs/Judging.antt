@@ -4,7 +4,7 @@ use mathlib.Core.List.{List, [], _∷_}
 use Prim.Native.Nat.{ℕ}
 use Rattle.verdict.specs.Verdict.{Memory}
 use Rattle.verdict.specs.Answers.{Exit}
-use Rattle.verdict.specs.declared.answer.Judged.{Judged}
+use Rattle.verdict.specs.declared.answer.Told.{Told}
 use Rattle.verdict.specs.declared.answer.Reply.{Reply}
 use Rattle.verdict.specs.declared.answer.Reply.the-variants.{Refused, Done}
 use Rattle.entries.specs.Code.{code}
@@ -21,7 +21,7 @@ module _ (after : Exit) (reply : Reply) (memory : Memory) (says : record { reply
   refused-exit number place r e q =
       ap {B = VerdictReturn} (λ (k : ℕ). record { code = k; memory = memory; answer = answer }) q ∙ ap replied (sym e) ∙ ap exit says
 
-  pub done-exit : (j : Judged) (told at : ℕ) → reply ≡ Done j → told ≡ verdictNumber (j .verdict) → at ≡ verdictStep (j .verdict)
+  pub done-exit : (j : Told) (told at : ℕ) → reply ≡ Done j → told ≡ verdictNumber (j .verdict) → at ≡ verdictStep (j .verdict)
       → record { code = 0; memory = memory; answer = told ∷ at ∷ j .tries ∷ [] } ≡ exit after
   done-exit j told at e q s =
       ap₂ {C = VerdictReturn} (λ (k i : ℕ). record { code = 0; memory = memory; answer = k ∷ i ∷ j .tries ∷ [] }) q s ∙ ap replied (sym e) ∙ ap exit says

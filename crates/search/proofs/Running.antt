@@ -14,7 +14,7 @@ use Rattle.search.specs.Search.{Turn, upTo, Answer, SAT, UNSAT, SPENT, O
 use Rattle.search.specs.Answers.{declaredAnswer, declaredSolved}
 use Rattle.search.specs.Solve.{bitOf, valuesFrom, valuesLeft}
 use Rattle.search.specs.AnyOrder.{Move}
-use Rattle.search.specs.Memory.{valueOfByte, settingsOf, unsetCount, Starts, TrailAgrees, ReadyTrail, Stepped, Fresh, AllUnset, Kept, Ran}
+use Rattle.search.specs.Memory.{valueOfByte, settingsOf, unsetCount, Starts, TrailAgrees, ReadyTrail, AfterTurn, Fresh, AllUnset, Kept, Ran}
 use Rattle.search.proofs.Scans.{AllSet}
 use Rattle.search.proofs.Counting.{count-none, ahead}
 use Rattle.search.proofs.Sound.{Good, Ok, move-ok}
@@ -95,11 +95,11 @@ module _ {n : ℕ} {ws : List ℤ} {b : ℕ} {vs tr : List ℕ} {t from low u : 
   ready-here = subst (λ (k : ℕ). ReadyTrail k ws vs tr t from low) (sym (h .ready .shaped .values)) (h .ready)
 
   -- after a turn that came to r and left vs′ and tr′
-  module _ (r : Step) (vs′ tr′ : List ℕ) (s : Stepped (length vs) ws (settingsOf vs tr t) r vs vs′ tr′) where
-    stepped : {q : Step} → r ≡ q → Stepped n ws (settingsOf vs tr t) q vs vs′ tr′
+  module _ (r : Step) (vs′ tr′ : List ℕ) (s : AfterTurn (length vs) ws (settingsOf vs tr t) r vs vs′ tr′) where
+    stepped : {q : Step} → r ≡ q → AfterTurn n ws (settingsOf vs tr t) q vs vs′ tr′
     stepped {q} e =
-        subst (λ (k : ℕ). Stepped k ws (settingsOf vs tr t) q vs vs′ tr′) (h .ready .shaped .values)
-        (subst (λ (x : Step). Stepped (length vs) ws (settingsOf vs tr t) x vs vs′ tr′) e s)
+        subst (λ (k : ℕ). AfterTurn k ws (settingsOf vs tr t) q vs vs′ tr′) (h .ready .shaped .values)
+        (subst (λ (x : Step). AfterTurn (length vs) ws (settingsOf vs tr t) x vs vs′ tr′) e s)
 
     -- the loop's facts after it, where the scan reads on at next and 1, 2, .., low′ are set
     on : {k next low′ : ℕ} → Starts ws next → TrailAgrees n vs′ tr′ k → low′ ≤ n → AllSet low′ (settingsOf vs′ tr′ k) → ReadyTrail n ws vs′ tr′ k next low′

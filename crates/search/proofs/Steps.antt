@@ -16,7 +16,7 @@ use Rattle.clauses.specs.Words.{clausesOf}
 use Rattle.search.specs.Search.{Value, unset, Setting, Values, valueOf, opposite, literalValue, Scan, scanOne, join, scan, isFalse, conflict, orElse, firstUnit, Place, none, at, isUnset, lowestUnset, sets, takes, forced, branchTrue, undo, branch}
 use Rattle.search.specs.Answers.{declaredSpot}
 use Rattle.search.specs.AnyOrder.{IsUnit, Quiet, Move, by-conflict, by-unit, by-branch}
-use Rattle.search.specs.Memory.{valueAt, literalFrom, Finds, settingsOf, Settable, Assigned, Undone, ReadyTrail, Stepped}
+use Rattle.search.specs.Memory.{valueAt, literalFrom, Finds, settingsOf, Settable, Assigned, Undone, ReadyTrail, AfterTurn}
 use Rattle.search.proofs.Scans.{Free, unit-forced, LowestAt, LowestRight, lowest-right}
 use Rattle.search.proofs.Counting.{count-set}
 use Rattle.search.proofs.Reading.{within-words}
@@ -101,17 +101,17 @@ module _ {n : ℕ} {ws : List ℤ} {vs tr : List ℕ} {t from low : ℕ} (h : Re
     undoes e = by-conflict (conflict-ext n (valueOf (settingsOf vs tr t)) (valueAt vs) agree (clausesOf ws) w ∙ finds e)
 
     module _ (e : r ≡ Conflict) (k : ℕ) (vs′ tr′ : List ℕ) (u : Undone n (settingsOf vs tr t) k vs′ tr′) where
-      pub step-undo : (k ≡ 0 → ⊥) → Stepped n ws (settingsOf vs tr t) (Tries k) vs vs′ tr′
+      pub step-undo : (k ≡ 0 → ⊥) → AfterTurn n ws (settingsOf vs tr t) (Tries k) vs vs′ tr′
       step-undo = go k u
         where
-          go : (k : ℕ) → Undone n (settingsOf vs tr t) k vs′ tr′ → (k ≡ 0 → ⊥) → Stepped n ws (settingsOf vs tr t) (Tries k) vs vs′ tr′
+          go : (k : ℕ) → Undone n (settingsOf vs tr t) k vs′ tr′ → (k ≡ 0 → ⊥) → AfterTurn n ws (settingsOf vs tr t) (Tries k) vs vs′ tr′
           go zero u z = absurd (z refl)
           go (suc k) u z = (subst (Move n (clausesOf ws) (settingsOf vs tr t)) (u .0) (undoes e), u .1)
 
-      pub step-unsat : k ≡ 0 → Stepped n ws (settingsOf vs tr t) NoneLeft vs vs′ tr′
+      pub step-unsat : k ≡ 0 → AfterTurn n ws (settingsOf vs tr t) NoneLeft vs vs′ tr′
       step-unsat = go k u
         where
-          go : (k : ℕ) → Undone n (settingsOf vs tr t) k vs′ tr′ → k ≡ 0 → Stepped n ws (settingsOf vs tr t) NoneLeft vs vs′ tr′
+          go : (k : ℕ) → Undone n (settingsOf vs tr t) k vs′ tr′ → k ≡ 0 → AfterTurn n ws (settingsOf vs tr t) NoneLeft vs vs′ tr′
           go zero u z = subst (Move n (clausesOf ws) (settingsOf vs tr t)) u (undoes e)
           go (suc k) u z = absurd (omega arith)
 
@@ -129,7 +129,7 @@ module _ {n : ℕ} {ws : List ℤ} {vs tr : List ℕ} {t from low : ℕ} (h : Re
       pub unit-settable : Settable n (length tr) t v
       unit-settable = room-left v (subst (λ (k : ℕ). 0 < k) (variable-is v b) (fresh .low)) (subst (λ (k : ℕ). k ≤ n) (variable-is v b) (fresh .high)) free
 
-      pub step-unit : {vs′ tr′ : List ℕ} → Assigned vs tr t v b 0 vs′ tr′ → Stepped n ws (settingsOf vs tr t) (Goes (t + 1) next) vs vs′ tr′
+      pub step-unit : {vs′ tr′ : List ℕ} → Assigned vs tr t v b 0 vs′ tr′ → AfterTurn n ws (settingsOf vs tr t) (Goes (t + 1) next) vs vs′ tr′
       step-unit {vs′} {tr′} a =
           let s = unit-settable in
           let g = grown a (h .shaped) (s .low) (s .high) free (finds e .bit) (omega arith) in
@@ -157,7 +157,7 @@ module _ {n : ℕ} {ws : List ℤ} {vs tr : List ℕ} {t from low : ℕ} (h : Re
         pub branch-settable : Settable n (length tr) t v
         branch-settable = room-left v (lowest .low) (omega (arith, lowest .high)) (lowest .unset!)
 
-        pub step-branch : {vs′ tr′ : List ℕ} → Assigned vs tr t v 0 1 vs′ tr′ → Stepped n ws (settingsOf vs tr t) (Tries (t + 1)) vs vs′ tr′
+        pub step-branch : {vs′ tr′ : List ℕ} → Assigned vs tr t v 0 1 vs′ tr′ → AfterTurn n ws (settingsOf vs tr t) (Tries (t + 1)) vs vs′ tr′
         step-branch {vs′} {tr′} a =
             let g = grown a (h .shaped) (lowest .low) (omega (arith, lowest .high)) (lowest .unset!) (omega arith) (le-refl 1) in
             rw (add-one t) (
@@ -165,9 +165,9 @@ module _ {n : ℕ} {ws : List ℤ} {vs tr : List ℕ} {t from low : ℕ} (h : Re
               g .shaped,
             )
 
-      pub step-sat : Nowhere ≡ declaredSpot (lowestUnset (valueAt vs) 1 n) → Stepped n ws (settingsOf vs tr t) AllSat vs vs tr
+      pub step-sat : Nowhere ≡ declaredSpot (lowestUnset (valueAt vs) 1 n) → AfterTurn n ws (settingsOf vs tr t) AllSat vs vs tr
       step-sat s = go (lowestUnset (valueAt vs) 1 n) s branches
         where
-          go : (p : Place) → Nowhere ≡ declaredSpot p → Move n (clausesOf ws) (settingsOf vs tr t) (branch (settingsOf vs tr t) p) → Stepped n ws (settingsOf vs tr t) AllSat vs vs tr
+          go : (p : Place) → Nowhere ≡ declaredSpot p → Move n (clausesOf ws) (settingsOf vs tr t) (branch (settingsOf vs tr t) p) → AfterTurn n ws (settingsOf vs tr t) AllSat vs vs tr
           go none s m = (m, refl)
           go (at u) s m = absurd (let z : _≡_ {A = ℕ} 0 1 = cc in omega arith)

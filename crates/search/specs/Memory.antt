@@ -160,11 +160,11 @@ pub record ReadyTrail (n : ℕ) (ws : List ℤ) (vs tr : List ℕ) (t from low :
   pub low-set : SetTo low vs
 
 -- what a turn leaves, from settings ss and values vs
-abbrev pub Stepped : ℕ → List ℤ → Settings → Step → List ℕ → List ℕ → List ℕ → Type 0
-Stepped n ws ss (Goes k next) vs vs′ tr′ = Move n (clausesOf ws) ss (sets (settingsOf vs′ tr′ k)) × TrailAgrees n vs′ tr′ k × Starts ws next
-Stepped n ws ss (Tries k) vs vs′ tr′ = Move n (clausesOf ws) ss (takes (settingsOf vs′ tr′ k)) × TrailAgrees n vs′ tr′ k
-Stepped n ws ss AllSat vs vs′ tr′ = Move n (clausesOf ws) ss (satisfied ss) × (vs′ ≡ vs)
-Stepped n ws ss NoneLeft vs vs′ tr′ = Move n (clausesOf ws) ss refuted
+abbrev pub AfterTurn : ℕ → List ℤ → Settings → Step → List ℕ → List ℕ → List ℕ → Type 0
+AfterTurn n ws ss (Goes k next) vs vs′ tr′ = Move n (clausesOf ws) ss (sets (settingsOf vs′ tr′ k)) × TrailAgrees n vs′ tr′ k × Starts ws next
+AfterTurn n ws ss (Tries k) vs vs′ tr′ = Move n (clausesOf ws) ss (takes (settingsOf vs′ tr′ k)) × TrailAgrees n vs′ tr′ k
+AfterTurn n ws ss AllSat vs vs′ tr′ = Move n (clausesOf ws) ss (satisfied ss) × (vs′ ≡ vs)
+AfterTurn n ws ss NoneLeft vs vs′ tr′ = Move n (clausesOf ws) ss refuted
 
 -- what a run needs
 pub record Fresh (ws : List ℤ) (vs tr : List ℕ) : Type 0 where

@@ -1,6 +1,6 @@
 // The turns of the search.
 ghost use lib.ListN.{length};
-ghost use Rattle.search.specs.Memory.{settingsOf, ReadyTrail, Stepped, Fresh, AllUnset, outcome, Ran};
+ghost use Rattle.search.specs.Memory.{settingsOf, ReadyTrail, AfterTurn, Fresh, AllUnset, outcome, Ran};
 use super::Answered;
 use super::Solved;
 use super::scan::Found;
@@ -30,7 +30,7 @@ pub fn turn(
     low: usize,
 ) -> Step
     requires { ⌜ ReadyTrail (length (now values)) (now words) (now values) (now trail) t from low ⌝ }
-    ensures { λ r. ⌜ Stepped (length (now (values .entry))) (now (words .entry)) (settingsOf (now (values .entry)) (now (trail .entry)) t) r
+    ensures { λ r. ⌜ AfterTurn (length (now (values .entry))) (now (words .entry)) (settingsOf (now (values .entry)) (now (trail .entry)) t) r
         (now (values .entry)) (now (values .exit)) (now (trail .exit)) ⌝ }
 {
     match scan(words, values, from) {

@@ -2,7 +2,7 @@
 use mathlib.Core.Path.{_≡_, refl, sym, ap, ap₂, _∙_}
 use mathlib.Core.Bool.{Bool, true, false}
 use mathlib.Core.List.{List}
-use Prim.Native.Nat.{ℕ, _<_, _≤_}
+use Prim.Native.Nat.{ℕ, zero, suc, _<_, _≤_}
 use native.Mathlib.Omega.{arith}
 use lib.Dec.{leb}
 use borrow.Author.Tests.{le-leb, lt-leb, leb-true}
@@ -67,8 +67,13 @@ module _ (file : List ℕ) (p k : ℕ) where
     over-bound h a l = past-property h a ∙ need-no (leb k maxBound) 14 0 (called (read file h .tree)) (lt-leb k maxBound l)
 
     -- past the gate, the answer is the call's
+    pub gate-in : (d : Design) → check file ≡ Checked.accepted d → p ≤ lastProperty → k ≤ maxBound → gate file p k call ≡ called d
+    unfolding gate onDesign
+    gate-in d e a b = rw (e, le-leb p lastProperty a, le-leb k maxBound b)
+
+    -- the same, of the design read from the file
     pub in-range : (h : Accepted file) → p ≤ lastProperty → k ≤ maxBound → gate file p k call ≡ called (read file h .tree)
-    in-range h a b = past-property h a ∙ need-yes (leb k maxBound) 14 0 (called (read file h .tree)) (le-leb k maxBound b)
+    in-range h = gate-in (read file h .tree) (read file h .is)
 
     -- what the gate refuses, the call refuses
     pub gate-refuses : (r : Refusal) → r ≡ gateRefusal file p k → (r .number ≡ 0 → ⊥) → gate file p k call ≡ refused (r .number) (r .place)
@@ -133,3 +138,32 @@ module _ (file : List ℕ) (p k : ℕ) where
 
   pub gate-passed : (r : Refusal) → r ≡ gateRefusal file p k → r .number ≡ 0 → Passed file p k
   gate-passed r e z = zero-passed unitCall (sym (ap (λ (y : Refusal). y .number) e) ∙ z)
+
+  -- a call that answers: the gate lets it pass, and the call itself answers so
+  pub record Through {A : Type 0} (call : Design → Property → Answer A) (a : A) : Type 0 where
+    pub design : Design
+    pub accepted : check file ≡ Checked.accepted design
+    pub property : p ≤ lastProperty
+    pub bound : k ≤ maxBound
+    pub same : call design (propertyOf design p) ≡ answer a
+
+  pub gate-answers : {A : Type 0} (call : Design → Property → Answer A) (a : A) → gate file p k call ≡ answer a → Through call a
+  gate-answers {A} call a e =
+      let g = zero-passed call (ap (λ (x : Answer A). refusalOf x .number) e) in
+      let t = read file (g .accepted) in
+      record { design = t .tree; accepted = t .is; property = g .property; bound = g .bound; same = sym (in-range call (g .accepted) (g .property) (g .bound)) ∙ e }
+
+  -- two calls behind one gate: what the one refuses the other refuses, if it is so of the calls themselves
+  pub gate-both : {A B : Type 0} (f : Design → Property → Answer A) (g : Design → Property → Answer B) (number place : ℕ)
+      → ((d : Design) → f d (propertyOf d p) ≡ refused number place → g d (propertyOf d p) ≡ refused number place)
+      → gate file p k f ≡ refused number place → gate file p k g ≡ refused number place
+  gate-both {A} {B} f g number place h e = go (gateRefusal file p k) refl (gateRefusal file p k .number) refl
+    where
+      go : (r : Refusal) → r ≡ gateRefusal file p k → (m : ℕ) → r .number ≡ m → gate file p k g ≡ refused number place
+      go r q zero z =
+          let s = gate-passed r q z in
+          in-range g (s .accepted) (s .property) (s .bound) ∙ h (read file (s .accepted) .tree) (sym (in-range f (s .accepted) (s .property) (s .bound)) ∙ e)
+      go r q (suc m) z =
+          let nz : r .number ≡ 0 → ⊥ = λ y. omega (arith, y, z) in
+          let x : _≡_ {A = Answer A} (refused (r .number) (r .place)) (refused number place) = sym (gate-refuses f r q nz) ∙ e in
+          gate-refuses g r q nz ∙ (let i : r .number ≡ number = cc in let j : r .place ≡ place = cc in ap₂ (λ (a b : ℕ). refused a b) i j)

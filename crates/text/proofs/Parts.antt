@@ -13,11 +13,11 @@ use borrow.Author.Tests.{le-leb, lt-leb, leb-true, leb-false}
 use Rattle.design.specs.Tree.{Design}
 use Rattle.design.specs.Check.{Checked, check}
 use Rattle.step.specs.Property.{propertyOf}
-use Rattle.step.specs.Gate.{gate}
+use Rattle.step.proofs.Gates.{need-yes, gate-in, gate-answers, gate-both}
 use Rattle.step.specs.Operations.{refusedAt}
 use Rattle.clauses.specs.Words.{words, isEnd}
 use Rattle.clauses.specs.Formula.{part, partsFrom, formula}
-use Rattle.design.specs.Answer.{Answer, refused, answer, need, ofChecked, onDesign}
+use Rattle.design.specs.Answer.{Answer, refused, answer, need}
 use Rattle.step.specs.Limits.{lastProperty, maxBound}
 use Rattle.clauses.specs.Encode.{wordsToWrite, filled, encode}
 use Rattle.clauses.specs.Replies.{EncodeExit, encodeExit, ENCODE}
@@ -138,84 +138,72 @@ joined-same f g h zero i = refl
 joined-same f g h (suc m) i = ap₂ (λ (a b : List ℕ). a ++ b) (h i) (joined-same f g h m (suc i))
 
 -- all parts
-module _ (p k : ℕ) where
-  -- by CHECK's answer
-  abbrev partOf : Checked → ℕ → Answer (List ℤ)
-  partOf x i = ofChecked x λ d. need (leb p lastProperty) 13 0 (need (leb k maxBound) 14 0 (need (leb i (k + 2)) 15 0 (need (leb (length (words (part d (propertyOf d p) k i))) maxWords) 16 0 (answer (words (part d (propertyOf d p) k i))))))
+module _ (file : List ℕ) (p k : ℕ) where
+  abbrev partWords : Design → ℕ → List ℤ
+  partWords d i = words (part d (propertyOf d p) k i)
 
-  abbrev allOf : Checked → Answer (List ℤ)
-  allOf x = ofChecked x λ d. need (leb p lastProperty) 13 0 (need (leb k maxBound) 14 0 (need (noneOver d (propertyOf d p) k (k + 3) 0) 16 0 (answer (words (formula d (propertyOf d p) k)))))
+  abbrev fits : Design → ℕ → Bool
+  fits d i = leb (length (partWords d i)) maxWords
 
   -- one part over is enough
-  one-over : (d : Design) (i m j : ℕ) → j ≤ i → i < j + m → leb (length (words (part d (propertyOf d p) k i))) maxWords ≡ false → noneOver d (propertyOf d p) k m j ≡ false
+  one-over : (d : Design) (i m j : ℕ) → j ≤ i → i < j + m → fits d i ≡ false → noneOver d (propertyOf d p) k m j ≡ false
   unfolding noneOver
   one-over d i zero j a b e = absurd (omega arith)
-  one-over d i (suc m) j a b e = go (leb (length (words (part d (propertyOf d p) k j))) maxWords) refl (λ l. one-over d i m (suc j) l (omega arith) e)
+  one-over d i (suc m) j a b e = go (fits d j) refl (λ l. one-over d i m (suc j) l (omega arith) e)
     where
-      go : (t : Bool) → leb (length (words (part d (propertyOf d p) k j))) maxWords ≡ t → (j < i → noneOver d (propertyOf d p) k m (suc j) ≡ false) → t && noneOver d (propertyOf d p) k m (suc j) ≡ false
+      go : (t : Bool) → fits d j ≡ t → (j < i → noneOver d (propertyOf d p) k m (suc j) ≡ false) → t && noneOver d (propertyOf d p) k m (suc j) ≡ false
       go false q f = refl
-      go true q f =
-          let other : i ≡ j → ⊥ = λ y.
-          (let u : leb (length (words (part d (propertyOf d p) k i))) maxWords ≡ true = subst (λ (n : ℕ). leb (length (words (part d (propertyOf d p) k n))) maxWords ≡ true) (sym y) q in
-          let o : _≡_ {A = ℕ} 0 1 = cc in
-          omega arith) in
-          f (omega arith)
+      go true q f = let other : i ≡ j → ⊥ = λ y. (let o : _≡_ {A = ℕ} 0 1 = cc in omega arith) in f (omega arith)
 
-  refused-so : (n q : ℕ) (ws vs : List ℤ) (a b c t u : Bool) → c ≡ true → (t ≡ false → u ≡ false) → need a 13 0 (need b 14 0 (need c 15 0 (need t 16 0 (answer ws)))) ≡ refused n q → need a 13 0 (need b 14 0 (need u 16 0 (answer vs))) ≡ refused n q
-  refused-so n q ws vs false b c t u h f e = e
-  refused-so n q ws vs true false c t u h f e = e
-  refused-so n q ws vs true true false t u h f e = let o : _≡_ {A = ℕ} 0 1 = cc in absurd (omega arith)
-  refused-so n q ws vs true true true false u h f e = subst (λ (y : Bool). need y 16 0 (answer vs) ≡ refused n q) (sym (f refl)) e
-  refused-so n q ws vs true true true true u h f e = let o : _≡_ {A = ℕ} 0 1 = cc in absurd (omega arith)
+  -- past the gate: a part that is refused, and one that is not
+  refused-so : (n q : ℕ) (ws vs : List ℤ) (t u : Bool) → (t ≡ false → u ≡ false) → need t 16 0 (answer ws) ≡ refused n q → need u 16 0 (answer vs) ≡ refused n q
+  refused-so n q ws vs false u f e = subst (λ (y : Bool). need y 16 0 (answer vs) ≡ refused n q) (sym (f refl)) e
+  refused-so n q ws vs true u f e = let o : _≡_ {A = ℕ} 0 1 = cc in absurd (omega arith)
 
-  all-refused : (x : Checked) (i n q : ℕ) → i < k + 3 → partOf x i ≡ refused n q → allOf x ≡ refused n q
-  all-refused (Checked.refused a b) i n q l e = e
-  all-refused (Checked.accepted d) i n q l e =
-      refused-so n q (words (part d (propertyOf d p) k i)) (words (formula d (propertyOf d p) k)) (leb p lastProperty) (leb k maxBound) (leb i (k + 2)) (leb (length (words (part d (propertyOf d p) k i))) maxWords) (noneOver d (propertyOf d p) k (k + 3) 0)
-      (le-leb i (k + 2) (omega arith)) (one-over d i (k + 3) 0 (omega arith) (omega arith)) e
+  none-refused : (ws : List ℤ) (t : Bool) → isRefused (need t 16 0 (answer ws)) ≡ false → t ≡ true
+  none-refused ws true e = refl
+  none-refused ws false e = let o : _≡_ {A = ℕ} 0 1 = cc in absurd (omega arith)
 
-  record Tests (a b t : Bool) : Type 0 where
-    property : a ≡ true
-    bound : b ≡ true
-    short : t ≡ true
+  not-15 : (i : ℕ) (r : Answer (List ℤ)) → i < k + 3 → need (leb i (k + 2)) 15 0 r ≡ r
+  not-15 i r l = need-yes (leb i (k + 2)) 15 0 r (le-leb i (k + 2) (omega arith))
 
-  none-refused : (ws : List ℤ) (a b c t : Bool) → isRefused (need a 13 0 (need b 14 0 (need c 15 0 (need t 16 0 (answer ws))))) ≡ false → Tests a b t
-  none-refused ws true true true true e = record { property = refl; bound = refl; short = refl }
-  none-refused ws false b c t e = let o : _≡_ {A = ℕ} 0 1 = cc in absurd (omega arith)
-  none-refused ws true false c t e = let o : _≡_ {A = ℕ} 0 1 = cc in absurd (omega arith)
-  none-refused ws true true false t e = let o : _≡_ {A = ℕ} 0 1 = cc in absurd (omega arith)
-  none-refused ws true true true false e = let o : _≡_ {A = ℕ} 0 1 = cc in absurd (omega arith)
+  all-refused : (i n q : ℕ) → i < k + 3 → wordsToWrite file p k i maxWords ≡ refused n q → wordsToPrint file p k ≡ refused n q
+  unfolding wordsToWrite wordsToPrint
+  all-refused i n q l = gate-both file p k _ _ n q λ d e.
+      refused-so n q (partWords d i) (words (formula d (propertyOf d p) k)) (fits d i) (noneOver d (propertyOf d p) k (k + 3) 0) (one-over d i (k + 3) 0 (omega arith) (omega arith))
+      (sym (not-15 i _ l) ∙ e)
 
-  module _ (d : Design) (h : (i : ℕ) → i < k + 3 → isRefused (partOf (Checked.accepted d) i) ≡ false) where
-    tests : (i : ℕ) → i < k + 3 → Tests (leb p lastProperty) (leb k maxBound) (leb (length (words (part d (propertyOf d p) k i))) maxWords)
-    tests i l = none-refused (words (part d (propertyOf d p) k i)) (leb p lastProperty) (leb k maxBound) (leb i (k + 2)) (leb (length (words (part d (propertyOf d p) k i))) maxWords) (h i l)
+  module _ (d : Design) (e : check file ≡ Checked.accepted d) (low : p ≤ lastProperty) (few : k ≤ maxBound) (h : (i : ℕ) → i < k + 3 → isRefused (wordsToWrite file p k i maxWords) ≡ false) where
+    part-in : (i : ℕ) → i < k + 3 → wordsToWrite file p k i maxWords ≡ need (fits d i) 16 0 (answer (partWords d i))
+    unfolding wordsToWrite
+    part-in i l = gate-in file p k _ d e low few ∙ not-15 i _ l
+
+    fit : (i : ℕ) → i < k + 3 → fits d i ≡ true
+    fit i l = none-refused (partWords d i) (fits d i) (ap isRefused (sym (part-in i l)) ∙ h i l)
 
     none-over : (m j : ℕ) → j + m ≤ k + 3 → noneOver d (propertyOf d p) k m j ≡ true
     unfolding noneOver
     none-over zero j l = refl
-    none-over (suc m) j l = ap₂ (λ (a b : Bool). a && b) (tests j (omega arith) .short) (none-over m (suc j) (omega arith))
+    none-over (suc m) j l = ap₂ (λ (a b : Bool). a && b) (fit j (omega arith)) (none-over m (suc j) (omega arith))
 
-    part-is : (i : ℕ) → i < k + 3 → partOf (Checked.accepted d) i ≡ answer (words (part d (propertyOf d p) k i))
-    part-is i l = rw (tests i l .property, tests i l .bound, le-leb i (k + 2) (omega arith), tests i l .short)
+    part-is : (i : ℕ) → i < k + 3 → wordsToWrite file p k i maxWords ≡ answer (partWords d i)
+    part-is i l = part-in i l ∙ rw (fit i l)
 
-    all-is : allOf (Checked.accepted d) ≡ answer (words (formula d (propertyOf d p) k))
-    all-is = rw (tests 0 (omega arith) .property, tests 0 (omega arith) .bound, none-over (k + 3) 0 (omega arith))
+    all-is : wordsToPrint file p k ≡ answer (words (formula d (propertyOf d p) k))
+    unfolding wordsToPrint
+    all-is = gate-in file p k _ d e low few ∙ rw (none-over (k + 3) 0 (omega arith))
 
-    parts-joined : (m i : ℕ) → i + m ≤ k + 3 → wordsText (words (partsFrom d (propertyOf d p) k m i)) ≡ joined (λ (j : ℕ). printed (partOf (Checked.accepted d) j)) m i
-    unfolding wordsText partsFrom joined
+    parts-joined : (m i : ℕ) → i + m ≤ k + 3 → wordsText (words (partsFrom d (propertyOf d p) k m i)) ≡ joined (partText file p k) m i
+    unfolding wordsText partsFrom joined partText
     parts-joined zero i l = refl
     parts-joined (suc m) i l =
         ap wordsText (words-join (part d (propertyOf d p) k i) (partsFrom d (propertyOf d p) k m (suc i)))
-        ∙ words-append (words (part d (propertyOf d p) k i)) (words (partsFrom d (propertyOf d p) k m (suc i)))
+        ∙ words-append (partWords d i) (words (partsFrom d (propertyOf d p) k m (suc i)))
         ∙ ap₂ (λ (a b : List ℕ). a ++ b) (sym (ap printed (part-is i (omega arith)))) (parts-joined m (suc i) (omega arith))
 
-    formula-joined : wordsText (words (formula d (propertyOf d p) k)) ≡ joined (λ (j : ℕ). printed (partOf (Checked.accepted d) j)) (k + 3) 0
+    all-printed : printed (wordsToPrint file p k) ≡ joined (partText file p k) (k + 3) 0
     unfolding formula
-    formula-joined = parts-joined (k + 3) 0 (omega arith)
-
-  all-printed : (x : Checked) → ((i : ℕ) → i < k + 3 → isRefused (partOf x i) ≡ false) → printed (allOf x) ≡ joined (λ (j : ℕ). printed (partOf x j)) (k + 3) 0
-  all-printed (Checked.refused a b) h = let e : true ≡ false = h 0 (omega arith) in let o : _≡_ {A = ℕ} 0 1 = cc in absurd (omega arith)
-  all-printed (Checked.accepted d) h = ap printed (all-is d h) ∙ formula-joined d h
+    all-printed = ap printed all-is ∙ parts-joined (k + 3) 0 (omega arith)
 
 -- the parts so far are not refused
 pub record Fine (file : List ℕ) (p k i : ℕ) : Type 0 where
@@ -237,20 +225,25 @@ module _ (file : List ℕ) (p k : ℕ) where
       go j false z m = f .fine j (omega (arith, leb-false i j z))
 
   pub parts-refused : (i room : ℕ) → i < k + 3 → room ≡ maxWords → true ≡ isRefused (wordsToWrite file p k i room) → printed (wordsToPrint file p k) ≡ joined (partText file p k) (i + 1 - i) i
-  unfolding wordsToPrint wordsToWrite partText gate onDesign
+  unfolding partText
   parts-refused i room l q e =
       go (wordsToWrite file p k i maxWords) refl (subst (λ (n : ℕ). true ≡ isRefused (wordsToWrite file p k i n)) q e)
       ∙ sym (ap (λ (m : ℕ). joined (partText file p k) m i) (let z : i + 1 - i ≡ 1 = omega arith in z) ∙ joined-one (partText file p k) i)
     where
       go : (x : Answer (List ℤ)) → wordsToWrite file p k i maxWords ≡ x → true ≡ isRefused x → printed (wordsToPrint file p k) ≡ partText file p k i
-      go (refused n r) s t = ap printed (all-refused p k (check file) i n r l s) ∙ sym (ap printed s)
+      go (refused n r) s t = ap printed (all-refused file p k i n r l s) ∙ sym (ap printed s)
       go (answer ws) s t = let o : _≡_ {A = ℕ} 0 1 = cc in absurd (omega arith)
 
   pub parts-printed : (i : ℕ) → Fine file p k i → k + 3 ≤ i → printed (wordsToPrint file p k) ≡ joined (partText file p k) (k + 3 - 0) 0
-  unfolding wordsToPrint wordsToWrite partText gate onDesign
-  parts-printed i f l =
-      all-printed p k (check file) (λ j m. f .fine j (omega arith))
-      ∙ ap (λ (m : ℕ). joined (partText file p k) m 0) (let z : k + 3 ≡ k + 3 - 0 = omega arith in z)
+  unfolding wordsToWrite
+  parts-printed i f l = go (wordsToWrite file p k 0 maxWords) refl (f .fine 0 (omega arith))
+    where
+      go : (x : Answer (List ℤ)) → wordsToWrite file p k 0 maxWords ≡ x → isRefused x ≡ false → printed (wordsToPrint file p k) ≡ joined (partText file p k) (k + 3 - 0) 0
+      go (refused n r) s t = let o : _≡_ {A = ℕ} 0 1 = cc in absurd (omega arith)
+      go (answer ws) s t =
+          let g = gate-answers file p k _ ws s in
+          all-printed file p k (g .design) (g .accepted) (g .property) (g .bound) (λ j m. f .fine j (omega arith))
+          ∙ ap (λ (m : ℕ). joined (partText file p k) m 0) (let z : k + 3 ≡ k + 3 - 0 = omega arith in z)
 
 -- the input's parts
 module _ (input : List ℕ) where

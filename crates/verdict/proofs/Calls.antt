@@ -11,9 +11,10 @@ use Rattle.design.specs.Tree.{Design}
 use Rattle.design.specs.Check.{Checked, check}
 use Rattle.step.specs.Property.{Property, propertyOf}
 use Rattle.step.specs.Gate.{gate}
+use Rattle.step.proofs.Gates.{gate-in, gate-answers, gate-both}
 use Rattle.clauses.specs.Words.{words}
 use Rattle.clauses.specs.Formula.{n, formula}
-use Rattle.design.specs.Answer.{Answer, refused, answer, need, ofChecked, onDesign}
+use Rattle.design.specs.Answer.{Answer, refused, answer, need}
 use Rattle.step.specs.Limits.{lastProperty, maxBound}
 use Rattle.clauses.specs.Size.{Sizes, sizesOf, size}
 use Rattle.verdict.specs.Verdict.{Told, judge, Memory, After, memoryLeft, roomFor, afterCall, verdict}
@@ -90,61 +91,45 @@ pub record Answered (file : List ℕ) (d : Design) (p k budget : ℕ) (lent : Me
   pub memory : (verdict file p k budget lent) .memory ≡ memoryLeft file d p (judge d (propertyOf d p) k budget) lent
 
 module _ (file : List ℕ) (d : Design) (e : check file ≡ Checked.accepted d) (p k budget : ℕ) (lent : Memory) where
-  abbrev last : Answer (Told × Memory)
-  last = answer ((judge d (propertyOf d p) k budget) .told, memoryLeft file d p (judge d (propertyOf d p) k budget) lent)
+  -- what VERDICT asks of a design, past the gate
+  abbrev asked : Design → Property → Answer (Told × Memory)
+  asked d q = need (roomFor d q k lent) 16 0 (answer ((judge d q k budget) .told, memoryLeft file d p (judge d q k budget) lent))
 
-  abbrev called : Answer (Told × Memory)
-  called = need (leb p lastProperty) 13 0 (need (leb k maxBound) 14 0 (need (roomFor d (propertyOf d p) k lent) 16 0 last))
-
-  verdict-is : verdict file p k budget lent ≡ afterCall lent called
-  unfolding verdict gate onDesign
-  verdict-is = rw e
+  verdict-is : verdict file p k budget lent ≡ afterCall lent (gate file p k asked)
+  unfolding verdict
+  verdict-is = refl
 
   pub answered : (told : Told) → (verdict file p k budget lent) .answer ≡ answer told → Answered file d p k budget lent told
   answered told h =
-      let a = after-answer lent called told (ap (λ (x : After). x .answer) (sym verdict-is) ∙ h) in
-      let t₁ = need-true (leb p lastProperty) 13 0 (need (leb k maxBound) 14 0 (need (roomFor d (propertyOf d p) k lent) 16 0 last)) (told, a .0) (a .1) in
-      let t₂ = need-true (leb k maxBound) 14 0 (need (roomFor d (propertyOf d p) k lent) 16 0 last) (told, a .0) (t₁ .1) in
-      let t₃ = need-true (roomFor d (propertyOf d p) k lent) 16 0 last (told, a .0) (t₂ .1) in
-      let q = same-answer _ (told, a .0) (t₃ .1) in
+      let a = after-answer lent (gate file p k asked) told (ap (λ (x : After). x .answer) (sym verdict-is) ∙ h) in
+      let g = gate-answers file p k asked (told, a .0) (a .1) in
+      let t = need-true (roomFor d (propertyOf d p) k lent) 16 0 _ (told, a .0) (sym (gate-in file p k asked d e (g .property) (g .bound)) ∙ a .1) in
+      let q = same-answer _ (told, a .0) (t .1) in
       record {
-        property = leb-true p lastProperty (t₁ .0);
-        bound = leb-true k maxBound (t₂ .0);
-        room = room-for d (propertyOf d p) k lent (t₃ .0);
+        property = g .property;
+        bound = g .bound;
+        room = room-for d (propertyOf d p) k lent (t .0);
         same = ap (λ (x : Told × Memory). x .0) q;
         memory = ap (λ (x : After). x .memory) verdict-is ∙ a .2 ∙ ap (λ (x : Told × Memory). x .1) (sym q);
       }
 
   module _ (low : p ≤ lastProperty) (few : k ≤ maxBound) where
+    verdict-in : verdict file p k budget lent ≡ afterCall lent (asked d (propertyOf d p))
+    verdict-in = verdict-is ∙ ap (afterCall lent) (gate-in file p k asked d e low few)
+
     -- "16 clauses, values, trail or choices short for the full bound"
     pub short : (Room d (propertyOf d p) k lent → ⊥) → verdict file p k budget lent ≡ record { answer = refused 16 0; memory = lent }
-    short h = verdict-is ∙ rw (le-leb p lastProperty low, le-leb k maxBound few, no-room d (propertyOf d p) k lent h)
+    short h = verdict-in ∙ rw (no-room d (propertyOf d p) k lent h)
 
     -- else it answers
     pub answers : Room d (propertyOf d p) k lent → verdict file p k budget lent ≡ record { answer = answer ((judge d (propertyOf d p) k budget) .told); memory = memoryLeft file d p (judge d (propertyOf d p) k budget) lent }
-    answers r = verdict-is ∙ rw (le-leb p lastProperty low, le-leb k maxBound few, for-room d (propertyOf d p) k lent r)
+    answers r = verdict-in ∙ rw (for-room d (propertyOf d p) k lent r)
 
 -- What SIZE refuses, VERDICT refuses, by the same number and place.
-refused-all : (t u v : Bool) (s : Sizes) (r : Told × Memory) (number place : ℕ) → need t 13 0 (need u 14 0 (answer s)) ≡ refused number place
-    → need t 13 0 (need u 14 0 (need v 16 0 (answer r))) ≡ refused number place
-refused-all true true v s r number place e = absurd (let z : _≡_ {A = ℕ} 0 1 = cc in omega arith)
-refused-all true false v s r number place e = let a : 14 ≡ number = cc in let b : 0 ≡ place = cc in cc
-refused-all false u v s r number place e = let a : 13 ≡ number = cc in let b : 0 ≡ place = cc in cc
-
 pub size-refused : (file : List ℕ) (p k budget : ℕ) (lent : Memory) (number place : ℕ) → size file p k ≡ refused number place
     → verdict file p k budget lent ≡ record { answer = refused number place; memory = lent }
-unfolding size verdict gate onDesign
-size-refused file p k budget lent number place h = ap (afterCall lent) (go (check file) h)
-  where
-    go : (c : Checked) → ofChecked c (λ d. need (leb p lastProperty) 13 0 (need (leb k maxBound) 14 0 (answer (sizesOf d (propertyOf d p) k)))) ≡ refused number place
-        → _≡_ {A = Answer (Told × Memory)} (ofChecked c (λ d.
-        need (leb p lastProperty) 13 0
-        (need (leb k maxBound) 14 0
-        (need (roomFor d (propertyOf d p) k lent) 16 0
-        (answer ((judge d (propertyOf d p) k budget) .told, memoryLeft file d p (judge d (propertyOf d p) k budget) lent)))))) (refused number place)
-    go (Checked.refused m q) e = let a : m ≡ number = cc in let b : q ≡ place = cc in cc
-    go (Checked.accepted d) e =
-        refused-all (leb p lastProperty) (leb k maxBound) (roomFor d (propertyOf d p) k lent) (sizesOf d (propertyOf d p) k) ((judge d (propertyOf d p) k budget) .told, memoryLeft file d p (judge d (propertyOf d p) k budget) lent) number place e
+unfolding size verdict
+size-refused file p k budget lent number place h = ap (afterCall lent) (gate-both file p k _ _ number place (λ d e. absurd (let z : _≡_ {A = ℕ} 0 1 = cc in omega arith)) h)
 
 -- where SIZE answers
 pub record Sized (file : List ℕ) (p k : ℕ) (s : Sizes) : Type 0 where
@@ -155,15 +140,10 @@ pub record Sized (file : List ℕ) (p k : ℕ) (s : Sizes) : Type 0 where
   pub sizes : sizesOf design (propertyOf design p) k ≡ s
 
 pub size-answers : (file : List ℕ) (p k : ℕ) (s : Sizes) → size file p k ≡ answer s → Sized file p k s
-unfolding size gate onDesign
-size-answers file p k s h = go (check file) refl h
-  where
-    go : (c : Checked) → check file ≡ c → ofChecked c (λ d. need (leb p lastProperty) 13 0 (need (leb k maxBound) 14 0 (answer (sizesOf d (propertyOf d p) k)))) ≡ answer s → Sized file p k s
-    go (Checked.refused m q) x e = absurd (let z : _≡_ {A = ℕ} 0 1 = cc in omega arith)
-    go (Checked.accepted d) x e =
-        let t₁ = need-true (leb p lastProperty) 13 0 (need (leb k maxBound) 14 0 (answer (sizesOf d (propertyOf d p) k))) s e in
-        let t₂ = need-true (leb k maxBound) 14 0 (answer (sizesOf d (propertyOf d p) k)) s (t₁ .1) in
-        record { design = d; accepted = x; property = leb-true p lastProperty (t₁ .0); bound = leb-true k maxBound (t₂ .0); sizes = same-answer _ _ (t₂ .1) }
+unfolding size
+size-answers file p k s h =
+    let g = gate-answers file p k _ s h in
+    record { design = g .design; accepted = g .accepted; property = g .property; bound = g .bound; sizes = same-answer _ s (g .same) }
 
 -- What SIZE answers, held against the lengths lent.
 module _ {file : List ℕ} {p k : ℕ} {s : Sizes} (z : Sized file p k s) (budget : ℕ) (lent : Memory) where

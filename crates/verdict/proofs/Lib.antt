@@ -13,4 +13,4 @@ pub mod Table
 -- the loop over the bounds
 pub mod Loop
 pub mod Searching
-pub mod Standing
+pub mod AtBound

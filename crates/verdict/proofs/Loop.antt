@@ -22,7 +22,7 @@ use Rattle.search.specs.declared.Answered.the-variants.{Sat, Unsat, Spent}
 use Rattle.search.specs.declared.Solved.{Solved}
 use Rattle.search.proofs.Values.{length-from}
 use Rattle.verdict.specs.Verdict.{Verdict, VIOLATED, CLEAN, SPENT-AT, Judged, judged, decided, searched, judgedFrom, judge, Memory, choicesLeft, memoryLeft, verdict}
-use Rattle.verdict.specs.Answers.{declaredVerdict, declaredJudged, Exit, exit}
+use Rattle.verdict.specs.Answers.{declaredVerdict, declaredTold, Exit, exit}
 use Rattle.verdict.specs.Loop.{Judging, Tried}
 use Rattle.verdict.specs.declared.answer.Verdict.the-variants.{Violated, Clean, Spent as SpentAt}
 use Rattle.verdict.specs.declared.answer.Reply.the-variants.{Done}
@@ -193,7 +193,7 @@ module _ (d : Design) (wf : WellFormed d) (number k budget : ℕ) (lent : Memory
             ≡ exit (verdict file number k budget lent)
         ends v choices′ q cs =
             ap {B = Exit} (λ (m : Memory). record { reply = Done (record { verdict = declaredVerdict v; tries = t + r .tries }); memory = m }) (memory-is file v choices′ cs)
-            ∙ ap {B = Exit} (λ (y : Judged). record { reply = Done (declaredJudged (y .told)); memory = memoryLeft file d number y lent }) (sym q)
+            ∙ ap {B = Exit} (λ (y : Judged). record { reply = Done (declaredTold (y .told)); memory = memoryLeft file d number y lent }) (sym q)
             ∙ ap exit (sym (answers file d e number k budget lent low few room))
 
         pub ends-sat : {choices′ : List ℕ} → r .answer ≡ Sat → choices′ ≡ (decode file number i values′ (lent .choices)) .choices

@@ -1,19 +1,20 @@
 -- DECODE is not refused on values that store a satisfying assignment; so on VIOLATED i it writes choices that break the property at step i.
 use mathlib.Core.Path.{_≡_, refl, ap, _∙_}
-use mathlib.Core.Bool.{true, false}
+use mathlib.Core.Bool.{true, false, _&&_}
 use mathlib.Core.List.{List, _++_}
 use Prim.Native.Nat.{ℕ, suc, _+_, _≤_}
 use native.Mathlib.Omega.{arith}
+use lib.Dec.{leb}
 use lib.ListN.{length, drop, length-append, List·getD-append}
 use borrow.Author.Tests.{le-leb}
 use Rattle.design.specs.Tree.{Design, bit}
 use Rattle.design.specs.Check.{Checked, check}
-use Rattle.step.specs.Property.{propertyOf}
-use Rattle.step.specs.Gate.{gate}
+use Rattle.step.specs.Property.{Property, propertyOf}
 use Rattle.step.specs.Breaking.{Breaking}
+use Rattle.step.proofs.Gates.{gate-in}
 use Rattle.clauses.specs.Meaning.{satisfies}
 use Rattle.clauses.specs.Formula.{n, formula, choices}
-use Rattle.design.specs.Answer.{Answer, answer, onDesign}
+use Rattle.design.specs.Answer.{Answer, answer, need}
 use Rattle.step.specs.Limits.{lastProperty, maxBound}
 use Rattle.clauses.specs.Decode.{AfterDecode, written, chosenFrom, choicesToWrite, decode}
 use Rattle.clauses.specs.Theorem.{Theorem, Stored}
@@ -42,11 +43,15 @@ values-hold m ss rest = record {
 
 module _ (file : List ℕ) (d : Design) (e : check file ≡ Checked.accepted d) (p : ℕ) (low : p ≤ lastProperty) where
   -- past the other refusals DECODE looks at the flags
+  abbrev asked : ℕ → List ℕ → ℕ → Design → Property → Answer (List ℕ)
+  asked i values room d q = need (leb (n d q i) (length values) && leb i room) 16 0 (chosenFrom d q values i 0)
+
   decode-past : (i : ℕ) (values cs : List ℕ) → i ≤ maxBound → n d (propertyOf d p) i ≤ length values → i ≤ length cs
       → decode file p i values cs ≡ written (chosenFrom d (propertyOf d p) values i 0) cs
-  unfolding decode choicesToWrite gate onDesign
+  unfolding decode choicesToWrite
   decode-past i values cs few long room =
-      rw (e, le-leb p lastProperty low, le-leb i maxBound few, le-leb (n d (propertyOf d p) i) (length values) long, le-leb i (length cs) room)
+      ap (λ (r : Answer (List ℕ)). written r cs) (gate-in file p i (asked i values (length cs)) d e low few)
+      ∙ rw (le-leb (n d (propertyOf d p) i) (length values) long, le-leb i (length cs) room)
 
   pub decodes : (i : ℕ) → i ≤ maxBound → Theorem d (propertyOf d p) i → Decodes file d p i
   decodes i few th ρ values cs s h room =

@@ -3,7 +3,7 @@ use Rattle.design.specs.Answer.{Answer, refused, answer}
 use Rattle.verdict.specs.Verdict.{Verdict, VIOLATED, CLEAN, SPENT-AT, Told, Memory, After}
 use Rattle.verdict.specs.declared.answer.Verdict as declared
 use Rattle.verdict.specs.declared.answer.Verdict.the-variants.{Violated, Clean, Spent}
-use Rattle.verdict.specs.declared.answer.Judged as declared-judged
+use Rattle.verdict.specs.declared.answer.Told as declared-told
 use Rattle.verdict.specs.declared.answer.Reply.{Reply}
 use Rattle.verdict.specs.declared.answer.Reply.the-variants.{Refused, Done}
 
@@ -13,13 +13,13 @@ declaredVerdict (VIOLATED i) = Violated i
 declaredVerdict CLEAN = Clean
 declaredVerdict (SPENT-AT i) = Spent i
 
-abbrev pub declaredJudged : Told → declared-judged.Judged
-declaredJudged t = record { verdict = declaredVerdict (t .verdict); tries = t .tries }
+abbrev pub declaredTold : Told → declared-told.Told
+declaredTold t = record { verdict = declaredVerdict (t .verdict); tries = t .tries }
 
 -- a refusal's number and place, or the verdict and the tries
 abbrev pub declaredReply : Answer Told → Reply
 declaredReply (refused number place) = Refused number place
-declaredReply (answer t) = Done (declaredJudged t)
+declaredReply (answer t) = Done (declaredTold t)
 
 -- the reply, and lent memory after the call
 pub record Exit : Type 0 where

@@ -47,7 +47,7 @@ module _ (d : Design) (q : Property) (k budget : ℕ) (lent : Memory) where
     pub trail-left : trail′ ≡ replicate (n d q i) 0 ++ drop (n d q i) trail
 
 -- the loop's invariant
-pub record Standing (file : List ℕ) (p k budget : ℕ) (lent : Memory) (i t : ℕ) (clauses : List ℤ) (values trail choices : List ℕ) : Type 0 where
+pub record AtBound (file : List ℕ) (p k budget : ℕ) (lent : Memory) (i t : ℕ) (clauses : List ℤ) (values trail choices : List ℕ) : Type 0 where
   pub ready : ReadyMemory file p k lent
   pub judging : Judging (ready .design) (propertyOf (ready .design) p) k budget lent i t clauses values trail
   pub choices-kept : choices ≡ lent .choices

@@ -8,7 +8,7 @@ pub enum Verdict {
 }
 
 // The verdict, and the tries summed.
-pub struct Judged {
+pub struct Told {
     pub verdict: Verdict,
     pub tries: u64,
 }
@@ -16,5 +16,5 @@ pub struct Judged {
 // What VERDICT answers: a refusal's number and place, or the verdict and the tries.
 pub enum Reply {
     Refused { number: u8, place: usize },
-    Done(Judged),
+    Done(Told),
 }

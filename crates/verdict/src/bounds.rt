@@ -3,8 +3,8 @@ ghost use mathlib.Core.Path.{_≡_};
 ghost use Rattle.verdict.specs.Verdict.{verdict as verdictOf};
 ghost use Rattle.verdict.specs.Answers.{exit};
 ghost use Rattle.verdict.specs.Loop.{ReadyMemory};
-use super::answer::Judged;
 use super::answer::Reply;
+use super::answer::Told;
 use super::answer::Verdict;
 use clauses::decode::decode;
 use clauses::encode::write_formula;
@@ -21,7 +21,7 @@ pub fn judge(
     values: &mut [u8],
     trail: &mut [u32],
     choices: &mut [u8],
-) -> Judged
+) -> Told
     requires { ⌜ ReadyMemory (now file) property bound (record { clauses = now clauses; values = now values; trail = now trail; choices = now choices }) ⌝ }
     ensures { λ r. ⌜ record {
       reply = Reply.Done r;
@@ -47,20 +47,20 @@ pub fn judge(
         match a {
             Answered::Sat => {
                 decode(file, property, i, values, choices);
-                return Judged {
+                return Told {
                     verdict: Verdict::Violated(i),
                     tries,
                 };
             }
             Answered::Spent => {
-                return Judged {
+                return Told {
                     verdict: Verdict::Spent(i),
                     tries,
                 };
             }
             Answered::Unsat => {
                 if i == bound {
-                    return Judged {
+                    return Told {
                         verdict: Verdict::Clean,
                         tries,
                     };

@@ -3,7 +3,9 @@
 
 use super::trees::{design, Plan, Trees};
 use crate::builder::{file_with_places, Places};
-use crate::design::{Boolean, CellKind, Design, Statement, MAX_FILE, TRAILER_LENGTH};
+use crate::design::{
+    Boolean, CellKind, Design, Statement, MAX_FILE, MAX_VARIABLES, TRAILER_LENGTH,
+};
 use crate::random::Random;
 
 const OPERATORS: [u8; 18] = [
@@ -57,7 +59,7 @@ fn tree_fault(random: &mut Random, tree: &mut Design) {
 
 /// A variable that mostly does not exist or is of another kind.
 fn unnamed(random: &mut Random) -> Boolean {
-    Boolean::Variable(random.pick(&[0, 1, 2, 31, 32, 255]))
+    Boolean::Variable(random.pick(&[0, 1, 2, MAX_VARIABLES as u8 - 1, MAX_VARIABLES as u8, 255]))
 }
 
 fn random_event<'a>(random: &mut Random, tree: &'a mut Design) -> &'a mut Boolean {

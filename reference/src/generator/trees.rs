@@ -3,6 +3,7 @@
 use crate::builder::{boolean_bytes, file_bytes};
 use crate::design::{
     Boolean, Cell, CellKind, Design, Integer, Kind, Matrix, Statement, Variable, MAX_FILE,
+    MAX_MATRICES, MAX_MOVERS, MAX_VARIABLES,
 };
 use crate::random::Random;
 
@@ -55,12 +56,12 @@ pub fn middle_plan(random: &mut Random) -> Plan {
 /// At or near the ends of the format.
 pub fn wide_plan(random: &mut Random) -> Plan {
     Plan {
-        variables: random.pick(&[0, 1, 31, 32, 32]),
+        variables: random.pick(&[0, 1, MAX_VARIABLES - 1, MAX_VARIABLES, MAX_VARIABLES]),
         integer_percent: random.pick(&[0, 50, 100]),
-        matrices: random.pick(&[1, 2, 7, 8]),
+        matrices: random.pick(&[1, 2, MAX_MATRICES - 1, MAX_MATRICES]),
         statuses: random.pick(&[1, 15, 16]),
         events: random.pick(&[1, 15, 16]),
-        movers: random.pick(&[0, 1, 2, 63, 64, 64, 65]),
+        movers: random.pick(&[0, 1, 2, MAX_MOVERS - 1, MAX_MOVERS, MAX_MOVERS, MAX_MOVERS + 1]),
         invalid: random.pick(&[0, 1, 30]),
         depth: random.pick(&[1, 2, 15, 16]),
         statements: random.between(0, 4),

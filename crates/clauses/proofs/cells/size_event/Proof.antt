@@ -1,4 +1,5 @@
 use native.Mathlib.Omega.{arith}
+use Rattle.design.specs.Limits.{maxDepth}
 use Rattle.clauses.proofs.CellCounts.{sizes, event-slot, event-inside, event-reads, event-gates}
 use borrow.Author.Needs.{needs}
 use Rattle.clauses.proofs.cells.size_event.Statement.{statement}
@@ -59,7 +60,7 @@ add-size-bool c =
 size-bool-requires : tie.Need-size-bool-requires
 size-bool-requires c κs =
     let entry = c .before .before .before .before in (
-      event-reads _ _ _ (entry .pre .0) _ _ (entry .pre .1) (entry .pre .2) _ (c .wide .ensures .0),
+      (entry .args .file .now, maxDepth, event-reads _ _ _ (entry .pre .0) _ _ (entry .pre .1) (entry .pre .2) _ (c .wide .ensures .0)),
       omega (
         arith,
         c .wide .ensures .0,
@@ -79,7 +80,9 @@ size-bool-requires c κs =
 returns : tie.Need-returns
 returns c =
     let entry = c .before .before .before .before .before in
-    event-gates _ _ _ (entry .pre .0) _ _ (entry .pre .1) (entry .pre .2) _ (c .before .wide .ensures .0) _ (c .size-bool .ensures)
+    let length = c .before .wide .ensures .0 in
+    let reads = event-reads _ _ _ (entry .pre .0) _ _ (entry .pre .1) (entry .pre .2) _ length in
+    event-gates _ _ _ (entry .pre .0) _ _ (entry .pre .1) (entry .pre .2) _ length _ (c .size-bool .ensures (entry .args .file .now) maxDepth reads)
 
 pub size-event-spec : {M : Type 1} → statement M
 size-event-spec =

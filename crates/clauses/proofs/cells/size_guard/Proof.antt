@@ -1,4 +1,5 @@
 use native.Mathlib.Omega.{arith}
+use Rattle.design.specs.Limits.{maxDepth}
 use Rattle.clauses.proofs.TextGates.{bool-few}
 use Rattle.clauses.proofs.CellCounts.{sizes, few-gates, none-gates, guard-none, guard-inside, guard-reads, guard-gates}
 use borrow.Author.Needs.{needs}
@@ -40,33 +41,25 @@ add-size-bool-3 c = search needs
 
 size-bool-requires : tie.Need-size-bool-requires
 size-bool-requires c κs =
-    let entry = c .before .before .before .before in (
-      guard-reads _ _ _ (entry .pre .0 .1) _ (entry .pre .1) _ (c .before .wide .ensures .0) (c .if1 .left),
-      omega (
-        arith,
-        guard-inside _ _ _ (entry .pre
-            .0 .1) _ (entry .pre .1) _ (c .before .wide .ensures .0),
-        sizes _ _ _ (entry .pre .0 .1),
-      ),
-      omega (
-        arith,
-        guard-inside _ _ _ (entry .pre .0 .1)
-            _ (entry .pre .1) _ (c .before .wide .ensures .0),
-        sizes _ _ _ (entry .pre .0 .1),
-      ),
+    let entry = c .before .before .before .before in
+    let (table, ready) = entry .pre .0 in
+    let length = c .before .wide .ensures .0 in
+    let inside = guard-inside _ _ _ ready _ (entry .pre .1) _ length in (
+      (entry .args .file .now, maxDepth, guard-reads _ _ _ ready _ (entry .pre .1) _ length (c .if1 .left)),
+      omega (arith, inside, sizes _ _ _ ready),
+      omega (arith, inside, sizes _ _ _ ready),
     )
 
 returns-2 : tie.Need-returns-2
 returns-2 c =
-    let entry = c .before .before .before .before .before in (
-      few-gates _ (bool-few _ _ _ (omega (
-        arith,
-        guard-inside _ _ _ (entry .pre .0 .1) _ (entry .pre .1) _ (c .before .before .wide .ensures .0),
-        sizes _ _
-            _ (entry .pre .0 .1),
-      )) _ _ _ (c .size-bool .ensures)),
-      λ x. guard-gates _ _ _ (entry .pre .0 .1) _ x _ (c .before .before .wide .ensures .0)
-          (c .before .if1 .left) _ (c .size-bool .ensures),
+    let entry = c .before .before .before .before .before in
+    let (table, ready) = entry .pre .0 in
+    let length = c .before .before .wide .ensures .0 in
+    let inside = guard-inside _ _ _ ready _ (entry .pre .1) _ length in
+    let reads = guard-reads _ _ _ ready _ (entry .pre .1) _ length (c .before .if1 .left) in
+    let counted = c .size-bool .ensures (entry .args .file .now) maxDepth reads in (
+      few-gates _ (bool-few _ _ _ (omega (arith, inside, sizes _ _ _ ready)) _ _ _ counted),
+      λ x. guard-gates _ _ _ ready _ x _ length (c .before .if1 .left) _ counted,
     )
 
 pub size-guard-spec : {M : Type 1} → statement M

@@ -3,8 +3,8 @@ use mathlib.Core.Logic.{inl, inr, ⊎-elim}
 use mathlib.Core.Path.{_∙_}
 use Rattle.step.proofs.Values.{int-live, int-unknown, int-first}
 use Rattle.clauses.proofs.TextGates.{int-few}
-use Rattle.clauses.proofs.GateCounts.{int-then, int-number, int-name, int-joined}
-use Prim.Native.Nat.{ℕ, _<_}
+use Rattle.clauses.proofs.GateCounts.{int-next, int-then, int-number, int-name, int-joined}
+use Prim.Native.Nat.{ℕ, _<_, _-_}
 use borrow.Fn.Kinds.{In}
 use borrow.Fn.PlainCycle.{Measures, is, falls, and}
 use Rattle.clauses.proofs.cost.size_int.Reads as size-int
@@ -16,7 +16,7 @@ use Rattle.clauses.proofs.cost.+size_int.{statement}
 use Rattle.clauses.proofs.cost.+size_int.Tie.{close}
 
 abbrev μ-size-int : Measures 1 size-int-kinds.ps ℕ
-μ-size-int κs a = a .1 .1 .1 .1 .0
+μ-size-int κs a = a .1 .1 .0 - a .1 .0
 
 abbrev size-int-at : ℕ → In 1 size-int-kinds.ps
 size-int-at t = and 1 size-int-kinds.ps (is 1 size-int-kinds.ps μ-size-int t) size-int.Pre
@@ -28,76 +28,69 @@ abbrev size-int-claims : ℕ → size-int-lts.Claims
 size-int-claims t = (no-gates-reads.Asked, no-gates-reads.Learnt, size-int-below t, size-int.Post, join-reads.Asked, join-reads.Learnt)
 
 size-int-shared-slice-read-op : (t : ℕ) → size-int-lts.Need-shared-slice-read-op (size-int-claims t) (size-int-at t) size-int.Post
-size-int-shared-slice-read-op t c = omega (arith, int-live _ _ _ _ _ (c .before .before .pre .1 .0) .inside)
+size-int-shared-slice-read-op t c = omega (arith, int-live _ _ _ _ _ (c .before .before .pre .1 .0 .2) .inside)
 
 size-int-add-no-gates : (t : ℕ) → size-int-lts.Need-add-no-gates (size-int-claims t) (size-int-at t) size-int.Post
-size-int-add-no-gates t c = omega (arith, int-number _ _ _ _ _ (c .before .before .before .pre .1 .0) (c .match .keys1) .0)
+size-int-add-no-gates t c = omega (arith, int-number _ _ _ _ _ (c .before .before .before .pre .1 .0 .2) (c .match .keys1) .0)
 
 size-int-no-gates-requires : (t : ℕ) → size-int-lts.Need-no-gates-requires (size-int-claims t) (size-int-at t) size-int.Post
 size-int-no-gates-requires t c κs = tt
 
 size-int-add-no-gates-2 : (t : ℕ) → size-int-lts.Need-add-no-gates-2 (size-int-claims t) (size-int-at t) size-int.Post
-size-int-add-no-gates-2 t c = omega (arith, int-name _ _ _ _ _ (c .before .before .before .before .before .pre .1 .0) (omega arith) (omega arith) .0)
+size-int-add-no-gates-2 t c = omega (arith, int-name _ _ _ _ _ (c .before .before .before .before .before .pre .1 .0 .2) (omega arith) (omega arith) .0)
 
 size-int-no-gates-requires-2 : (t : ℕ) → size-int-lts.Need-no-gates-requires-2 (size-int-claims t) (size-int-at t) size-int.Post
 size-int-no-gates-requires-2 t c κs = tt
 
 size-int-add-size-int : (t : ℕ) → size-int-lts.Need-add-size-int (size-int-claims t) (size-int-at t) size-int.Post
-size-int-add-size-int t c = omega (arith, int-live _ _ _ _ _ (c .before .before .before .before .before .before .pre .1 .0) .inside)
-
-size-int-sub-size-int : (t : ℕ) → size-int-lts.Need-sub-size-int (size-int-claims t) (size-int-at t) size-int.Post
-size-int-sub-size-int t c = omega (arith, int-live _ _ _ _ _ (c .before .before .before .before .before .before .pre .1 .0) .deep)
+size-int-add-size-int t c = omega (arith, int-live _ _ _ _ _ (c .before .before .before .before .before .before .pre .1 .0 .2) .inside)
 
 size-int-size-int-requires : (t : ℕ) → size-int-lts.Need-size-int-requires (size-int-claims t) (size-int-at t) size-int.Post
-size-int-size-int-requires t c κs = (
-  omega (arith, int-live _ _ _ _ _ (c .before .before .before .before .before .before .pre .1 .0) .deep),
-  (
-    int-first _ _ _ _ _ (c .before .before
-        .before .before .before .before .pre .1 .0) (omega arith) (omega arith),
-    omega arith,
-    omega arith,
-  ),
-)
-
-size-int-sub-size-int-2 : (t : ℕ) → size-int-lts.Need-sub-size-int-2 (size-int-claims t) (size-int-at t) size-int.Post
-size-int-sub-size-int-2 t c = omega (arith, int-live _ _ _ _ _ (c .before .before .before .before .before .before .before .pre .1 .0) .deep)
+size-int-size-int-requires t c κs =
+    let (file, depth, h) = c .before .before .before .before .before .before .pre .1 .0 in (
+      omega (arith, int-live _ _ _ _ _ h .inside),
+      ((file, depth - 1, int-first _ _ _ _ _ h (omega arith) (omega arith)), omega arith, omega arith),
+    )
 
 size-int-size-int-requires-2 : (t : ℕ) → size-int-lts.Need-size-int-requires-2 (size-int-claims t) (size-int-at t) size-int.Post
-size-int-size-int-requires-2 t c κs = (
-  omega (arith, int-live _ _ _ _ _ (c .before .before .before .before .before .before .before .pre .1 .0) .deep),
-  (
-    int-then _ _ _ _ _ (c .before
-        .before .before .before .before .before .before .pre .1 .0) (omega arith) (omega arith) _ (c .size-int .ensures),
-    omega arith,
-    omega arith,
-  ),
-)
+size-int-size-int-requires-2 t c κs =
+    let (file, depth, h) = c .before .before .before .before .before .before .before .pre .1 .0 in
+    let first = int-first _ _ _ _ _ h (omega arith) (omega arith) in
+    let a = c .size-int .ensures file (depth - 1) first in (
+      omega (arith, int-live _ _ _ _ _ h .inside, int-next _ _ _ _ _ first _ a),
+      ((file, depth - 1, int-then _ _ _ _ _ h (omega arith) (omega arith) _ a), omega arith, omega arith),
+    )
 
 size-int-join-requires : (t : ℕ) → size-int-lts.Need-join-requires (size-int-claims t) (size-int-at t) size-int.Post
 size-int-join-requires t c κs =
     let entry = c .before .before .before .before .before .before .before .before in
-    let f = int-few _ _ _ (entry .pre .1 .2) _ _ _ (c .before .size-int .ensures) in let g = int-few _ _ _ (entry .pre .1 .2) _ _ _ (c .size-int2
-    .ensures) in (omega (arith, f .ands, g .ands), omega (arith, f .wides, g .wides))
+    let (file, depth, h) = entry .pre .1 .0 in
+    let a = c .before .size-int .ensures file (depth - 1) (int-first _ _ _ _ _ h (omega arith) (omega arith)) in
+    let b = c .size-int2 .ensures file (depth - 1) (int-then _ _ _ _ _ h (omega arith) (omega arith) _ a) in
+    let f = int-few _ _ _ (entry .pre .1 .2) _ _ _ a in
+    let g = int-few _ _ _ (entry .pre .1 .2) _ _ _ b in
+    (omega (arith, f .ands, g .ands), omega (arith, f .wides, g .wides))
 
 size-int-no-gates-requires-3 : (t : ℕ) → size-int-lts.Need-no-gates-requires-3 (size-int-claims t) (size-int-at t) size-int.Post
 size-int-no-gates-requires-3 t c κs = tt
 
 size-int-returns : (t : ℕ) → size-int-lts.Need-returns (size-int-claims t) (size-int-at t) size-int.Post
-size-int-returns t c = c .no-gates .ensures ∙ int-number _ _ _ _ _ (c .before .before .before .before .pre .1 .0) (c .before .match .keys1) .1
+size-int-returns t c = λ file depth h. c .no-gates .ensures ∙ int-number _ _ _ _ _ h (c .before .match .keys1) .1
 
 size-int-returns-2 : (t : ℕ) → size-int-lts.Need-returns-2 (size-int-claims t) (size-int-at t) size-int.Post
-size-int-returns-2 t c =
-    c .no-gates2 .ensures ∙ int-name _ _ _ _ _ (c .before .before .before .before .before .before .pre .1 .0) (omega arith) (omega arith) .1
+size-int-returns-2 t c = λ file depth h. c .no-gates2 .ensures ∙ int-name _ _ _ _ _ h (omega arith) (omega arith) .1
 
 size-int-returns-3 : (t : ℕ) → size-int-lts.Need-returns-3 (size-int-claims t) (size-int-at t) size-int.Post
 size-int-returns-3 t c =
-    c .join .ensures ∙ int-joined _ _ _ _ _ (c .before .before .before .before .before .before .before .before .before .pre .1 .0) (omega arith) (omega
-    arith) _ _ (c .before .before .size-int .ensures) (c .before .size-int2 .ensures)
+    λ file depth h.
+    let a = c .before .before .size-int .ensures file (depth - 1) (int-first _ _ _ _ _ h (omega arith) (omega arith)) in
+    let b = c .before .size-int2 .ensures file (depth - 1) (int-then _ _ _ _ _ h (omega arith) (omega arith) _ a) in
+    c .join .ensures ∙ int-joined _ _ _ _ _ h (omega arith) (omega arith) _ _ a b
 
 size-int-returns-4 : (t : ℕ) → size-int-lts.Need-returns-4 (size-int-claims t) (size-int-at t) size-int.Post
 size-int-returns-4 t c =
     let entry = c .before .before .before .before .before in
-    absurd (⊎-elim (λ w. int-unknown _ _ _ _ _ (entry .pre .1 .0) (inl (omega (arith, w .taken)))) (λ w. int-unknown _ _ _ _ _ (entry .pre .1 .0) (inr
+    absurd (⊎-elim (λ w. int-unknown _ _ _ _ _ (entry .pre .1 .0 .2) (inl (omega (arith, w .taken)))) (λ w. int-unknown _ _ _ _ _ (entry .pre .1 .0 .2) (inr
     (omega (arith, w .2 .left)))) (c .before .if1 .came))
 
 pub +size-int-spec : {M : Type 1} → statement M
@@ -117,9 +110,7 @@ pub +size-int-spec : {M : Type 1} → statement M
     (size-int-add-no-gates-2 t)
     (size-int-no-gates-requires-2 t)
     (size-int-add-size-int t)
-    (size-int-sub-size-int t)
     (size-int-size-int-requires t)
-    (size-int-sub-size-int-2 t)
     (size-int-size-int-requires-2 t)
     (size-int-join-requires t)
     (size-int-no-gates-requires-3 t)

@@ -2,12 +2,12 @@ use native.Mathlib.Omega.{arith}
 use Prim.Native.Nat.{ℕ, _<_, _-_}
 use mathlib.Core.Path.{ap}
 use mathlib.Core.Logic.{inl, inr, ⊎-elim}
+use Rattle.design.specs.Limits.{maxDepth}
 use Rattle.design.specs.Check.{namesOf}
 use Rattle.clauses.specs.declared.cost.GatesAt.{GatesAt}
 use Rattle.step.proofs.Runs.{stmt-unknown, list-live, stmt-live, seq-first, assign-live, if-test, if-deep}
 use Rattle.clauses.proofs.TextGates.{bool-few, statement-few, list-few}
 use Rattle.clauses.proofs.ActionCounts.{Counting, counting-start, counting-on, counting-few, counting-end, stated-assign, if-first, first-on, if-second, second-on, if-joined}
-use Prim.Native.Nat.{ℕ, _<_}
 use borrow.Fn.Kinds.{In}
 use borrow.Fn.PlainCycle.{Measures, is, falls, and}
 use Rattle.clauses.proofs.cost.size_list.Reads as size-list
@@ -125,70 +125,57 @@ size-stmt-add-size-bool t c = omega (arith, stmt-live _ _ _ _ _ (c .before .befo
 
 size-stmt-size-bool-requires : (t : ℕ) → size-stmt-lts.Need-size-bool-requires (size-stmt-claims t) (size-stmt-at t) size-stmt.Post
 size-stmt-size-bool-requires t c κs =
-    (if-test _ _ _ _ _ (c .before .before .before .before .before .pre .1 .0) (c .if3 .left), omega arith, omega arith)
+    let entry = c .before .before .before .before .before in
+    ((entry .args .file .now, maxDepth, if-test _ _ _ _ _ (entry .pre .1 .0) (c .if3 .left)), omega arith, omega arith)
 
 size-stmt-sub-size-list : (t : ℕ) → size-stmt-lts.Need-sub-size-list (size-stmt-claims t) (size-stmt-at t) size-stmt.Post
 size-stmt-sub-size-list t c = omega (arith, if-deep _ _ _ _ _ (c .before .before .before .before .before .before .pre .1 .0) (c .before .if3 .left))
 
 size-stmt-size-list-requires : (t : ℕ) → size-stmt-lts.Need-size-list-requires (size-stmt-claims t) (size-stmt-at t) size-stmt.Post
-size-stmt-size-list-requires t c κs = (
-  omega (arith, first-on _ _ _ _ _ (c .before .before .before .before .before .before .pre .1 .0) (c .before .if3 .left) _ (c .size-bool .ensures)),
-  (
-    if-first _ _ _ _ _ (c .before .before .before .before .before .before .pre .1 .0) (c .before .if3 .left) _ (c .size-bool .ensures),
-    (
-      omega
-          arith,
-      omega arith,
-      omega arith,
-      omega arith,
-    ),
-  ),
-)
+size-stmt-size-list-requires t c κs =
+    let entry = c .before .before .before .before .before .before in
+    let h = entry .pre .1 .0 in
+    let ne = c .before .if3 .left in
+    let test = c .size-bool .ensures (entry .args .file .now) maxDepth (if-test _ _ _ _ _ h ne) in (
+      omega (arith, first-on _ _ _ _ _ h ne _ test),
+      (if-first _ _ _ _ _ h ne _ test, (omega arith, omega arith, omega arith, omega arith)),
+    )
 
 size-stmt-sub-size-list-2 : (t : ℕ) → size-stmt-lts.Need-sub-size-list-2 (size-stmt-claims t) (size-stmt-at t) size-stmt.Post
 size-stmt-sub-size-list-2 t c =
     omega (arith, if-deep _ _ _ _ _ (c .before .before .before .before .before .before .before .pre .1 .0) (c .before .before .if3 .left))
 
 size-stmt-size-list-requires-2 : (t : ℕ) → size-stmt-lts.Need-size-list-requires-2 (size-stmt-claims t) (size-stmt-at t) size-stmt.Post
-size-stmt-size-list-requires-2 t c κs = (
-  omega (
-    arith,
-    second-on _ _ _ _ _ (c .before .before .before .before .before .before .before .pre .1 .0) (c .before .before .if3 .left) _ (c .before
-        .size-bool .ensures) _ _ (c .size-list .ensures),
-  ),
-  (
-    if-second _ _ _ _ _ (c .before .before .before .before .before .before .before .pre .1 .0)
-        (c .before .before .if3 .left) _ (c .before .size-bool .ensures) _ _ (c .size-list .ensures),
-    (
-      omega arith,
-      omega arith,
-      omega arith,
-      omega
-          arith,
-    ),
-  ),
-)
+size-stmt-size-list-requires-2 t c κs =
+    let entry = c .before .before .before .before .before .before .before in
+    let h = entry .pre .1 .0 in
+    let ne = c .before .before .if3 .left in
+    let test = c .before .size-bool .ensures (entry .args .file .now) maxDepth (if-test _ _ _ _ _ h ne) in (
+      omega (arith, second-on _ _ _ _ _ h ne _ test _ _ (c .size-list .ensures)),
+      (if-second _ _ _ _ _ h ne _ test _ _ (c .size-list .ensures), (omega arith, omega arith, omega arith, omega arith)),
+    )
 
 size-stmt-join-requires : (t : ℕ) → size-stmt-lts.Need-join-requires (size-stmt-claims t) (size-stmt-at t) size-stmt.Post
 size-stmt-join-requires t c κs =
     let entry = c .before .before .before .before .before .before .before .before in
-    let f = bool-few _ _ _ (entry .pre .1 .1 .1) _ _ _ (c .before .before .size-bool .ensures) in let g = list-few _ _ _ (entry .pre .1 .1 .1) _ (entry
-    .pre .1 .1 .3) _ _ _ (c .before .size-list .ensures) in (omega (arith, f .ands, g .ands), omega (arith, f .wides, g .wides))
+    let h = entry .pre .1 .0 in
+    let ne = c .before .before .before .if3 .left in
+    let test = c .before .before .size-bool .ensures (entry .args .file .now) maxDepth (if-test _ _ _ _ _ h ne) in
+    let f = bool-few _ _ _ (entry .pre .1 .1 .1) _ _ _ test in
+    let g = list-few _ _ _ (entry .pre .1 .1 .1) _ (entry .pre .1 .1 .3) _ _ _ (c .before .size-list .ensures) in
+    (omega (arith, f .ands, g .ands), omega (arith, f .wides, g .wides))
 
 size-stmt-join-requires-2 : (t : ℕ) → size-stmt-lts.Need-join-requires-2 (size-stmt-claims t) (size-stmt-at t) size-stmt.Post
 size-stmt-join-requires-2 t c κs =
     let entry = c .before .before .before .before .before .before .before .before .before in
-    let f = bool-few _ _ _ (entry .pre .1 .1 .1) _ _ _ (c .before .before .before .size-bool .ensures) in let g = list-few _ _ _ (entry .pre .1 .1 .1) _
-    (entry .pre .1 .1 .3) _ _ _ (c .before .before .size-list .ensures) in let k = list-few _ _ _ (entry .pre .1 .1 .1) _ (entry .pre .1 .1 .3) _
-    _ _ (c .before .size-list2 .ensures) in let e = c .join .ensures in (
-      omega (
-        arith,
-        f .ands,
-        g .ands,
-        k .ands,
-        ap (λ (z : GatesAt). z .ands)
-            e,
-      ),
+    let h = entry .pre .1 .0 in
+    let ne = c .before .before .before .before .if3 .left in
+    let test = c .before .before .before .size-bool .ensures (entry .args .file .now) maxDepth (if-test _ _ _ _ _ h ne) in
+    let f = bool-few _ _ _ (entry .pre .1 .1 .1) _ _ _ test in
+    let g = list-few _ _ _ (entry .pre .1 .1 .1) _ (entry .pre .1 .1 .3) _ _ _ (c .before .before .size-list .ensures) in
+    let k = list-few _ _ _ (entry .pre .1 .1 .1) _ (entry .pre .1 .1 .3) _ _ _ (c .before .size-list2 .ensures) in
+    let e = c .join .ensures in (
+      omega (arith, f .ands, g .ands, k .ands, ap (λ (z : GatesAt). z .ands) e),
       omega (arith, f .wides, g .wides, k .wides, entry .pre .1 .1 .3, ap (λ (z : GatesAt). z .wides) e),
     )
 
@@ -198,9 +185,12 @@ size-stmt-no-gates-requires t c κs = tt
 size-stmt-returns-2 : (t : ℕ) → size-stmt-lts.Need-returns-2 (size-stmt-claims t) (size-stmt-at t) size-stmt.Post
 size-stmt-returns-2 t c =
     let entry = c .before .before .before .before .before .before .before .before .before .before in
-    if-joined _ _ _ _ _ (entry .pre .1 .0) (c .before .before .before .before .before .if3 .left) _ (c .before .before .before .before .size-bool
-    .ensures) _ _ (c .before .before .before .size-list .ensures) _ _ _ (c .before .before .size-list2 .ensures) (c .before .join .ensures) (c
-    .join2 .ensures)
+    let h = entry .pre .1 .0 in
+    let ne = c .before .before .before .before .before .if3 .left in
+    let test = c .before .before .before .before .size-bool .ensures (entry .args .file .now) maxDepth (if-test _ _ _ _ _ h ne) in
+    let first = c .before .before .before .size-list .ensures in
+    let second = c .before .before .size-list2 .ensures in
+    if-joined _ _ _ _ _ h ne _ test _ _ first _ _ _ second (c .before .join .ensures) (c .join2 .ensures)
 
 size-stmt-returns-3 : (t : ℕ) → size-stmt-lts.Need-returns-3 (size-stmt-claims t) (size-stmt-at t) size-stmt.Post
 size-stmt-returns-3 t c =

@@ -1,7 +1,8 @@
 use native.Mathlib.Omega.{arith}
 use Prim.Native.Nat.{ℕ, _*_}
 use lib.ListN.{getD}
-use mathlib.Core.Path.{sym, ap, _∙_}
+use mathlib.Core.Path.{_≡_, sym, ap, _∙_}
+use Rattle.design.specs.Limits.{maxDepth}
 use Rattle.step.proofs.Runs.{assign-inside, assign-int, assign-bool}
 use Rattle.clauses.proofs.ActionCounts.{assigned-int, assigned-bool}
 use borrow.Author.Needs.{needs}
@@ -29,35 +30,33 @@ add-size-int : tie.Need-add-size-int
 add-size-int c = omega (arith, assign-inside _ _ _ _ (c .before .before .before .before .before .pre .0) .0)
 
 size-int-requires : tie.Need-size-int-requires
-size-int-requires c κs = (
-  assign-int _ _ _ _ (c .before .before .before .before .before .pre .0) (sym (ap (λ (v : ℕ). getD (c .before .before .before .before .before .args
-      .file .now) (3 * v) 0) (c .before .before .wide .ensures .0)) ∙ c .if1 .taken),
-  omega arith,
-  omega arith,
-)
+size-int-requires c κs =
+    let entry = c .before .before .before .before .before in
+    let kind = sym (ap (λ (v : ℕ). getD (entry .args .file .now) (3 * v) 0) (c .before .before .wide .ensures .0)) ∙ c .if1 .taken in
+    ((entry .args .file .now, maxDepth, assign-int _ _ _ _ (entry .pre .0) kind), omega arith, omega arith)
 
 add-size-bool : tie.Need-add-size-bool
 add-size-bool c = omega (arith, assign-inside _ _ _ _ (c .before .before .before .before .before .pre .0) .0)
 
 size-bool-requires : tie.Need-size-bool-requires
-size-bool-requires c κs = (
-  assign-bool _ _ _ _ (c .before .before .before .before .before .pre .0) (λ e. c .if1 .left (ap (λ (v : ℕ). getD (c .before .before .before .before
-      .before .args .file .now) (3 * v) 0) (c .before .before .wide .ensures .0) ∙ e)),
-  omega arith,
-  omega arith,
-)
+size-bool-requires c κs =
+    let entry = c .before .before .before .before .before in
+    let kind : getD (entry .args .file .now) (3 * getD (entry .args .file .now) (entry .args .at) 0) 0 ≡ 1 → ⊥ =
+    λ e. c .if1 .left (ap (λ (v : ℕ). getD (entry .args .file .now) (3 * v) 0) (c .before .before .wide .ensures .0) ∙ e) in
+    ((entry .args .file .now, maxDepth, assign-bool _ _ _ _ (entry .pre .0) kind), omega arith, omega arith)
 
 returns : tie.Need-returns
 returns c =
     let entry = c .before .before .before .before .before .before in
-    λ bits. assigned-int _ _ _ _ (entry .pre .0) _ bits (sym (ap (λ (v : ℕ). getD (entry .args .file .now) (3 * v) 0) (c .before .before .before .wide
-    .ensures .0)) ∙ c .before .if1 .taken) (c .size-int .ensures)
+    let kind = sym (ap (λ (v : ℕ). getD (entry .args .file .now) (3 * v) 0) (c .before .before .before .wide .ensures .0)) ∙ c .before .if1 .taken in
+    λ bits. assigned-int _ _ _ _ (entry .pre .0) _ bits kind (c .size-int .ensures (entry .args .file .now) maxDepth (assign-int _ _ _ _ (entry .pre .0) kind))
 
 returns-2 : tie.Need-returns-2
 returns-2 c =
     let entry = c .before .before .before .before .before .before in
-    λ bits. assigned-bool _ _ _ _ (entry .pre .0) _ bits (λ e. c .before .if1 .left (ap (λ (v : ℕ). getD (entry .args .file .now) (3 * v) 0) (c .before
-    .before .before .wide .ensures .0) ∙ e)) (c .size-bool .ensures)
+    let kind : getD (entry .args .file .now) (3 * getD (entry .args .file .now) (entry .args .at) 0) 0 ≡ 1 → ⊥ =
+    λ e. c .before .if1 .left (ap (λ (v : ℕ). getD (entry .args .file .now) (3 * v) 0) (c .before .before .before .wide .ensures .0) ∙ e) in
+    λ bits. assigned-bool _ _ _ _ (entry .pre .0) _ bits kind (c .size-bool .ensures (entry .args .file .now) maxDepth (assign-bool _ _ _ _ (entry .pre .0) kind))
 
 pub size-assign-spec : {M : Type 1} → statement M
 size-assign-spec =

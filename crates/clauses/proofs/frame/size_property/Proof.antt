@@ -1,5 +1,6 @@
 -- `clauses::frame::size_property` meets its contract. Assumes nothing.
 use native.Mathlib.Omega.{arith}
+use Rattle.design.specs.Limits.{maxDepth}
 use Rattle.clauses.proofs.CellCounts.{sizes, invariant-reads, invariant-gates, property-gates}
 use borrow.Author.Needs.{needs}
 use Rattle.clauses.proofs.frame.size_property.Statement.{statement}
@@ -11,12 +12,9 @@ invariant-requires c κs = sizes _ _ _ (c .before .before .pre) .0
 size-bool-requires : tie.Need-size-bool-requires
 size-bool-requires c κs =
     let entry = c .before .before .before in (
-      invariant-reads _ _ _ (entry .pre) _ _ (c .invariant .ensures .0) (c .invariant .ensures .1),
+      (entry .args .file .now, maxDepth, invariant-reads _ _ _ (entry .pre) _ _ (c .invariant .ensures .0) (c .invariant .ensures .1)),
       omega (arith, c .invariant .ensures .1),
-      omega (
-        arith,
-        sizes _ _ _ (entry .pre) .1,
-      ),
+      omega (arith, sizes _ _ _ (entry .pre) .1),
     )
 
 size-cells-requires : tie.Need-size-cells-requires
@@ -24,8 +22,10 @@ size-cells-requires c κs = search needs
 
 returns : tie.Need-returns
 returns c =
-    invariant-gates _ _ _ (c .before .before .before .before .pre) _ _ (c .before .invariant .ensures .0) (c .before .invariant .ensures .1) _ (c .before
-    .before .if1 .taken) _ (c .size-bool .ensures)
+    let entry = c .before .before .before .before in
+    let stands = c .before .invariant .ensures in
+    let reads = invariant-reads _ _ _ (entry .pre) _ _ (stands .0) (stands .1) in
+    invariant-gates _ _ _ (entry .pre) _ _ (stands .0) (stands .1) _ (c .before .before .if1 .taken) _ (c .size-bool .ensures (entry .args .file .now) maxDepth reads)
 
 returns-2 : tie.Need-returns-2
 returns-2 c =

@@ -4,9 +4,9 @@ use Prim.Native.Nat.{_-_}
 use native.Mathlib.Omega.{arith}
 use borrow.Author.Needs.{needs}
 use lib.Seq.{length-take-le}
-use Rattle.verdict.specs.Loop.{Standing}
+use Rattle.verdict.specs.Loop.{AtBound}
 use Rattle.clauses.specs.Replies.{DecodeExit}
-use Rattle.verdict.proofs.Standing.{standing-start, bound-low, bound-room, words-in, values-in, trail-in, search-may, tries-in, kept, standing-next, standing-sat, standing-spent, standing-clean}
+use Rattle.verdict.proofs.AtBound.{standing-start, bound-low, bound-room, words-in, values-in, trail-in, search-may, tries-in, kept, standing-next, standing-sat, standing-spent, standing-clean}
 use Rattle.verdict.proofs.bounds.judge.Statement.{statement}
 use Rattle.verdict.proofs.bounds.judge.Tie as tie
 use Rattle.verdict.proofs.bounds.judge.Reads as reads
@@ -16,7 +16,7 @@ use Rattle.search.proofs.search.Reads as search-reads
 use Rattle.clauses.proofs.encode.write_formula.Reads as write-formula-reads
 
 abbrev Inv-loop : tie.InvT-loop
-Inv-loop file property bound budget clauses₀ values₀ trail₀ choices₀ i₀ tries₀ clauses values trail choices i tries = Standing file property bound budget (record { clauses = clauses₀; values = values₀; trail = trail₀; choices = choices₀ }) i tries clauses values trail choices
+Inv-loop file property bound budget clauses₀ values₀ trail₀ choices₀ i₀ tries₀ clauses values trail choices i tries = AtBound file property bound budget (record { clauses = clauses₀; values = values₀; trail = trail₀; choices = choices₀ }) i tries clauses values trail choices
 
 abbrev μ-loop : tie.MeasureT-loop
 μ-loop file property bound budget clauses₀ values₀ trail₀ choices₀ i₀ tries₀ clauses values trail choices i tries = bound - i

@@ -21,7 +21,7 @@ use Rattle.search.specs.declared.Solved.{Solved}
 use Rattle.verdict.specs.Verdict.{Memory, verdict}
 use Rattle.verdict.specs.Answers.{exit}
 use Rattle.clauses.specs.Ready.{Written}
-use Rattle.verdict.specs.Loop.{ReadyMemory, Tried, Standing}
+use Rattle.verdict.specs.Loop.{ReadyMemory, Tried, AtBound}
 use Rattle.verdict.specs.declared.answer.Verdict.the-variants.{Violated, Clean, Spent as SpentAt}
 use Rattle.verdict.specs.declared.answer.Reply.the-variants.{Done}
 use Rattle.verdict.proofs.Calls.{Room, room-for}
@@ -41,12 +41,12 @@ module _ {file : List ℕ} {p k : ℕ} {lent : Memory} (r : ReadyMemory file p k
   room : Room d (propertyOf d p) k lent
   room = room-for d (propertyOf d p) k lent (r .room)
 
-pub standing-start : {file : List ℕ} {p k : ℕ} {lent : Memory} (budget : ℕ) → ReadyMemory file p k lent → Standing file p k budget lent 0 0 (lent .clauses) (lent .values) (lent .trail) (lent .choices)
+pub standing-start : {file : List ℕ} {p k : ℕ} {lent : Memory} (budget : ℕ) → ReadyMemory file p k lent → AtBound file p k budget lent 0 0 (lent .clauses) (lent .values) (lent .trail) (lent .choices)
 standing-start {p = p} {k = k} {lent = lent} budget r = record { ready = r; judging = judging-start (r .design) (wf r) p k budget lent (room r); choices-kept = refl }
 
 module _
     {file : List ℕ} {p k budget : ℕ} {lent : Memory} {i t : ℕ} {clauses : List ℤ} {values trail choices : List ℕ}
-    (s : Standing file p k budget lent i t clauses values trail choices)
+    (s : AtBound file p k budget lent i t clauses values trail choices)
   where
     -- the formula for bound i may be written
     pub bound-low : i ≤ k
@@ -85,7 +85,7 @@ module _
         pub kept : (length clauses′ ≡ length (lent .clauses)) × (length (vs₂ ++ drop v values) ≡ length (lent .values)) × (length (tr₂ ++ drop v trail) ≡ length (lent .trail))
         kept = lengths-kept (s .ready .design) (wf (s .ready)) p k budget lent (room (s .ready)) (s .judging) x
 
-        pub standing-next : r .answer ≡ Unsat → (i ≡ k → ⊥) → Standing file p k budget lent (i + 1) (t + r .tries) clauses′ (vs₂ ++ drop v values) (tr₂ ++ drop v trail) choices
+        pub standing-next : r .answer ≡ Unsat → (i ≡ k → ⊥) → AtBound file p k budget lent (i + 1) (t + r .tries) clauses′ (vs₂ ++ drop v values) (tr₂ ++ drop v trail) choices
         standing-next q ne = record { ready = s .ready; choices-kept = s .choices-kept; judging = judging-next (s .ready .design) (wf (s .ready)) p k budget lent (room (s .ready)) (s .judging) x q ne }
 
         -- what the call answers and leaves
