@@ -23,7 +23,7 @@ use Rattle.design.specs.Sections.{NormalCell}
 use Rattle.design.proofs.Indexed as indexed
 use Rattle.clauses.specs.Cost.{Cost, cost, boolCost, statementsCost, statusAndEventCost, enableCost, effectCost, moverCost, propertyCost}
 use Rattle.clauses.specs.FrameSizes.{gatesAt, both, listGates, entryCost, entriesCost, HasGates, FewGates, CellHere, PlaceCounted, CellCounted, noGates}
-use Rattle.clauses.specs.Ready.{Ready}
+use Rattle.clauses.specs.Ready.{ShapedFile, Ready}
 use Rattle.clauses.specs.Limits.{textGates, mostGates}
 use Rattle.clauses.specs.declared.cost.GatesAt.{GatesAt}
 use Rattle.clauses.proofs.Bounds.{bounded}
@@ -48,18 +48,20 @@ more-gates x e r n k p q =
 pub few-gates : (r : GatesAt) → Few r → FewGates mostGates r
 few-gates r f = record { ands = omega (arith, f .ands); wides = omega (arith, f .wides) }
 
+-- what is known of an accepted file with its shape
+module _ {file : List ℕ} {shape : Shape} (h : ShapedFile file shape) where
+  pub sizes : (16 ≤ length file) × (length file ≤ maxBytes) × (shape .matrices ≤ maxMatrices) × (shape .variables ≤ maxVariables)
+  sizes = indexed.sizes file (h .accepted) shape (h .counts)
+
+  pub kinds : 3 * shape .variables ≤ length file
+  kinds = indexed.kinds file (h .accepted) shape (h .counts)
+
 pub tables : {file table : List ℕ} {shape : Shape} → Ready file table shape → Indexed file table shape
 tables h = record { accepted = h .shaped .accepted; events = h .events; shaped = h .shaped .counts }
 
 module _ (file table : List ℕ) (H : Shape) (h : Ready file table H) where
   abbrev N : Names
   N = namesOf file H
-
-  pub sizes : (16 ≤ length file) × (length file ≤ maxBytes) × (H .matrices ≤ maxMatrices) × (H .variables ≤ maxVariables)
-  sizes = indexed.sizes file (h .shaped .accepted) H (h .shaped .counts)
-
-  pub kinds : 3 * H .variables ≤ length file
-  kinds = indexed.kinds file (h .shaped .accepted) H (h .shaped .counts)
 
   -- event e of matrix m
   module _ (m e : ℕ) (a : m < H .matrices) (b : e < events file (matricesOffset file) m) where
@@ -81,7 +83,7 @@ module _ (file table : List ℕ) (H : Shape) (h : Ready file table H) where
 
       pub event-gates : (r : GatesAt) → r ≡ gatesAt boolCost (boolExpr file N (place + 1 + k) maxDepth (place + 1)) → FewGates textGates r × ((d : Design) (w : Parts file d) → HasGates r (boolCost (eventIn (w .rows) m e)))
       event-gates r z =
-          let f = bool-few file N (place + 1 + k) (omega (arith, past-is, event-inside, sizes .1)) maxDepth (place + 1) r z in (
+          let f = bool-few file N (place + 1 + k) (omega (arith, past-is, event-inside, sizes (h .shaped) .1)) maxDepth (place + 1) r z in (
             record { ands = f .ands; wides = f .wides },
             λ d w. known-gates boolCost _ _ _ r (indexed.event-got file table H (tables h) m e a b d w (place + 1 + k) (place + 1) past-is refl) z,
           )
@@ -104,7 +106,7 @@ module _ (file table : List ℕ) (H : Shape) (h : Ready file table H) where
 
     pub invariant-gates : (p : ℕ) → p ≡ 0 → (r : GatesAt) → r ≡ gatesAt boolCost (boolExpr file N end maxDepth at) → FewGates mostGates r × ((d : Design) → Parts file d → HasGates r (propertyCost d (propertyOf d p)))
     invariant-gates p z r e = (
-      few-gates r (bool-few file N end (omega (arith, sizes .1)) maxDepth at r e),
+      few-gates r (bool-few file N end (omega (arith, sizes (h .shaped) .1)) maxDepth at r e),
       λ d w. subst (HasGates r) (sym (property-invariant file d w (H .bits) (h .shaped .bits .state d w) p z)) (known-gates boolCost _ _ _ r (indexed.invariant-got file (h .shaped .accepted) H (h .shaped .counts) at end a b d w) e),
     )
 

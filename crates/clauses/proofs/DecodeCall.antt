@@ -24,7 +24,7 @@ use Rattle.design.specs.Answer.{Answer, refused, answer, need}
 use Rattle.clauses.specs.Decode.{justOne, firstOne, withChoice, flagValues, chosenFrom, choicesToWrite, written, decode}
 use Rattle.clauses.specs.FrameSizes.{costIn, frameSizes, frameLength, variablesOf}
 use Rattle.clauses.specs.Chosen.{chosenIn, flagsFrom, firstBad, chosenList}
-use Rattle.clauses.specs.Replies.{DecodeExit, exitOf, DECODE}
+use Rattle.clauses.specs.Replies.{DecodeExit, decodeExit, DECODE}
 use Rattle.clauses.specs.declared.frame.FrameSizes.{FrameSizes}
 use Rattle.clauses.specs.declared.decode.DecodeReply.{DecodeReply}
 use Rattle.clauses.specs.declared.decode.DecodeReply.the-variants.{Refused, Done}
@@ -112,12 +112,12 @@ module _ (file : List ℕ) (p k : ℕ) (values choices : List ℕ) where
   -- a refusal, and an answer
   refused-exit : (i j : ℕ) → choicesToWrite file p k values (length choices) ≡ refused i j → exit (Refused i j) choices ≡ DECODE file p k values choices
   unfolding decode
-  refused-exit i j e = sym (ap (λ (x : Answer (List ℕ)). exitOf (written x choices)) e)
+  refused-exit i j e = sym (ap (λ (x : Answer (List ℕ)). decodeExit (written x choices)) e)
 
   answer-exit : (cs : List ℕ) → choicesToWrite file p k values (length choices) ≡ answer cs → length cs ≡ k
       → exit Done (cs ++ drop k choices) ≡ DECODE file p k values choices
   unfolding decode
-  answer-exit cs e l = ap (λ (i : ℕ). exit Done (cs ++ drop i choices)) (sym l) ∙ sym (ap (λ (x : Answer (List ℕ)). exitOf (written x choices)) e)
+  answer-exit cs e l = ap (λ (i : ℕ). exit Done (cs ++ drop i choices)) (sym l) ∙ sym (ap (λ (x : Answer (List ℕ)). decodeExit (written x choices)) e)
 
   pub decode-refused : (r : Refusal) → r ≡ gateRefusal file p k → (r .number ≡ 0 → ⊥)
       → exit (Refused (r .number) (r .place)) choices ≡ DECODE file p k values choices

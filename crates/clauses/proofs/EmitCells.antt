@@ -31,27 +31,21 @@ use Rattle.clauses.specs.Ready.{ShapedFile, Ready, resultFrom}
 use Rattle.clauses.specs.declared.gate.Cursor.{Cursor}
 use Rattle.clauses.specs.declared.expression.BoolOut.{BoolOut}
 use Rattle.clauses.specs.declared.action.Done.{Done}
-use Rattle.clauses.proofs.CellCounts.{tables}
+use Rattle.clauses.proofs.CellCounts.{sizes, kinds, tables}
 use Rattle.clauses.proofs.EmitWords.{code-yes}
 use Rattle.clauses.proofs.EmitLists.{codes-length, codes-take}
 use Rattle.clauses.proofs.EmitBuilds.{emits-same, emits-result, emits-give, emits-bind, emits-map}
 use Rattle.clauses.proofs.EmitStates.{muxes-flat, status-over}
 
 module _ {file : List ℕ} {shape : Shape} (h : ShapedFile file shape) where
-  pub sizes : (16 ≤ length file) × (length file ≤ maxBytes) × (shape .matrices ≤ maxMatrices) × (shape .variables ≤ maxVariables)
-  sizes = indexed.sizes file (h .accepted) shape (h .counts)
-
-  pub kinds : 3 * shape .variables ≤ length file
-  kinds = indexed.kinds file (h .accepted) shape (h .counts)
-
   pub few-bits : total (widthsIn file shape) ≤ maxBits
   few-bits = omega (arith, h .bits .few, h .bits .total)
 
   pub slotted : (codes : List ℕ) → length codes ≡ maxBits → Slotted file shape codes
   slotted codes e = record {
-    kinds = kinds;
-    variables = sizes .3;
-    matrices = sizes .2;
+    kinds = kinds h;
+    variables = sizes h .3;
+    matrices = sizes h .2;
     sum = h .bits .total;
     few = h .bits .few;
     bits = omega (arith, few-bits);

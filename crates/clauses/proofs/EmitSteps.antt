@@ -44,7 +44,7 @@ use Rattle.clauses.proofs.EmitWords.{append-nil}
 use Rattle.clauses.proofs.EmitLists.{drop-all}
 use Rattle.clauses.proofs.EmitBuilds.{emits-same, emits-result, emits-give, emits-bind, Left, left-start, left-on, left-map, left-same, left-result, left-end}
 use Rattle.clauses.proofs.EmitStates.{built-same}
-use Rattle.clauses.proofs.EmitCells.{sizes}
+use Rattle.clauses.proofs.CellCounts.{sizes}
 
 -- every external's kind byte is 2
 kind-in : (file : List ℕ) (v : ℕ) (rest : List ℕ) → ((k : ℕ) → k < length rest → getD file (3 * getD rest k 0) 0 ≡ 2) → (t : Bool) → eqb (getD file (3 * v) 0) 2 ≡ t → (k : ℕ) → k < length (cond t (v ∷ rest) rest) → getD file (3 * getD (cond t (v ∷ rest) rest) k 0) 0 ≡ 2

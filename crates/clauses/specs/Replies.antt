@@ -57,8 +57,8 @@ pub record DecodeExit : Type 0 where
   pub reply : DecodeReply
   pub choices : List ℕ
 
-abbrev pub exitOf : AfterDecode → DecodeExit
-exitOf d = record { reply = decodeReply (d .answer); choices = d .choices }
+abbrev pub decodeExit : AfterDecode → DecodeExit
+decodeExit d = record { reply = decodeReply (d .answer); choices = d .choices }
 
 abbrev pub DECODE : List ℕ → ℕ → ℕ → List ℕ → List ℕ → DecodeExit
-DECODE file p k values choices = exitOf (decode file p k values choices)
+DECODE file p k values choices = decodeExit (decode file p k values choices)

@@ -26,29 +26,29 @@ module _ (reply after : SizeReply) (says : reply ≡ after) (answer : List ℕ) 
   size-told s e = ap (λ (x : SizeReply). sizeReturn x answer) (sym e ∙ says)
 
 module _ (after : replies.EncodeExit) (reply : EncodeReply) (buffer : List ℤ) (says : record { reply = reply; buffer = buffer } ≡ after) (answer : List ℕ) where
-  abbrev encodeExit : replies.EncodeExit → EncodeReturn
-  encodeExit x = record { code = encodeCode (x .reply); clauses = x .buffer; answer = encodeWords (x .reply) answer }
+  abbrev encodeReturn : replies.EncodeExit → EncodeReturn
+  encodeReturn x = record { code = encodeCode (x .reply); clauses = x .buffer; answer = encodeWords (x .reply) answer }
 
   abbrev encodeReplied : EncodeReply → EncodeReturn
-  encodeReplied y = encodeExit (record { reply = y; buffer = buffer })
+  encodeReplied y = encodeReturn (record { reply = y; buffer = buffer })
 
-  pub encode-refused : (number place r : ℕ) → reply ≡ encode-reply.Refused number place → r ≡ code number place → record { code = r; clauses = buffer; answer = answer } ≡ encodeExit after
+  pub encode-refused : (number place r : ℕ) → reply ≡ encode-reply.Refused number place → r ≡ code number place → record { code = r; clauses = buffer; answer = answer } ≡ encodeReturn after
   encode-refused number place r e q =
-      ap {B = EncodeReturn} (λ (k : ℕ). record { code = k; clauses = buffer; answer = answer }) q ∙ ap encodeReplied (sym e) ∙ ap encodeExit says
+      ap {B = EncodeReturn} (λ (k : ℕ). record { code = k; clauses = buffer; answer = answer }) q ∙ ap encodeReplied (sym e) ∙ ap encodeReturn says
 
-  pub encode-told : (count : ℕ) → reply ≡ Encoded count → record { code = 0; clauses = buffer; answer = count ∷ [] } ≡ encodeExit after
-  encode-told count e = ap encodeReplied (sym e) ∙ ap encodeExit says
+  pub encode-told : (count : ℕ) → reply ≡ Encoded count → record { code = 0; clauses = buffer; answer = count ∷ [] } ≡ encodeReturn after
+  encode-told count e = ap encodeReplied (sym e) ∙ ap encodeReturn says
 
 module _ (after : replies.DecodeExit) (reply : DecodeReply) (choices : List ℕ) (says : record { reply = reply; choices = choices } ≡ after) where
-  abbrev decodeExit : replies.DecodeExit → DecodeReturn
-  decodeExit x = record { code = decodeCode (x .reply); choices = x .choices }
+  abbrev decodeReturn : replies.DecodeExit → DecodeReturn
+  decodeReturn x = record { code = decodeCode (x .reply); choices = x .choices }
 
   abbrev decodeReplied : DecodeReply → DecodeReturn
-  decodeReplied y = decodeExit (record { reply = y; choices = choices })
+  decodeReplied y = decodeReturn (record { reply = y; choices = choices })
 
-  pub decode-refused : (number place r : ℕ) → reply ≡ decode-reply.Refused number place → r ≡ code number place → record { code = r; choices = choices } ≡ decodeExit after
+  pub decode-refused : (number place r : ℕ) → reply ≡ decode-reply.Refused number place → r ≡ code number place → record { code = r; choices = choices } ≡ decodeReturn after
   decode-refused number place r e q =
-      ap {B = DecodeReturn} (λ (k : ℕ). record { code = k; choices = choices }) q ∙ ap decodeReplied (sym e) ∙ ap decodeExit says
+      ap {B = DecodeReturn} (λ (k : ℕ). record { code = k; choices = choices }) q ∙ ap decodeReplied (sym e) ∙ ap decodeReturn says
 
-  pub decode-done : reply ≡ Done → record { code = 0; choices = choices } ≡ decodeExit after
-  decode-done e = ap decodeReplied (sym e) ∙ ap decodeExit says
+  pub decode-done : reply ≡ Done → record { code = 0; choices = choices } ≡ decodeReturn after
+  decode-done e = ap decodeReplied (sym e) ∙ ap decodeReturn says

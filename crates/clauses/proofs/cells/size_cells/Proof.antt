@@ -16,10 +16,10 @@ abbrev μ-loop : tie.MeasureT-loop
 μ-loop file events shape invalid left₀ sum₀ left sum = left
 
 trailer-word-requires : tie.Need-trailer-word-requires Inv-loop μ-loop
-trailer-word-requires c κs = (sizes _ _ _ (c .before .pre) .0, omega arith)
+trailer-word-requires c κs = (sizes (c .before .pre .shaped) .0, omega arith)
 
 trailer-word-requires-2 : tie.Need-trailer-word-requires-2 Inv-loop μ-loop
-trailer-word-requires-2 c κs = (sizes _ _ _ (c .before .before .pre) .0, omega arith)
+trailer-word-requires-2 c κs = (sizes (c .before .before .pre .shaped) .0, omega arith)
 
 no-gates-requires : tie.Need-no-gates-requires Inv-loop μ-loop
 no-gates-requires c κs = tt

@@ -26,8 +26,8 @@ cast-at c =
     omega (
       arith,
       event-inside _ _ _ (c .before .before .pre .0) _ _ (c .before .before .pre .1) (c .before .before .pre .2),
-      sizes _ _ _ (c .before
-          .before .pre .0),
+      sizes (c .before
+          .before .pre .0 .shaped),
     )
 
 add-past : tie.Need-add-past
@@ -35,14 +35,14 @@ add-past c =
     omega (
       arith,
       event-inside _ _ _ (c .before .before .pre .0) _ _ (c .before .before .pre .1) (c .before .before .pre .2),
-      sizes _ _ _ (c .before
-          .before .pre .0),
+      sizes (c .before
+          .before .pre .0 .shaped),
     )
 
 shared-slice-read-wide : tie.Need-shared-slice-read-wide
 shared-slice-read-wide c =
     let entry = c .before .before .before in
-    omega (arith, event-inside _ _ _ (entry .pre .0) _ _ (entry .pre .1) (entry .pre .2), sizes _ _ _ (entry .pre .0))
+    omega (arith, event-inside _ _ _ (entry .pre .0) _ _ (entry .pre .1) (entry .pre .2), sizes (entry .pre .0 .shaped))
 
 wide-requires : tie.Need-wide-requires
 wide-requires c κs = search needs
@@ -50,12 +50,12 @@ wide-requires c κs = search needs
 add-past-2 : tie.Need-add-past-2
 add-past-2 c =
     let entry = c .before .before .before .before in
-    omega (arith, c .wide .ensures .0, event-inside _ _ _ (entry .pre .0) _ _ (entry .pre .1) (entry .pre .2), sizes _ _ _ (entry .pre .0))
+    omega (arith, c .wide .ensures .0, event-inside _ _ _ (entry .pre .0) _ _ (entry .pre .1) (entry .pre .2), sizes (entry .pre .0 .shaped))
 
 add-size-bool : tie.Need-add-size-bool
 add-size-bool c =
     let entry = c .before .before .before .before in
-    omega (arith, event-inside _ _ _ (entry .pre .0) _ _ (entry .pre .1) (entry .pre .2), sizes _ _ _ (entry .pre .0))
+    omega (arith, event-inside _ _ _ (entry .pre .0) _ _ (entry .pre .1) (entry .pre .2), sizes (entry .pre .0 .shaped))
 
 size-bool-requires : tie.Need-size-bool-requires
 size-bool-requires c κs =
@@ -66,14 +66,14 @@ size-bool-requires c κs =
         c .wide .ensures .0,
         event-inside _ _ _
             (entry .pre .0) _ _ (entry .pre .1) (entry .pre .2),
-        sizes _ _ _ (entry .pre .0),
+        sizes (entry .pre .0 .shaped),
       ),
       omega (
         arith,
         c .wide .ensures .0,
         event-inside _ _ _
             (entry .pre .0) _ _ (entry .pre .1) (entry .pre .2),
-        sizes _ _ _ (entry .pre .0),
+        sizes (entry .pre .0 .shaped),
       ),
     )
 

@@ -46,8 +46,8 @@ size-bool-requires c κs =
     let length = c .before .wide .ensures .0 in
     let inside = guard-inside _ _ _ ready _ (entry .pre .1) _ length in (
       (entry .args .file .now, maxDepth, guard-reads _ _ _ ready _ (entry .pre .1) _ length (c .if1 .left)),
-      omega (arith, inside, sizes _ _ _ ready),
-      omega (arith, inside, sizes _ _ _ ready),
+      omega (arith, inside, sizes (ready .shaped)),
+      omega (arith, inside, sizes (ready .shaped)),
     )
 
 returns-2 : tie.Need-returns-2
@@ -58,7 +58,7 @@ returns-2 c =
     let inside = guard-inside _ _ _ ready _ (entry .pre .1) _ length in
     let reads = guard-reads _ _ _ ready _ (entry .pre .1) _ length (c .before .if1 .left) in
     let counted = c .size-bool .ensures (entry .args .file .now) maxDepth reads in (
-      few-gates _ (bool-few _ _ _ (omega (arith, inside, sizes _ _ _ ready)) _ _ _ counted),
+      few-gates _ (bool-few _ _ _ (omega (arith, inside, sizes (ready .shaped))) _ _ _ counted),
       λ x. guard-gates _ _ _ ready _ x _ length (c .before .if1 .left) _ counted,
     )
 

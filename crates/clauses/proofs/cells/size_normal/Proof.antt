@@ -64,9 +64,9 @@ size-list-requires c κs =
           c .before .wide .ensures .0,
           c .word .ensures .0,
           normal-fields _ _ _ (entry .pre .0) _ (entry .pre .1) .past,
-          sizes _ _ _ (entry .pre .0),
+          sizes (entry .pre .0 .shaped),
         ),
-        kinds _ _ _ (entry .pre .0),
+        kinds (entry .pre .0 .shaped),
         entry .pre .0 .shaped .bits .few,
       ),
     )
@@ -85,7 +85,7 @@ join-requires-2 c κs =
       c .before .before .word .ensures .0,
       normal-fields _ _ _ (entry
           .pre .0) _ (entry .pre .1) .past,
-      sizes _ _ _ (entry .pre .0),
+      sizes (entry .pre .0 .shaped),
     )) _ (entry .pre .0 .shaped .bits .few) _ _ _ (c .before .size-list .ensures) in (
       omega (
         arith,

@@ -7,14 +7,14 @@ use Rattle.clauses.proofs.frame.size_property.Statement.{statement}
 use Rattle.clauses.proofs.frame.size_property.Tie as tie
 
 invariant-requires : tie.Need-invariant-requires
-invariant-requires c κs = sizes _ _ _ (c .before .before .pre) .0
+invariant-requires c κs = sizes (c .before .before .pre .shaped) .0
 
 size-bool-requires : tie.Need-size-bool-requires
 size-bool-requires c κs =
     let entry = c .before .before .before in (
       (entry .args .file .now, maxDepth, invariant-reads _ _ _ (entry .pre) _ _ (c .invariant .ensures .0) (c .invariant .ensures .1)),
       omega (arith, c .invariant .ensures .1),
-      omega (arith, sizes _ _ _ (entry .pre) .1),
+      omega (arith, sizes (entry .pre .shaped) .1),
     )
 
 size-cells-requires : tie.Need-size-cells-requires

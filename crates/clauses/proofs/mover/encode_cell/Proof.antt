@@ -4,7 +4,8 @@ use mathlib.Core.Path.{_≡_, sym, ap, _∙_}
 use lib.ListN.{length}
 use Rattle.clauses.specs.FlatState.{slotsOf, layoutOf}
 use Rattle.clauses.proofs.EmitSlots.{status-room}
-use Rattle.clauses.proofs.EmitCells.{sizes, kinds, few-bits, slotted, normal-fields, is, action-here, action-writes, target-set, muxes-first, cell-emits}
+use Rattle.clauses.proofs.CellCounts.{sizes, kinds}
+use Rattle.clauses.proofs.EmitCells.{few-bits, slotted, normal-fields, is, action-here, action-writes, target-set, muxes-first, cell-emits}
 use borrow.Author.Needs.{needs}
 use Rattle.clauses.proofs.mover.encode_cell.Statement.{statement}
 use Rattle.clauses.proofs.mover.encode_cell.Tie as tie

@@ -6,7 +6,8 @@ use Rattle.clauses.specs.Literal.{Literal, negate}
 use Rattle.clauses.specs.FlatState.{slotsOf, layoutOf}
 use Rattle.clauses.proofs.EmitWords.{code-yes}
 use Rattle.clauses.proofs.EmitStates.{boolean-room, boolean-set}
-use Rattle.clauses.proofs.EmitCells.{sizes, kinds, few-bits, slotted, muxes-first, external-emits}
+use Rattle.clauses.proofs.CellCounts.{sizes, kinds}
+use Rattle.clauses.proofs.EmitCells.{few-bits, slotted, muxes-first, external-emits}
 use borrow.Author.Needs.{needs}
 use Rattle.clauses.proofs.mover.encode_external.Statement.{statement}
 use Rattle.clauses.proofs.mover.encode_external.Tie as tie

@@ -1,7 +1,8 @@
 use native.Mathlib.Omega.{arith}
 use mathlib.Core.Path.{sym, _∙_}
 use Rattle.clauses.specs.FlatState.{slotsOf, layoutOf}
-use Rattle.clauses.proofs.EmitCells.{sizes, slotted, normal-fields, guard-none, guard-here, guard-writes, guard-true}
+use Rattle.clauses.proofs.CellCounts.{sizes}
+use Rattle.clauses.proofs.EmitCells.{slotted, normal-fields, guard-none, guard-here, guard-writes, guard-true}
 use borrow.Author.Needs.{needs}
 use Rattle.clauses.proofs.mover.encode_guard.Statement.{statement}
 use Rattle.clauses.proofs.mover.encode_guard.Tie as tie

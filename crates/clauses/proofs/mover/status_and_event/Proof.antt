@@ -5,7 +5,8 @@ use Rattle.design.specs.DesignFile.{c-matrix, c-status, c-event}
 use Rattle.design.specs.Check.{eventIn}
 use Rattle.clauses.specs.Expression.{constantBits, integerAt}
 use Rattle.clauses.specs.FlatState.{slotsOf, layoutOf}
-use Rattle.clauses.proofs.EmitCells.{sizes, slotted, event-slot, event-inside, event-here, event-writes, event-emits}
+use Rattle.clauses.proofs.CellCounts.{sizes}
+use Rattle.clauses.proofs.EmitCells.{slotted, event-slot, event-inside, event-here, event-writes, event-emits}
 use borrow.Author.Needs.{needs}
 use Rattle.clauses.proofs.mover.status_and_event.Statement.{statement}
 use Rattle.clauses.proofs.mover.status_and_event.Tie as tie

@@ -3,7 +3,7 @@ use Prim.Native.Nat.{_+_, _-_}
 use mathlib.Core.Path.{_≡_, refl}
 use lib.ListN.{length}
 use Rattle.clauses.specs.FlatState.{slotsOf, layoutOf}
-use Rattle.clauses.proofs.EmitCells.{kinds}
+use Rattle.clauses.proofs.CellCounts.{kinds}
 use Rattle.clauses.proofs.EmitSteps.{few-cells, place-small, cell-here, cell-is, external-is, raised-kind, all-few, Moving, moving-start, moving-on, moving-end, mover-total}
 use Rattle.clauses.proofs.movers.encode_step.Statement.{statement}
 use Rattle.clauses.proofs.movers.encode_step.Tie as tie

@@ -4,7 +4,7 @@ use mathlib.Core.Path.{_≡_, refl, ap₂}
 use lib.ListN.{length}
 use Rattle.clauses.specs.Writing.{fromCode}
 use Rattle.clauses.proofs.EmitWords.{code-yes}
-use Rattle.clauses.proofs.EmitCells.{sizes}
+use Rattle.clauses.proofs.CellCounts.{sizes}
 use Rattle.clauses.proofs.EmitSteps.{Scanning, scanning-start, scanning-on, scanning-end, cell-in}
 use borrow.Author.Needs.{needs}
 use Rattle.clauses.proofs.property.encode_invalid.Statement.{statement}

@@ -1,7 +1,7 @@
 use native.Mathlib.Omega.{arith}
 use mathlib.Core.Path.{sym, _∙_}
 use Rattle.clauses.specs.FlatState.{slotsOf, layoutOf}
-use Rattle.clauses.proofs.EmitCells.{sizes}
+use Rattle.clauses.proofs.CellCounts.{sizes}
 use Rattle.clauses.proofs.EmitSteps.{link-pass, link-emits}
 use borrow.Author.Needs.{needs}
 use Rattle.clauses.proofs.property.encode_link.Statement.{statement}

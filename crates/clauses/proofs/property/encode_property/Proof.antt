@@ -1,7 +1,8 @@
 use native.Mathlib.Omega.{arith}
 use Rattle.clauses.specs.FlatState.{slotsOf}
 use Rattle.clauses.proofs.EmitBuilds.{emits-same}
-use Rattle.clauses.proofs.EmitCells.{sizes, slotted}
+use Rattle.clauses.proofs.CellCounts.{sizes}
+use Rattle.clauses.proofs.EmitCells.{slotted}
 use Rattle.clauses.proofs.EmitSteps.{invariant-here, invariant-writes, property-1}
 use borrow.Author.Needs.{needs}
 use Rattle.clauses.proofs.property.encode_property.Statement.{statement}
