@@ -173,7 +173,7 @@ static void require(int true_, const char *call, const char *what, uint64_t code
 
 /* Designs: the given files, and the one under test, whole or damaged. */
 enum { MAX_FILES = 64, MAX_DESIGN = 20000 };
-enum { MAX_PROPERTY = 1, MAX_BOUND = 100 };
+enum { MAX_BOUND = 100 };
 static uint8_t *files[MAX_FILES];
 static size_t file_lens[MAX_FILES], file_count;
 static uint8_t draft[MAX_DESIGN + 512];
@@ -197,19 +197,45 @@ static void read_file(const char *path)
 
 static uint8_t likely_byte(void)
 {
-    return (uint8_t)PICK(0, 1, 2, 3, 4, 5, 6, 8, 9, 0x10, 0x11, 0x12, 0x13, 0x14, 0x15, 0x16, 0x17, 0x20, 0x21, 0x22, 32, 33, 255);
+    return (uint8_t)PICK(0, 1, 2, 3, 4, 5, 6, 7, 8, 9, 0x10, 0x11, 0x12, 0x13, 0x14, 0x15, 0x16, 0x17, 0x20, 0x21, 0x22, 32, 33, 255);
 }
 
-/* A field of the trailer goes up or down, or becomes any number. */
+/* The trailer and, in version 2, the constraint's offset before it. */
+static size_t tail_len(const uint8_t *bytes, size_t len)
+{
+    return len >= 18 && bytes[len - 16] == 2 && bytes[len - 15] == 0 ? 18 : 16;
+}
+
+/* A field of the trailer, or the constraint's offset, goes up or down, or becomes any number. */
 static void damage_trailer(void)
 {
     if (draft_len < 16)
         return;
-    uint8_t *field = draft + draft_len - 16 + 2 * below(8);
+    size_t tail = tail_len(draft, draft_len);
+    uint8_t *field = draft + draft_len - tail + 2 * (tail == 18 && chance(20) ? 0 : below(tail / 2));
     unsigned n = field[0] + 256u * field[1];
     n = chance(70) ? n + (unsigned)PICK(1, 2, 0xffff, 0xfffe, 256) : (unsigned)word();
     field[0] = (uint8_t)n;
     field[1] = (uint8_t)(n >> 8);
+}
+
+/* The constraint's offset becomes a place near one of its limits: the invariant, and the offset itself. */
+static void damage_constraint(void)
+{
+    if (tail_len(draft, draft_len) != 18)
+        return;
+    uint8_t *field = draft + draft_len - 18;
+    unsigned limit = chance(50) ? draft[draft_len - 2] + 256u * draft[draft_len - 1] : (unsigned)draft_len - 18;
+    unsigned n = limit + (unsigned)PICK(0, 0, 1, 2, 0xffff);
+    field[0] = (uint8_t)n;
+    field[1] = (uint8_t)(n >> 8);
+}
+
+/* Another version, which may be a right one. */
+static void damage_version(void)
+{
+    if (draft_len >= 16)
+        draft[draft_len - 16] = (uint8_t)PICK(1, 1, 2, 2, 3);
 }
 
 /* A run of bytes of another design. */
@@ -221,12 +247,13 @@ static void splice(void)
     memcpy(draft + below(draft_len - len + 1), files[from] + below(file_lens[from] - len + 1), len);
 }
 
-/* A byte more or less, with the trailer kept at the end. */
+/* A byte more or less, with the trailer and the constraint's offset kept at the end. */
 static void shift(void)
 {
-    if (draft_len < 17)
+    size_t tail = tail_len(draft, draft_len);
+    if (draft_len <= tail)
         return;
-    size_t at = below(draft_len - 16);
+    size_t at = below(draft_len - tail);
     if (chance(50)) {
         memmove(draft + at + 1, draft + at, draft_len - at);
         draft[at] = likely_byte();
@@ -239,10 +266,16 @@ static void shift(void)
 
 static void damage(void)
 {
-    switch (below(10)) {
+    switch (below(12)) {
     case 0:
     case 1:
         damage_trailer();
+        break;
+    case 10:
+        damage_constraint();
+        break;
+    case 11:
+        damage_version();
         break;
     case 2:
         splice();
@@ -271,11 +304,11 @@ static void damage(void)
 /* A file of an edge length, its trailer in part a right one. */
 static void edge_design(void)
 {
-    draft_len = (size_t)PICK(0, 1, 15, 16, 17, 32, 16383, 16384, 16385, 20000);
+    draft_len = (size_t)PICK(0, 1, 15, 16, 17, 18, 19, 32, 16383, 16384, 16385, 20000);
     for (size_t i = 0; i < draft_len; i++)
         draft[i] = likely_byte();
     if (draft_len >= 16 && chance(70))
-        memcpy(draft + draft_len - 16, "\1\0\0\0\0\0\1\0\2\0\5\0\0\0\5\0", 16);
+        memcpy(draft + draft_len - 16, chance(50) ? "\1\0\0\0\0\0\1\0\2\0\5\0\0\0\5\0" : "\2\0\0\0\0\0\1\0\2\0\5\0\0\0\5\0", 16);
 }
 
 static void next_design(void)
@@ -297,12 +330,20 @@ static void next_design(void)
     design_code = stm_check(design, design_len);
     ended("check", design_code, SET(DESIGN), 0);
     require((design_code == 0) || (STM_NUMBER(design_code) >= 1 && STM_NUMBER(design_code) <= 10), "check", "no such refusal", design_code);
+    int version_2 = draft_len >= 16 && draft[draft_len - 16] == 2 && draft[draft_len - 15] == 0;
+    require(!version_2 || draft_len >= 18 || STM_NUMBER(design_code) == 1, "check", "too short for version 2", design_code);
+}
+
+/* An accepted design has property 2 in version 2 alone. */
+static uint64_t last_property(void)
+{
+    return tail_len(design, design_len) == 18 ? 2 : 1;
 }
 
 /* What a call with a property and a bound is refused for, before its own reasons. */
 static uint64_t first_refusal(uint64_t property, uint64_t bound)
 {
-    return design_code ? design_code : property > MAX_PROPERTY ? 13 : bound > MAX_BOUND ? 14 : 0;
+    return design_code ? design_code : property > last_property() ? 13 : bound > MAX_BOUND ? 14 : 0;
 }
 
 /* A number over a byte. Cut to one, most of them would be taken. */
@@ -313,7 +354,7 @@ static uint64_t over_a_byte(void)
 
 static uint64_t any_property(void)
 {
-    return chance(5) ? over_a_byte() : PICK(0, 0, 0, 0, 1, 1, 1, 1, 2, 255);
+    return chance(5) ? over_a_byte() : chance(15) ? PICK(2, 2, 3, 255) : below((size_t)last_property() + 1);
 }
 
 static uint64_t any_bound(void)
@@ -500,7 +541,7 @@ static void call_encode(void)
 /* Every part into memory that just suffices, and into memory short by one word. */
 static void call_parts(void)
 {
-    uint64_t property = below(2), bound = below(3), sizes[SIZE_LEN], total = 0;
+    uint64_t property = below((size_t)last_property() + 1), bound = below(3), sizes[SIZE_LEN], total = 0;
     if (!sizes_of(property, bound, sizes) || sizes[SIZE_WORDS] > MAX_WORDS / 8)
         return;
     for (uint64_t part = 0; part <= bound + 2; part++) {
@@ -642,9 +683,9 @@ static char path[64];
 /* Mostly a number that is taken. */
 static const char *any_number(void)
 {
-    static const char *const good[] = {"0", "1", "00", "01"};
+    static const char *const good[] = {"0", "1", "2", "00", "01", "02"};
     static const char *const bad[] = {
-        "2", "3", "101", "255", "256", "300", "4294967297", "18446744073709551615", "18446744073709551616", "-1", "", "x", "1x",
+        "3", "4", "101", "255", "256", "300", "4294967297", "18446744073709551615", "18446744073709551616", "-1", "", "x", "1x",
     };
     return chance(90) ? good[below(sizeof good / sizeof good[0])] : bad[below(sizeof bad / sizeof bad[0])];
 }

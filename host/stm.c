@@ -1,4 +1,5 @@
-/* stm: the matrix checker on the command line, over the proved archive. It lends its own memory to the operations. */
+/* stm: the matrix checker on the command line, over the proved archive. It lends its own memory to the operations, and prints of
+ * a design only what they answer. */
 #include "stm.h"
 
 #include <errno.h>
@@ -13,22 +14,29 @@ enum { CLEAN = 0, REFUSED = 2, VIOLATED = 10, SPENT = 20 };
 /* A design file is at most 16,384 bytes; one byte more is read, so that a longer one is seen to be too long. */
 enum { MAX_READ = 16385, MAX_CHOICES = 100 };
 
+/* A variable's kind in the file, a property, and an answer of SOLVE. */
+enum { INTEGER = 1, CONSTRAINT = 2, UNSAT = 1 };
+
+/* State bits of an integer and of a status; a Boolean has one. */
+enum { INTEGER_BITS = 16, STATUS_BITS = 4 };
+
 static const char USAGE[] =
     "usage: stm check FILE\n"
     "       stm replay FILE PROPERTY CHOICES      (as 2,0,1; - for none)\n"
     "       stm size FILE PROPERTY BOUND\n"
     "       stm cnf FILE PROPERTY BOUND\n"
     "       stm verdict FILE PROPERTY BOUND [BUDGET]\n"
+    "property: 0 the invariant, 1 no invalid cell is met, 2 the constraint of a design of version 2\n"
     "exit status: 0 clean or done, 10 violated, 20 budget spent, 2 refused or misused";
 
 static const char *meaning(unsigned number)
 {
     static const char *const text[] = {
         "",
-        "the file's length is under 16 or over 16,384",
+        "the file's length is under 16 (in version 2 under 18) or over 16,384",
         "unknown version",
         "a count in the trailer is out of range",
-        "a section does not start at its offset, or an item passes the trailer",
+        "a section or the constraint has a wrong offset, or an item passes the end of the items",
         "bad variable",
         "bad matrix",
         "bad cell fields or order",
@@ -37,7 +45,7 @@ static const char *meaning(unsigned number)
         "no mover, or more than 64",
         "the state does not fit the design",
         "a choice is no mover's number",
-        "the property is over 1",
+        "the design has no such property",
         "the bound, or the number of choices, is over 100",
         "no such part",
         "a buffer is too short",
@@ -145,70 +153,8 @@ static int check(const struct job *j)
     return CLEAN;
 }
 
-/* A line of the trace: step, mover, idle, property holds, variables, |, statuses. */
-static void print_state(const struct job *j, size_t step, const int16_t *values, const uint16_t *statuses, uint8_t idle)
-{
-    const uint8_t *trailer = j->design + j->len - 16;
-    size_t variables = trailer[2], matrices = trailer[6];
-    uint8_t holds[1] = {0};
-    stm_holds(j->design, j->len, values, statuses, j->property, holds);
-    printf("%zu ", step);
-    if (step == 0)
-        printf("-");
-    else
-        printf("%u", j->choices[step - 1]);
-    printf(" %u %u", idle, holds[0]);
-    for (size_t v = 0; v < variables; v++)
-        printf(" %d", values[v]);
-    printf(" |");
-    for (size_t m = 0; m < matrices; m++)
-        printf(" %u", statuses[m]);
-    printf("\n");
-}
-
-/* The run of choices that REPLAY accepts, so that no call here is refused. */
-static void print_trace(const struct job *j)
-{
-    int16_t values[STM_VALUES] = {0};
-    uint16_t statuses[STM_STATUSES] = {0};
-    uint8_t idle[1] = {0};
-    stm_start(j->design, j->len, values, statuses);
-    print_state(j, 0, values, statuses, 0);
-    for (size_t i = 0; i < j->choices_len; i++) {
-        stm_step(j->design, j->len, values, statuses, j->choices[i], idle);
-        print_state(j, i + 1, values, statuses, idle[0]);
-    }
-}
-
-static int replay(const struct job *j)
-{
-    uint64_t answer[2] = {0};
-    uint64_t code = stm_replay(j->design, j->len, j->property, j->choices, j->choices_len, answer);
-    if (code)
-        return refuse(code);
-    print_trace(j);
-    if (answer[0] == 0) {
-        printf("holds\n");
-        return CLEAN;
-    }
-    printf("broken at %" PRIu64 "\n", answer[1]);
-    return VIOLATED;
-}
-
 /* What SIZE answers, in order. */
-enum { SIZE_VARIABLES = 4, SIZE_CLAUSES, SIZE_WORDS, SIZE_LEN };
-
-static int size(const struct job *j)
-{
-    static const char *const names[SIZE_LEN] = {"S", "P", "w", "G", "n", "clauses", "words"};
-    uint64_t sizes[SIZE_LEN];
-    uint64_t code = stm_size(j->design, j->len, j->property, j->bound, sizes);
-    if (code)
-        return refuse(code);
-    for (size_t i = 0; i < SIZE_LEN; i++)
-        printf("%s %" PRIu64 "\n", names[i], sizes[i]);
-    return CLEAN;
-}
+enum { SIZE_STATE, SIZE_PROPERTY, SIZE_VARIABLES = 4, SIZE_CLAUSES, SIZE_WORDS, SIZE_LEN };
 
 /* Memory for so many elements, or NULL; never for none, since a lent pointer is not null. */
 static void *lend(uint64_t count, size_t element)
@@ -221,6 +167,169 @@ static void *lend(uint64_t count, size_t element)
 static int too_large(void)
 {
     return misuse("not enough memory for a formula of this size", "");
+}
+
+/* What SOLVE and VERDICT work on. */
+struct memory {
+    int32_t *clauses;
+    uint8_t *values;
+    uint32_t *trail;
+};
+
+/* 0 where there is so much memory; `give_back` frees it in any case. */
+static int take(struct memory *m, uint64_t words, uint64_t n)
+{
+    m->clauses = lend(words, sizeof *m->clauses);
+    m->values = lend(n, sizeof *m->values);
+    m->trail = lend(n, sizeof *m->trail);
+    return m->clauses && m->values && m->trail ? 0 : too_large();
+}
+
+static void give_back(const struct memory *m)
+{
+    free(m->clauses);
+    free(m->values);
+    free(m->trail);
+}
+
+/* A state, and the trailer's numbers that say how much of it a design has. */
+struct state {
+    int16_t values[STM_VALUES];
+    uint16_t statuses[STM_STATUSES];
+};
+
+static size_t variables_of(const struct job *j)
+{
+    return j->design[j->len - 14];
+}
+
+static size_t matrices_of(const struct job *j)
+{
+    return j->design[j->len - 10];
+}
+
+/* The unit clauses from `unit` on take the bits of a number, the lowest first. Answers the unit after them. */
+static size_t put_bits(int32_t *clauses, size_t unit, unsigned number, unsigned width)
+{
+    for (unsigned i = 0; i < width; i++, unit++) {
+        int32_t bit = (int32_t)unit + 1;
+        clauses[2 * unit] = number >> i & 1 ? bit : -bit;
+    }
+    return unit;
+}
+
+/* Part 0 is a unit clause for each bit of the first state, after that of the variable 1: makes it say another state. */
+static void start_from(const struct job *j, const struct state *s, int32_t *clauses)
+{
+    size_t unit = 1;
+    for (size_t v = 0; v < variables_of(j); v++)
+        unit = put_bits(clauses, unit, (uint16_t)s->values[v], j->design[3 * v] == INTEGER ? INTEGER_BITS : 1);
+    for (size_t m = 0; m < matrices_of(j); m++)
+        unit = put_bits(clauses, unit, s->statuses[m], STATUS_BITS);
+}
+
+/* Parts 0 to 3, which are the formula for bound 1, then the unit clause of a choice's flag. */
+static void put_step(const struct job *j, const uint64_t sizes[SIZE_LEN], uint8_t choice, int32_t *clauses)
+{
+    size_t at = 0, len = (size_t)sizes[SIZE_WORDS];
+    for (uint64_t part = 0; part <= 3; part++) {
+        uint64_t count[1] = {0};
+        stm_encode(j->design, j->len, j->property, 1, part, clauses + at, len - at, count);
+        at += (size_t)count[0];
+    }
+    clauses[at] = (int32_t)(2 + sizes[SIZE_STATE] + sizes[SIZE_PROPERTY] + choice);
+    clauses[at + 1] = 0;
+}
+
+/* Whether the property holds after a choice in this state, for a property of two states: the formula for bound 1 from this state
+ * and with this choice leaves nothing to try, and is satisfiable where the step breaks the property. Less than 0 where there is no
+ * memory. */
+static int step_holds(const struct job *j, const struct state *s, uint8_t choice)
+{
+    uint64_t sizes[SIZE_LEN] = {0}, answer[2] = {0};
+    struct memory m;
+    int holds = -1;
+    stm_size(j->design, j->len, j->property, 1, sizes);
+    size_t words = (size_t)sizes[SIZE_WORDS] + 2, n = (size_t)sizes[SIZE_VARIABLES];
+    if (!take(&m, words, n)) {
+        put_step(j, sizes, choice, m.clauses);
+        start_from(j, s, m.clauses);
+        stm_solve(n, m.clauses, words, m.values, n, m.trail, n, 0, answer);
+        holds = answer[0] == UNSAT;
+    }
+    give_back(&m);
+    return holds;
+}
+
+static int state_holds(const struct job *j, const struct state *s)
+{
+    uint8_t holds[1] = {0};
+    stm_holds(j->design, j->len, s->values, s->statuses, j->property, holds);
+    return holds[0];
+}
+
+/* A line of the trace: step, mover, idle, property holds, variables, |, statuses. */
+static void print_state(const struct job *j, size_t step, const struct state *s, unsigned idle, int holds)
+{
+    printf("%zu ", step);
+    if (step == 0)
+        printf("-");
+    else
+        printf("%u", j->choices[step - 1]);
+    printf(" %u %d", idle, holds);
+    for (size_t v = 0; v < variables_of(j); v++)
+        printf(" %d", s->values[v]);
+    printf(" |");
+    for (size_t m = 0; m < matrices_of(j); m++)
+        printf(" %u", s->statuses[m]);
+    printf("\n");
+}
+
+/* The run of choices that REPLAY accepts, so that no call here is refused. A property of two states is true at step 0. */
+static int print_trace(const struct job *j)
+{
+    struct state s = {{0}, {0}};
+    uint8_t idle[1] = {0};
+    int two_states = j->property == CONSTRAINT;
+    stm_start(j->design, j->len, s.values, s.statuses);
+    print_state(j, 0, &s, 0, two_states || state_holds(j, &s));
+    for (size_t i = 0; i < j->choices_len; i++) {
+        int holds = two_states ? step_holds(j, &s, j->choices[i]) : 0;
+        if (holds < 0)
+            return REFUSED;
+        stm_step(j->design, j->len, s.values, s.statuses, j->choices[i], idle);
+        print_state(j, i + 1, &s, idle[0], two_states ? holds : state_holds(j, &s));
+    }
+    return 0;
+}
+
+static int replay(const struct job *j)
+{
+    uint64_t answer[2] = {0};
+    uint64_t code = stm_replay(j->design, j->len, j->property, j->choices, j->choices_len, answer);
+    if (code)
+        return refuse(code);
+    int failed = print_trace(j);
+    if (failed)
+        return failed;
+    if (answer[0] == 0) {
+        printf("holds\n");
+        return CLEAN;
+    }
+    printf("broken at %" PRIu64 "\n", answer[1]);
+    return VIOLATED;
+}
+
+static int size(const struct job *j)
+{
+    static const char *const names[SIZE_LEN] = {"S", "P", "w", "G", "n", "clauses", "words"};
+    uint64_t sizes[SIZE_LEN];
+    uint64_t code = stm_size(j->design, j->len, j->property, j->bound, sizes);
+    if (code)
+        return refuse(code);
+    for (size_t i = 0; i < SIZE_LEN; i++)
+        printf("%s %" PRIu64 "\n", names[i], sizes[i]);
+    return CLEAN;
 }
 
 /* A part's words, a clause a line. */
@@ -273,8 +382,8 @@ static int print_verdict(struct job *j, const uint64_t answer[3])
     case 1:
         printf("VIOLATED at step %" PRIu64 ", %" PRIu64 " tries\n", answer[1], answer[2]);
         j->choices_len = (size_t)answer[1];
-        print_trace(j);
-        return VIOLATED;
+        int failed = print_trace(j);
+        return failed ? failed : VIOLATED;
     default:
         printf("SPENT at bound %" PRIu64 ", %" PRIu64 " tries\n", answer[1], answer[2]);
         return SPENT;
@@ -288,20 +397,14 @@ static int verdict(struct job *j)
     if (code)
         return refuse(code);
     uint64_t n = sizes[SIZE_VARIABLES];
-    int32_t *clauses = lend(sizes[SIZE_WORDS], sizeof *clauses);
-    uint8_t *values = lend(n, sizeof *values);
-    uint32_t *trail = lend(n, sizeof *trail);
-    int status;
-    if (!clauses || !values || !trail) {
-        status = too_large();
-    } else {
-        code = stm_verdict(j->design, j->len, j->property, j->bound, j->budget, clauses, (size_t)sizes[SIZE_WORDS], values,
-                           (size_t)n, trail, (size_t)n, j->choices, MAX_CHOICES, answer);
+    struct memory m;
+    int status = take(&m, sizes[SIZE_WORDS], n);
+    if (!status) {
+        code = stm_verdict(j->design, j->len, j->property, j->bound, j->budget, m.clauses, (size_t)sizes[SIZE_WORDS], m.values,
+                           (size_t)n, m.trail, (size_t)n, j->choices, MAX_CHOICES, answer);
         status = code ? refuse(code) : print_verdict(j, answer);
     }
-    free(clauses);
-    free(values);
-    free(trail);
+    give_back(&m);
     return status;
 }
 

@@ -6,8 +6,9 @@
  * An operation returns 0 where it is not refused. Else the low byte of what it returns is the refusal's number and the rest
  * its place, and no lent memory has changed: answer, idle and holds, too, are as they were. A place of 2^56 - 1 or more is told
  * as 2^56 - 1. Every length and content is allowed: nothing has to be tested before a call.
- * A design is the bytes of a design file; a property is 0 or 1; a bound is 0 to 100; a greater one is refused. Refusals are
- * listed in the order of their tests.
+ * A design is the bytes of a design file, of version 1 or 2. A property is 0 for the invariant, 1 for "no invalid cell is met",
+ * and for a design of version 2 also 2 for its constraint over two successive states; a bound is 0 to 100. A greater one is
+ * refused. Refusals are listed in the order of their tests.
  */
 #ifndef STM_H
 #define STM_H
@@ -33,16 +34,17 @@ uint64_t stm_start(const uint8_t *design, size_t design_len, int16_t values[STM_
 uint64_t stm_step(const uint8_t *design, size_t design_len, int16_t values[STM_VALUES], uint16_t statuses[STM_STATUSES],
                   uint64_t choice, uint8_t idle[1]);
 
-/* HOLDS: 11, 13. holds[0] is 1 where the property is true in the state, else 0. */
+/* HOLDS: 11, 13. holds[0] is 1 where the property is true in the state, else 0. One state does not decide a constraint: property
+ * 2 is refused by 13 for every design. */
 uint64_t stm_holds(const uint8_t *design, size_t design_len, const int16_t values[STM_VALUES],
                    const uint16_t statuses[STM_STATUSES], uint64_t property, uint8_t holds[1]);
 
 /* REPLAY: 13, 14, 12. A choice is a byte. answer[0] is 1 where the choices break the property, and answer[1] the first step
- * that does; else both are 0. */
+ * that does; else both are 0. Property 2 breaks at step 1 or later, since step 0 has no state before it. */
 uint64_t stm_replay(const uint8_t *design, size_t design_len, uint64_t property, const uint8_t *choices, size_t choices_len,
                     uint64_t answer[2]);
 
-/* SIZE: 13, 14. answer is S, P, w, G, n, clauses, words. */
+/* SIZE: 13, 14. answer is S, P, w, G, n, clauses, words. For property 2 P is 0, and its gates are in G. */
 uint64_t stm_size(const uint8_t *design, size_t design_len, uint64_t property, uint64_t bound, uint64_t answer[7]);
 
 /* ENCODE: 13, 14, 15, 16. Writes the words of one part; answer[0] is their number. */

@@ -1,7 +1,9 @@
 //! Writes a tree as a design file. It checks nothing, so that files with
 //! faults can be written too.
 
-use crate::design::{Boolean, Cell, CellKind, Design, Integer, Kind, Statement};
+use crate::design::{
+    Boolean, Cell, CellKind, Design, Integer, Kind, Statement, CONSTRAINT_VERSION,
+};
 
 /// Where each item of a written file starts.
 #[derive(Clone, Debug, Default, PartialEq, Eq)]
@@ -11,6 +13,8 @@ pub struct Places {
     pub events: Vec<usize>,
     pub cells: Vec<usize>,
     pub invariant: usize,
+    /// In version 2.
+    pub constraint: Option<usize>,
     pub trailer: usize,
 }
 
@@ -31,16 +35,31 @@ pub fn file_with_places(design: &Design) -> (Vec<u8>, Places) {
         places.cells.push(out.len());
         write_cell(&mut out, cell);
     }
-    places.invariant = out.len();
-    write_boolean(&mut out, &design.invariant);
+    write_properties(&mut out, &mut places, design);
     places.trailer = out.len();
+    let version = if design.constraint.is_some() { CONSTRAINT_VERSION } else { 1 } as usize;
     let counts = [design.variables.len(), design.matrices.len(), design.cells.len()];
+    let invariant_at = places.invariant;
     let fields =
-        [1, counts[0], matrices_at, counts[1], events_at, cells_at, counts[2], places.invariant];
-    for field in fields {
-        out.extend_from_slice(&(field as u16).to_le_bytes());
-    }
+        [version, counts[0], matrices_at, counts[1], events_at, cells_at, counts[2], invariant_at];
+    fields.iter().for_each(|field| write_field(&mut out, *field));
     (out, places)
+}
+
+fn write_field(out: &mut Vec<u8>, field: usize) {
+    out.extend_from_slice(&(field as u16).to_le_bytes());
+}
+
+/// The invariant; then the constraint and its offset, where there is one.
+fn write_properties(out: &mut Vec<u8>, places: &mut Places, design: &Design) {
+    places.invariant = out.len();
+    write_boolean(out, &design.invariant);
+    if let Some(constraint) = &design.constraint {
+        let at = out.len();
+        places.constraint = Some(at);
+        write_boolean(out, constraint);
+        write_field(out, at);
+    }
 }
 
 fn write_variables(out: &mut Vec<u8>, places: &mut Places, design: &Design) {
@@ -107,6 +126,8 @@ fn write_integer(out: &mut Vec<u8>, e: &Integer) {
         Integer::Status(m) => out.extend_from_slice(&[0x03, *m]),
         Integer::Sum(a, b) => write_integers(out, 0x04, a, b),
         Integer::Difference(a, b) => write_integers(out, 0x05, a, b),
+        Integer::NextVariable(v) => out.extend_from_slice(&[0x06, *v]),
+        Integer::NextStatus(m) => out.extend_from_slice(&[0x07, *m]),
     }
 }
 
@@ -128,6 +149,7 @@ fn write_boolean(out: &mut Vec<u8>, e: &Boolean) {
         Boolean::Or(a, b) => write_booleans(out, 0x14, a, b),
         Boolean::Equal(a, b) => write_integers(out, 0x15, a, b),
         Boolean::Less(a, b) => write_integers(out, 0x16, a, b),
+        Boolean::NextVariable(v) => out.extend_from_slice(&[0x17, *v]),
     }
 }
 

@@ -1,6 +1,10 @@
-//! The design file of document 01: bytes to a tree, with the refusals of CHECK.
+//! The design file of documents 01 and 02: bytes to a tree, with the refusals of CHECK.
 
 pub const TRAILER_LENGTH: usize = 16;
+/// A file of this version has a constraint.
+pub const CONSTRAINT_VERSION: u16 = 2;
+/// The constraint's offset, which stands before the trailer.
+pub const CONSTRAINT_FIELD: usize = 2;
 pub const MAX_FILE: usize = 16_384;
 pub const MAX_DEPTH: u32 = 16;
 pub const MAX_NESTED_IFS: u32 = 4;
@@ -40,6 +44,8 @@ pub enum Integer {
     Status(u8),
     Sum(Box<Integer>, Box<Integer>),
     Difference(Box<Integer>, Box<Integer>),
+    NextVariable(u8),
+    NextStatus(u8),
 }
 
 #[derive(Clone, Debug, PartialEq, Eq)]
@@ -51,6 +57,7 @@ pub enum Boolean {
     Or(Box<Boolean>, Box<Boolean>),
     Equal(Integer, Integer),
     Less(Integer, Integer),
+    NextVariable(u8),
 }
 
 #[derive(Clone, Debug, PartialEq, Eq)]
@@ -86,6 +93,8 @@ pub struct Design {
     pub matrices: Vec<Matrix>,
     pub cells: Vec<Cell>,
     pub invariant: Boolean,
+    /// A file of version 2 has one.
+    pub constraint: Option<Boolean>,
 }
 
 /// A mover is a normal cell or an external variable, by its index.
@@ -112,31 +121,28 @@ impl Design {
 
 /// CHECK: the tree of an accepted file, or the first refusal.
 pub fn check(file: &[u8]) -> Result<Design, Refusal> {
-    let length = file.len();
-    if !(TRAILER_LENGTH..=MAX_FILE).contains(&length) {
-        return Err(refusal(1, length));
-    }
     let trailer = read_trailer(file)?;
-    let mut items = Items { file, at: 0, end: length - TRAILER_LENGTH };
+    let mut items = Items { file, at: 0, end: trailer.items_end };
     let variables = read_variables(&mut items, trailer.variables)?;
     items.section(trailer.matrices_at)?;
     let sizes = read_matrices(&mut items, trailer.matrices)?;
     items.section(trailer.events_at)?;
-    let names = Names { variables: &variables, matrices: sizes.len() };
+    let names = Names { variables: &variables, matrices: sizes.len(), next_state: false };
     let matrices = read_events(&mut items, &names, &sizes)?;
     items.section(trailer.cells_at)?;
     let cells = read_cells(&mut items, &names, &sizes, trailer.cells)?;
     items.section(trailer.invariant_at)?;
-    let invariant = whole_boolean(&names, &file[items.at..items.end]);
-    let invariant = invariant.ok_or(refusal(8, items.at))?;
-    let design = Design { variables, matrices, cells, invariant };
+    let (invariant, constraint) = read_properties(&items, &names, trailer.constraint_at)?;
+    let design = Design { variables, matrices, cells, invariant, constraint };
     let movers = design.movers().len();
     if movers == 0 || movers > MAX_MOVERS {
-        return Err(refusal(10, length));
+        return Err(refusal(10, file.len()));
     }
     Ok(design)
 }
 
+/// What stands at the end of the file: the trailer, and before it in version 2
+/// the constraint's offset.
 struct Trailer {
     variables: usize,
     matrices_at: usize,
@@ -145,14 +151,40 @@ struct Trailer {
     cells_at: usize,
     cells: usize,
     invariant_at: usize,
+    constraint_at: Option<usize>,
+    items_end: usize,
+}
+
+fn u16_at(file: &[u8], at: usize) -> u16 {
+    u16::from_le_bytes([file[at], file[at + 1]])
+}
+
+/// The version and where the trailer starts; 1 where the file is too short for
+/// its version, or too long.
+fn read_version(file: &[u8]) -> Result<(u16, usize), Refusal> {
+    let length = file.len();
+    if !(TRAILER_LENGTH..=MAX_FILE).contains(&length) {
+        return Err(refusal(1, length));
+    }
+    let at = length - TRAILER_LENGTH;
+    let version = u16_at(file, at);
+    if version == CONSTRAINT_VERSION && at < CONSTRAINT_FIELD {
+        return Err(refusal(1, length));
+    }
+    Ok((version, at))
 }
 
 fn read_trailer(file: &[u8]) -> Result<Trailer, Refusal> {
-    let at = file.len() - TRAILER_LENGTH;
-    let field = |i: usize| u16::from_le_bytes([file[at + 2 * i], file[at + 2 * i + 1]]) as usize;
-    if field(0) != 1 {
-        return Err(refusal(2, at));
-    }
+    let (version, at) = read_version(file)?;
+    let field = |i: usize| u16_at(file, at + 2 * i) as usize;
+    let (items_end, constraint_at) = match version {
+        1 => (at, None),
+        CONSTRAINT_VERSION => {
+            let end = at - CONSTRAINT_FIELD;
+            (end, Some(u16_at(file, end) as usize))
+        }
+        _ => return Err(refusal(2, at)),
+    };
     if field(1) > MAX_VARIABLES || !(1..=MAX_MATRICES).contains(&field(3)) || field(6) > MAX_CELLS {
         return Err(refusal(3, at));
     }
@@ -164,10 +196,12 @@ fn read_trailer(file: &[u8]) -> Result<Trailer, Refusal> {
         cells_at: field(5),
         cells: field(6),
         invariant_at: field(7),
+        constraint_at,
+        items_end,
     })
 }
 
-/// The part of the file before the trailer, read item by item.
+/// The part of the file that has the items, read item by item.
 struct Items<'a> {
     file: &'a [u8],
     at: usize,
@@ -334,10 +368,34 @@ fn read_normal(
     Ok(CellKind::Normal { target, guard, action })
 }
 
-/// What an expression may name.
+/// The invariant and, where there is one, the constraint. The invariant ends
+/// where the constraint starts, so that offset is tested before it is read.
+fn read_properties(
+    items: &Items,
+    names: &Names,
+    constraint_at: Option<usize>,
+) -> Result<(Boolean, Option<Boolean>), Refusal> {
+    let Items { file, at, end } = *items;
+    let middle = constraint_at.unwrap_or(end);
+    if middle < at || middle > end {
+        return Err(refusal(4, at));
+    }
+    let invariant = whole_boolean(names, &file[at..middle]).ok_or(refusal(8, at))?;
+    if constraint_at.is_none() {
+        return Ok((invariant, None));
+    }
+    let names = Names { next_state: true, ..*names };
+    let constraint = whole_boolean(&names, &file[middle..end]).ok_or(refusal(8, middle))?;
+    Ok((invariant, Some(constraint)))
+}
+
+/// What an expression may name: the variables and statuses of a state, and
+/// only in the constraint those of the next state, too.
+#[derive(Clone, Copy)]
 struct Names<'a> {
     variables: &'a [Variable],
     matrices: usize,
+    next_state: bool,
 }
 
 impl Names<'_> {
@@ -387,8 +445,8 @@ impl Reader<'_> {
     fn integer(&mut self, depth: u32) -> Option<Integer> {
         match self.operator(depth)? {
             0x01 => Some(Integer::Constant(i16::from_le_bytes([self.byte()?, self.byte()?]))),
-            0x02 => self.integer_variable(),
-            0x03 => self.status(),
+            0x02 => self.integer_variable().map(Integer::Variable),
+            0x03 => self.matrix().map(Integer::Status),
             0x04 => {
                 let (a, b) = self.integers(depth)?;
                 Some(Integer::Sum(Box::new(a), Box::new(b)))
@@ -397,19 +455,20 @@ impl Reader<'_> {
                 let (a, b) = self.integers(depth)?;
                 Some(Integer::Difference(Box::new(a), Box::new(b)))
             }
+            0x06 if self.names.next_state => self.integer_variable().map(Integer::NextVariable),
+            0x07 if self.names.next_state => self.matrix().map(Integer::NextStatus),
             _ => None,
         }
     }
 
-    fn integer_variable(&mut self) -> Option<Integer> {
+    fn integer_variable(&mut self) -> Option<u8> {
         let variable = self.byte()?;
-        let fits = self.names.kind(variable)? == Kind::Integer;
-        fits.then_some(Integer::Variable(variable))
+        (self.names.kind(variable)? == Kind::Integer).then_some(variable)
     }
 
-    fn status(&mut self) -> Option<Integer> {
+    fn matrix(&mut self) -> Option<u8> {
         let matrix = self.byte()?;
-        ((matrix as usize) < self.names.matrices).then_some(Integer::Status(matrix))
+        ((matrix as usize) < self.names.matrices).then_some(matrix)
     }
 
     fn integers(&mut self, depth: u32) -> Option<(Integer, Integer)> {
@@ -423,7 +482,7 @@ impl Reader<'_> {
                 1 => Some(Boolean::Constant(true)),
                 _ => None,
             },
-            0x11 => self.boolean_variable(),
+            0x11 => self.boolean_variable().map(Boolean::Variable),
             0x12 => Some(Boolean::Not(Box::new(self.boolean(depth + 1)?))),
             0x13 => {
                 let (a, b) = self.booleans(depth)?;
@@ -435,14 +494,14 @@ impl Reader<'_> {
             }
             0x15 => self.integers(depth).map(|(a, b)| Boolean::Equal(a, b)),
             0x16 => self.integers(depth).map(|(a, b)| Boolean::Less(a, b)),
+            0x17 if self.names.next_state => self.boolean_variable().map(Boolean::NextVariable),
             _ => None,
         }
     }
 
-    fn boolean_variable(&mut self) -> Option<Boolean> {
+    fn boolean_variable(&mut self) -> Option<u8> {
         let variable = self.byte()?;
-        let fits = self.names.kind(variable)? != Kind::Integer;
-        fits.then_some(Boolean::Variable(variable))
+        (self.names.kind(variable)? != Kind::Integer).then_some(variable)
     }
 
     fn booleans(&mut self, depth: u32) -> Option<(Boolean, Boolean)> {

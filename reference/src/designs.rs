@@ -4,15 +4,15 @@ mod money_changer;
 mod small;
 mod terms;
 
-pub use money_changer::{money_changer, Property, Version, ALL_PROPERTIES};
-pub use small::design_a;
+pub use money_changer::{money_changer, Property, Version, ALL_PROPERTIES, ORIGINAL_PROPERTIES};
+pub use small::{crossing_turns, design_a, moved, no_idle};
 
 use crate::builder::file_bytes;
 
 /// The name and the bytes of every known design file.
 pub fn all_files() -> Vec<(String, Vec<u8>)> {
     let mut files = vec![("design-a.stm".to_string(), file_bytes(&design_a()))];
-    for property in [Property::Uic1, Property::Uic2, Property::Stc1, Property::Stc2] {
+    for property in ORIGINAL_PROPERTIES {
         let name = format!("money-changer-{}.stm", property.name());
         files.push((name, file_bytes(&money_changer(Version::Original, property))));
     }

@@ -1,4 +1,5 @@
-//! The formula of document 01: SIZE, ENCODE and DECODE.
+//! The formula of document 01, with the constraint of document 02: SIZE, ENCODE
+//! and DECODE.
 
 mod circuit;
 mod expression;
@@ -14,8 +15,7 @@ pub use sink::{Count, Sink};
 
 /// SIZE: 13, 14.
 pub fn size(query: Query<Design>, bound: u64) -> Result<Size, Refusal> {
-    query.check_bound(bound)?;
-    Ok(Formula::new(query, bound).size())
+    Ok(Formula::new(query, bound)?.size())
 }
 
 /// ENCODE: 13, 14, 15, 16. It answers the number of words written.
@@ -25,8 +25,7 @@ pub fn encode(
     part: u64,
     clauses: &mut [i32],
 ) -> Result<u64, Refusal> {
-    query.check_bound(bound)?;
-    let formula = Formula::new(query, bound);
+    let formula = Formula::new(query, bound)?;
     if part > formula.last_part() {
         return Err(refusal(15, 0));
     }
@@ -44,8 +43,7 @@ pub fn decode(
     values: &[u8],
     choices: &mut [u8],
 ) -> Result<(), Refusal> {
-    query.check_bound(bound)?;
-    let formula = Formula::new(query, bound);
+    let formula = Formula::new(query, bound)?;
     if (values.len() as u64) < formula.variables() || (choices.len() as u64) < bound {
         return Err(refusal(16, 0));
     }

@@ -1,5 +1,6 @@
-//! Second implementation of the matrix checker of document 01, written apart
-//! from the first to be held against it. One module for each of its sections.
+//! Second implementation of the matrix checker of documents 01 and 02, written
+//! apart from the first to be held against it. One module for each section of
+//! document 01.
 
 pub mod builder;
 pub mod client;
@@ -10,6 +11,7 @@ pub mod formula;
 pub mod generator;
 pub mod models;
 pub mod operations;
+pub mod pair;
 pub mod programs;
 pub mod protocol;
 pub mod query;

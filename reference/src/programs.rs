@@ -3,7 +3,7 @@
 use crate::design::{Design, Refusal};
 use crate::formula::{Formula, Sink};
 use crate::query::Query;
-use crate::step::{check_replay, property_holds, run, Stepped};
+use crate::step::{check_replay, holds_at, run, Stepped};
 
 const MAX_PART_WORDS: u64 = 16_384;
 /// One byte more than a design may have, so that a longer one is refused.
@@ -43,11 +43,12 @@ fn split_replay(input: &[u8]) -> Option<(Query<'_, [u8]>, &[u8])> {
 }
 
 fn print_replay(query: Query<Design>, choices: &[u8]) -> Result<Vec<u8>, Refusal> {
-    check_replay(query, choices)?;
+    let claim = check_replay(query, choices)?;
+    let states = run(query.design, choices);
     let mut out = String::new();
     let mut broken = None;
-    for (i, stepped) in run(query.design, choices).iter().enumerate() {
-        let holds = property_holds(query, &stepped.state);
+    for (i, stepped) in states.iter().enumerate() {
+        let holds = holds_at(query.design, claim, &states, i);
         if !holds && broken.is_none() {
             broken = Some(i);
         }
@@ -93,8 +94,7 @@ impl Sink for Lines {
 }
 
 fn print_clauses(query: Query<Design>, bound: u64) -> Result<Vec<u8>, Refusal> {
-    query.check_bound(bound)?;
-    let formula = Formula::new(query, bound);
+    let formula = Formula::new(query, bound)?;
     let too_long = |part| formula.part_count(part).words > MAX_PART_WORDS;
     if (0..=formula.last_part()).any(too_long) {
         return Err(Refusal { number: 16, place: 0 });

@@ -1,9 +1,12 @@
 //! What every call with a property asks about, and the refusals that these
 //! calls share.
 
-use crate::design::{check, refusal, Design, Refusal};
+use crate::design::{check, refusal, Boolean, Design, Refusal};
 
-pub const MAX_PROPERTY: u64 = 1;
+/// The numbers of the properties.
+pub const INVARIANT: u64 = 0;
+pub const NO_INVALID_CELL: u64 = 1;
+pub const CONSTRAINT: u64 = 2;
 /// The greatest bound, and the most choices that REPLAY takes.
 pub const MAX_BOUND: u64 = 100;
 
@@ -40,23 +43,46 @@ impl Query<'_, [u8]> {
     }
 }
 
-impl Query<'_, Design> {
+/// What a property says.
+#[derive(Clone, Copy, Debug, PartialEq, Eq)]
+pub enum Claim<'a> {
+    Invariant(&'a Boolean),
+    NoInvalidCell,
+    /// It is about two successive states.
+    Constraint(&'a Boolean),
+}
+
+impl<'a> Query<'a, Design> {
+    /// `None` where the design has no property of this number.
+    fn claim(&self) -> Option<Claim<'a>> {
+        match self.property {
+            INVARIANT => Some(Claim::Invariant(&self.design.invariant)),
+            NO_INVALID_CELL => Some(Claim::NoInvalidCell),
+            CONSTRAINT => self.design.constraint.as_ref().map(Claim::Constraint),
+            _ => None,
+        }
+    }
+
     /// 13 for the property.
-    pub fn check_property(&self) -> Result<(), Refusal> {
-        if self.property > MAX_PROPERTY {
-            Err(refusal(13, 0))
-        } else {
-            Ok(())
+    pub fn check_property(&self) -> Result<Claim<'a>, Refusal> {
+        self.claim().ok_or(refusal(13, 0))
+    }
+
+    /// 13 for a property that one state does not decide, too.
+    pub fn check_state_property(&self) -> Result<Claim<'a>, Refusal> {
+        match self.check_property()? {
+            Claim::Constraint(_) => Err(refusal(13, 0)),
+            claim => Ok(claim),
         }
     }
 
     /// 13, then 14 for a bound or a number of choices.
-    pub fn check_bound(&self, bound: u64) -> Result<(), Refusal> {
-        self.check_property()?;
+    pub fn check_bound(&self, bound: u64) -> Result<Claim<'a>, Refusal> {
+        let claim = self.check_property()?;
         if bound > MAX_BOUND {
             Err(refusal(14, 0))
         } else {
-            Ok(())
+            Ok(claim)
         }
     }
 }

@@ -1,10 +1,12 @@
-//! One step of document 01: START, STEP, HOLDS and REPLAY.
+//! One step of document 01, with the constraint of document 02: START, STEP,
+//! HOLDS and REPLAY.
 
 use crate::design::{
     refusal, Boolean, Cell, CellKind, Design, Integer, Kind, Mover, Refusal, Statement,
     MAX_MATRICES, MAX_VARIABLES,
 };
-use crate::query::Query;
+use crate::pair::Pair;
+use crate::query::{Claim, Query};
 
 /// The lent form of a state; entries that the design does not use are 0.
 #[derive(Clone, Copy, Debug, PartialEq, Eq, Hash)]
@@ -45,25 +47,25 @@ pub fn step(design: &Design, state: &State, choice: u64) -> Result<Stepped, Refu
 /// HOLDS: 11 for the state, then 13 for the property.
 pub fn holds(query: Query<Design>, state: &State) -> Result<bool, Refusal> {
     check_state(query.design, state)?;
-    query.check_property()?;
-    Ok(property_holds(query, state))
+    let claim = query.check_state_property()?;
+    Ok(claim_holds(query.design, claim, None, state))
 }
 
 /// REPLAY: the first breaking step, or none.
 pub fn replay(query: Query<Design>, choices: &[u8]) -> Result<Option<u64>, Refusal> {
-    check_replay(query, choices)?;
+    let claim = check_replay(query, choices)?;
     let states = run(query.design, choices);
-    let broken = states.iter().position(|s| !property_holds(query, &s.state));
+    let broken = (0..states.len()).find(|&i| !holds_at(query.design, claim, &states, i));
     Ok(broken.map(|i| i as u64))
 }
 
 /// The refusals of REPLAY, in its order: 13, 14, 12.
-pub fn check_replay(query: Query<Design>, choices: &[u8]) -> Result<(), Refusal> {
-    query.check_bound(choices.len() as u64)?;
+pub fn check_replay<'a>(query: Query<'a, Design>, choices: &[u8]) -> Result<Claim<'a>, Refusal> {
+    let claim = query.check_bound(choices.len() as u64)?;
     let movers = query.design.movers().len();
     match choices.iter().position(|&c| c as usize >= movers) {
         Some(i) => Err(refusal(12, i)),
-        None => Ok(()),
+        None => Ok(claim),
     }
 }
 
@@ -101,18 +103,32 @@ fn status_fits(design: &Design, index: usize, status: u8) -> bool {
     }
 }
 
-pub fn property_holds(query: Query<Design>, state: &State) -> bool {
-    let design = query.design;
-    if query.property == 0 {
-        return boolean(state, &design.invariant);
+/// Whether the property is true at step i of a run. A list of choices breaks
+/// it at the steps where it is not.
+pub fn holds_at(design: &Design, claim: Claim, run: &[Stepped], i: usize) -> bool {
+    let before = i.checked_sub(1).map(|earlier| &run[earlier].state);
+    claim_holds(design, claim, before, &run[i].state)
+}
+
+/// `before` is the state that the last choice acted on. The first state has
+/// none, and no constraint is false there.
+fn claim_holds(design: &Design, claim: Claim, before: Option<&State>, state: &State) -> bool {
+    match claim {
+        Claim::Invariant(e) => boolean(Pair::one(state), e),
+        Claim::NoInvalidCell => {
+            let invalid = |cell: &&Cell| cell.kind == CellKind::Invalid;
+            !design.cells.iter().filter(invalid).any(|cell| at_place(design, state, cell))
+        }
+        Claim::Constraint(e) => {
+            before.is_none_or(|earlier| boolean(Pair { earlier, next: state }, e))
+        }
     }
-    let reached = |cell: &Cell| cell.kind == CellKind::Invalid && at_place(design, state, cell);
-    !design.cells.iter().any(reached)
 }
 
 /// The cell's matrix has its status and its event is true.
 fn at_place(design: &Design, state: &State, cell: &Cell) -> bool {
-    state.statuses[cell.matrix as usize] == cell.status && boolean(state, design.event_of(cell))
+    state.statuses[cell.matrix as usize] == cell.status
+        && boolean(Pair::one(state), design.event_of(cell))
 }
 
 fn moved(design: &Design, state: &State, mover: Mover) -> Stepped {
@@ -133,7 +149,7 @@ fn run_cell(design: &Design, cell: &Cell, state: &mut State) -> bool {
     let CellKind::Normal { target, guard, action } = &cell.kind else {
         return false;
     };
-    let guarded = guard.as_ref().is_none_or(|g| boolean(state, g));
+    let guarded = guard.as_ref().is_none_or(|g| boolean(Pair::one(state), g));
     if !guarded || !at_place(design, state, cell) {
         return false;
     }
@@ -149,34 +165,38 @@ fn run_list(state: &mut State, list: &[Statement]) {
 }
 
 fn run_statement(state: &mut State, statement: &Statement) {
+    let read = Pair::one(&*state);
     match statement {
-        Statement::AssignInteger(v, e) => state.values[*v as usize] = integer(state, e),
-        Statement::AssignBoolean(v, e) => state.values[*v as usize] = boolean(state, e) as i16,
+        Statement::AssignInteger(v, e) => state.values[*v as usize] = integer(read, e),
+        Statement::AssignBoolean(v, e) => state.values[*v as usize] = boolean(read, e) as i16,
         Statement::If(condition, then, other) => {
-            let list = if boolean(state, condition) { then } else { other };
+            let list = if boolean(read, condition) { then } else { other };
             run_list(state, list);
         }
     }
 }
 
-fn integer(state: &State, e: &Integer) -> i16 {
+fn integer(states: Pair<State>, e: &Integer) -> i16 {
     match e {
         Integer::Constant(c) => *c,
-        Integer::Variable(v) => state.values[*v as usize],
-        Integer::Status(m) => state.statuses[*m as usize] as i16,
-        Integer::Sum(a, b) => integer(state, a).wrapping_add(integer(state, b)),
-        Integer::Difference(a, b) => integer(state, a).wrapping_sub(integer(state, b)),
+        Integer::Variable(v) => states.earlier.values[*v as usize],
+        Integer::Status(m) => states.earlier.statuses[*m as usize] as i16,
+        Integer::Sum(a, b) => integer(states, a).wrapping_add(integer(states, b)),
+        Integer::Difference(a, b) => integer(states, a).wrapping_sub(integer(states, b)),
+        Integer::NextVariable(v) => states.next.values[*v as usize],
+        Integer::NextStatus(m) => states.next.statuses[*m as usize] as i16,
     }
 }
 
-fn boolean(state: &State, e: &Boolean) -> bool {
+fn boolean(states: Pair<State>, e: &Boolean) -> bool {
     match e {
         Boolean::Constant(c) => *c,
-        Boolean::Variable(v) => state.values[*v as usize] == 1,
-        Boolean::Not(a) => !boolean(state, a),
-        Boolean::And(a, b) => boolean(state, a) && boolean(state, b),
-        Boolean::Or(a, b) => boolean(state, a) || boolean(state, b),
-        Boolean::Equal(a, b) => integer(state, a) == integer(state, b),
-        Boolean::Less(a, b) => integer(state, a) < integer(state, b),
+        Boolean::Variable(v) => states.earlier.values[*v as usize] == 1,
+        Boolean::Not(a) => !boolean(states, a),
+        Boolean::And(a, b) => boolean(states, a) && boolean(states, b),
+        Boolean::Or(a, b) => boolean(states, a) || boolean(states, b),
+        Boolean::Equal(a, b) => integer(states, a) == integer(states, b),
+        Boolean::Less(a, b) => integer(states, a) < integer(states, b),
+        Boolean::NextVariable(v) => states.next.values[*v as usize] == 1,
     }
 }

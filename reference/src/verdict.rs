@@ -35,11 +35,10 @@ pub fn verdict(
     budget: u64,
     mut lent: Lent,
 ) -> Result<Verdict, Refusal> {
-    query.check_bound(bound)?;
-    check_memory(&Formula::new(query, bound), &lent, bound)?;
+    check_memory(&Formula::new(query, bound)?, &lent, bound)?;
     let mut tries = 0;
     for k in 0..=bound {
-        let formula = Formula::new(query, k);
+        let formula = Formula::new(query, k)?;
         let solved = solve_bound(&formula, budget - tries, &mut lent)?;
         tries += solved.tries;
         match solved.outcome {

@@ -68,13 +68,14 @@ fn length_1() {
 
 #[test]
 fn version_2_and_counts_3() {
-    assert_eq!(refused(&[(57, 2)]), (2, 57));
+    assert_eq!(refused(&[(57, 0)]), (2, 57));
+    assert_eq!(refused(&[(57, 3)]), (2, 57));
     assert_eq!(refused(&[(58, 1)]), (2, 57));
     assert_eq!(refused(&[(59, 33)]), (3, 57));
     assert_eq!(refused(&[(63, 0)]), (3, 57));
     assert_eq!(refused(&[(63, 9)]), (3, 57));
     assert_eq!(refused(&[(69, 1), (70, 1)]), (3, 57));
-    assert_eq!(refused(&[(57, 2), (63, 0)]), (2, 57));
+    assert_eq!(refused(&[(57, 3), (63, 0)]), (2, 57));
     // 256 cells are no fault of the count: the third one passes the trailer.
     assert_eq!(refused(&[(69, 0), (70, 1)]), (4, 51));
 }
@@ -326,6 +327,7 @@ fn movers_10_come_last() {
         matrices: vec![Matrix { statuses: 1, events: vec![Boolean::Constant(true)] }],
         cells: vec![],
         invariant,
+        constraint: None,
     };
     let file = |externals, invariant| file_bytes(&design(externals, invariant));
     let none = file(0, Boolean::Constant(true));

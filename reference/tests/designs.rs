@@ -38,6 +38,8 @@ impl Operators {
             Integer::Status(_) => 0x03,
             Integer::Sum(a, b) => self.integers(0x04, a, b),
             Integer::Difference(a, b) => self.integers(0x05, a, b),
+            Integer::NextVariable(_) => 0x06,
+            Integer::NextStatus(_) => 0x07,
         };
         self.0.insert(code);
     }
@@ -60,6 +62,7 @@ impl Operators {
             Boolean::Or(a, b) => self.booleans(0x14, a, b),
             Boolean::Equal(a, b) => self.integers(0x15, a, b),
             Boolean::Less(a, b) => self.integers(0x16, a, b),
+            Boolean::NextVariable(_) => 0x17,
         };
         self.0.insert(code);
     }
@@ -101,6 +104,7 @@ impl Operators {
             }
         }
         self.boolean(&design.invariant);
+        design.constraint.iter().for_each(|c| self.boolean(c));
     }
 }
 
@@ -110,7 +114,7 @@ fn every_operator_is_used() {
     for (_, bytes) in all_files() {
         operators.design(&check(&bytes).unwrap());
     }
-    let all = (0x01..=0x05).chain(0x10..=0x16).chain(0x20..=0x21);
+    let all = (0x01..=0x07).chain(0x10..=0x17).chain(0x20..=0x21);
     assert_eq!(operators.0, all.collect());
 }
 
@@ -132,6 +136,12 @@ fn small_designs_break_where_they_should() {
         ("operators", 0, Some(3)),
         ("lock", 0, Some(6)),
         ("longest", 0, None),
+        ("moved", 0, Some(3)),
+        ("moved", 2, Some(3)),
+        ("no-idle", 0, None),
+        ("no-idle", 2, Some(1)),
+        ("crossing-turns", 0, None),
+        ("crossing-turns", 2, None),
     ];
     let files = all_files();
     for (name, property, step) in expected {

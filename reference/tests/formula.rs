@@ -6,10 +6,10 @@ mod support;
 use reference::builder::file_bytes;
 use reference::design::{Boolean, CellKind, Design, Integer, Kind, Matrix, Statement, Variable};
 use reference::designs::{design_a, money_changer, Property, Version};
-use reference::formula::{decode, size, Formula};
+use reference::formula::{decode, size};
 use reference::generator::trees::{chain_design, design, tiny_plan, Plan};
 use reference::models::models;
-use reference::query::Query;
+use reference::query::{Query, CONSTRAINT};
 use reference::random::Random;
 use reference::verdict::Finding;
 use std::collections::BTreeSet;
@@ -35,9 +35,10 @@ fn decoded(design: &Design, property: u64, bound: u64, values: &[u8]) -> Vec<u8>
 fn models_of_random_designs_are_their_breaking_lists() {
     let mut random = Random::new(5);
     let mut broken = [0; 5];
-    for _ in 0..400 {
+    let mut by_constraint = 0;
+    for _ in 0..600 {
         let design = through_file(&small_design(&mut random));
-        let property = random.below(2) as u64;
+        let property = property_of(&mut random, &design);
         let bound = random.between(0, 4) as u64;
         let n = variables(&design, property, bound);
         let models = models(n, &formula_words(&design, property, bound));
@@ -47,8 +48,9 @@ fn models_of_random_designs_are_their_breaking_lists() {
         assert_eq!((models.len(), found.len()), (lists.len(), lists.len()));
         assert_eq!(found, lists.into_iter().collect());
         broken[bound as usize] += !models.is_empty() as u32;
+        by_constraint += (property == CONSTRAINT && !models.is_empty()) as u32;
     }
-    assert!(broken.iter().all(|&count| count > 5), "{broken:?}");
+    assert!(broken.iter().all(|&count| count > 5) && by_constraint > 20, "{broken:?}");
 }
 
 #[test]
@@ -56,7 +58,7 @@ fn verdicts_of_random_designs_are_their_first_breaks() {
     let mut random = Random::new(6);
     for _ in 0..150 {
         let design = small_design(&mut random);
-        let property = random.below(2) as u64;
+        let property = property_of(&mut random, &design);
         let bound = random.between(0, 3) as u64;
         let (verdict, choices) = verdict_of(&design, property, bound, u64::MAX);
         let first =
@@ -114,6 +116,7 @@ fn arithmetic_design(a: i16, b: i16) -> Design {
         matrices: vec![Matrix { statuses: 1, events: vec![Boolean::Constant(true)] }],
         cells: vec![cell],
         invariant: Boolean::Constant(false),
+        constraint: None,
     }
 }
 
@@ -217,7 +220,7 @@ fn large_design() {
     *action = lists;
     assert!(file_bytes(&design).len() <= 16_384);
     let design = through_file(&design);
-    let formula = Formula::new(Query::new(&design, 0), 100);
+    let formula = formula_of(&design, 0, 100);
     assert!(formula.size().words > 1 << 31);
     assert!(formula.variables() < 1 << 31);
     let part = part_words(&design, 0, 100, 100);

@@ -1,8 +1,9 @@
-//! What the generated requests of the step rule must have among them, since a comparison shows nothing of what is never asked.
+//! What the generated requests must have among them, since a comparison shows nothing of what is never asked.
 
-use reference::design::{check, CellKind, Design, Kind, Mover, Statement};
-use reference::generator::Generator;
-use reference::protocol::bytes;
+use reference::design::{check, Boolean, CellKind, Design, Integer, Kind, Mover, Statement};
+use reference::generator::{all_operations, Generator};
+use reference::operations::Reference;
+use reference::protocol::{bytes, reply};
 use std::collections::BTreeSet;
 use std::str::FromStr;
 
@@ -136,4 +137,199 @@ fn requests_reach_the_ends_of_the_step_rule() {
     ];
     let missing: Vec<_> = wanted.iter().filter(|name| !seen.contains(**name)).collect();
     assert!(missing.is_empty(), "never asked: {missing:?}");
+}
+
+/// Where a field of two bytes stands: so many bytes before the end.
+fn field(file: &[u8], before_end: usize) -> usize {
+    let at = file.len() - before_end;
+    u16::from_le_bytes([file[at], file[at + 1]]) as usize
+}
+
+/// The name of what CHECK says of the constraint's offset, in a file that is long enough for one.
+fn seen_in_offset(file: &[u8], seen: &mut BTreeSet<&'static str>) {
+    let (constraint, invariant, end) = (field(file, 18), field(file, 2), file.len() - 18);
+    let (number, place) = check(file).map_or_else(|r| (r.number, r.place as usize), |_| (0, 0));
+    let name = match (number, place == invariant) {
+        (0, _) => "a file of version 2",
+        (4, true) if constraint + 1 == invariant => "an offset just before the invariant",
+        (4, true) if constraint == end + 1 => "an offset just past its limit",
+        (4, true) if constraint < invariant => "an offset before the invariant",
+        (4, true) if constraint > end => "an offset past its limit",
+        (8, true) if constraint == invariant => "no invariant",
+        (8, true) => "a bad invariant",
+        (8, false) if place == end => "no constraint",
+        (8, false) if place == constraint => "a bad constraint",
+        (10, _) => "wrong movers",
+        _ => return,
+    };
+    seen.insert(name);
+}
+
+#[test]
+fn files_of_version_2_meet_the_limits_of_the_offset() {
+    let mut generator = Generator::new(4, &["check"]).unwrap();
+    let mut seen = BTreeSet::new();
+    for _ in 0..30_000 {
+        let request = generator.request();
+        let file = bytes(&request["check ".len()..]).unwrap();
+        match file.len() {
+            16 | 17 if field(&file, 16) == 2 => {
+                seen.insert("too short");
+            }
+            18.. if field(&file, 16) == 2 => seen_in_offset(&file, &mut seen),
+            _ => {}
+        }
+    }
+    let wanted = [
+        "a bad constraint",
+        "a bad invariant",
+        "a file of version 2",
+        "an offset before the invariant",
+        "an offset just before the invariant",
+        "an offset just past its limit",
+        "an offset past its limit",
+        "no constraint",
+        "no invariant",
+        "too short",
+        "wrong movers",
+    ];
+    assert_eq!(seen.into_iter().collect::<Vec<_>>(), wanted);
+}
+
+/// The operators that read the next state, where they are not legal: with the operator made a constant the file is accepted.
+#[test]
+fn the_next_state_is_read_where_it_may_not_be() {
+    let mut generator = Generator::new(5, &["check"]).unwrap();
+    let mut seen = BTreeSet::new();
+    for _ in 0..15_000 {
+        let request = generator.request();
+        let file = bytes(&request["check ".len()..]).unwrap();
+        let Err(refusal) = check(&file) else { continue };
+        if file.len() < 18 || (refusal.number != 8 && refusal.number != 9) {
+            continue;
+        }
+        let (cells, invariant) = (field(&file, 6), field(&file, 2));
+        let section = match refusal.place as usize {
+            place if place < cells => "event",
+            place if place < invariant && refusal.number == 8 => "guard",
+            place if place < invariant => "action",
+            place if place == invariant => "invariant",
+            _ => continue,
+        };
+        seen.extend(illegal_reads(&file, refusal.place as usize).map(|code| (section, code)));
+    }
+    for section in ["event", "guard", "action", "invariant"] {
+        for code in [0x06, 0x07, 0x17] {
+            assert!(seen.contains(&(section, code)), "never asked: {code:x} in an {section}");
+        }
+    }
+}
+
+/// The operators whose earlier-state form in the same byte makes CHECK go on past the place.
+fn illegal_reads(file: &[u8], place: usize) -> impl Iterator<Item = u8> + '_ {
+    let legal = |code: u8| match code {
+        0x06 => Some(0x02),
+        0x07 => Some(0x03),
+        0x17 => Some(0x11),
+        _ => None,
+    };
+    (place..file.len() - 16).filter_map(move |at| {
+        let mut changed = file.to_vec();
+        changed[at] = legal(file[at])?;
+        let goes_on = check(&changed).map_or_else(|r| r.place as usize != place, |_| true);
+        goes_on.then_some(file[at])
+    })
+}
+
+/// The property of a request's call, where it has one.
+fn property(fields: &[&str]) -> Option<u64> {
+    let at = match fields[0] {
+        "holds" => 4,
+        "replay" | "size" | "encode" | "decode" | "verdict" | "trace" => 2,
+        _ => return None,
+    };
+    fields[at].parse().ok()
+}
+
+#[test]
+fn every_call_asks_property_2_of_both_versions() {
+    let mut generator = Generator::new(6, &all_operations()).unwrap();
+    let mut seen = BTreeSet::new();
+    for _ in 0..6_000 {
+        let request = generator.request();
+        let fields: Vec<&str> = request.split(' ').collect();
+        let Some(property @ 2..=3) = property(&fields) else { continue };
+        let Ok(design) = check(&bytes(fields[1]).unwrap()) else { continue };
+        let reply = reply(&mut Reference, &request);
+        let answer = match reply.split(' ').nth(1) {
+            Some("11") => continue,
+            Some("13") => "refused",
+            _ => "taken",
+        };
+        let version = 1 + design.constraint.is_some() as u8;
+        seen.insert((fields[0].to_string(), version, property, answer));
+    }
+    for call in ["replay", "size", "encode", "decode", "verdict", "trace"] {
+        for (version, property, answer) in
+            [(1, 2, "refused"), (2, 2, "taken"), (1, 3, "refused"), (2, 3, "refused")]
+        {
+            assert!(seen.contains(&(call.to_string(), version, property, answer)), "{call}");
+        }
+        assert!(!seen.contains(&(call.to_string(), 1, 2, "taken")));
+    }
+    assert!(seen.contains(&("holds".to_string(), 2, 2, "refused")));
+    assert!(!seen.contains(&("holds".to_string(), 2, 2, "taken")));
+}
+
+/// How a constraint reads: by which operators of the next state.
+fn next_reads(e: &Boolean, seen: &mut BTreeSet<u8>) {
+    let mut number = |a: &Integer| next_numbers(a, seen);
+    match e {
+        Boolean::Constant(_) | Boolean::Variable(_) => {}
+        Boolean::NextVariable(_) => {
+            seen.insert(0x17);
+        }
+        Boolean::Not(a) => next_reads(a, seen),
+        Boolean::And(a, b) | Boolean::Or(a, b) => {
+            next_reads(a, seen);
+            next_reads(b, seen);
+        }
+        Boolean::Equal(a, b) | Boolean::Less(a, b) => {
+            number(a);
+            number(b);
+        }
+    }
+}
+
+fn next_numbers(e: &Integer, seen: &mut BTreeSet<u8>) {
+    match e {
+        Integer::NextVariable(_) => {
+            seen.insert(0x06);
+        }
+        Integer::NextStatus(_) => {
+            seen.insert(0x07);
+        }
+        Integer::Sum(a, b) | Integer::Difference(a, b) => {
+            next_numbers(a, seen);
+            next_numbers(b, seen);
+        }
+        _ => {}
+    }
+}
+
+#[test]
+fn formulas_of_property_2_read_by_every_operator() {
+    let mut generator = Generator::new(7, &["encode"]).unwrap();
+    let (mut seen, mut with_bound) = (BTreeSet::new(), 0);
+    for _ in 0..3_000 {
+        let request = generator.request();
+        let fields: Vec<&str> = request.split(' ').collect();
+        let Ok(design) = check(&bytes(fields[1]).unwrap()) else { continue };
+        if let (Some(constraint), "2") = (&design.constraint, fields[2]) {
+            next_reads(constraint, &mut seen);
+            with_bound += (fields[3] != "0") as u32;
+        }
+    }
+    assert_eq!(seen, BTreeSet::from([0x06, 0x07, 0x17]));
+    assert!(with_bound > 50, "{with_bound}");
 }

@@ -40,6 +40,7 @@ fn no_variables_leave_single_spaces() {
         matrices: vec![Matrix { statuses: 1, events: vec![Boolean::Constant(true)] }],
         cells: vec![cell],
         invariant: Boolean::Constant(true),
+        constraint: None,
     };
     let output = replayed(&[0, 1, 0], &file_bytes(&design));
     assert_eq!(output, "0 - 0 1 | 0\n1 0 0 1 | 0\nholds\n");

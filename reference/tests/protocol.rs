@@ -1,7 +1,7 @@
 //! The line protocol, and the generator of its requests.
 
 use reference::builder::file_bytes;
-use reference::designs::design_a;
+use reference::designs::{design_a, moved};
 use reference::generator::{all_operations, Generator};
 use reference::operations::{Operations, Reference};
 use reference::protocol::{hex, reply, serve};
@@ -55,17 +55,24 @@ fn a_refusal_has_a_number_and_a_place() {
 #[test]
 fn the_examples_of_the_document() {
     let document = include_str!("../../docs/PROTOCOL.md");
-    let rows = document.lines().skip_while(|line| !line.starts_with("With the file of Design A"));
-    let mut examples = 0;
-    for row in rows.filter(|line| line.starts_with("| `")) {
-        let words: Vec<&str> = row.split('`').collect();
-        let [_, request, _, expected, _] = words[..] else {
-            panic!("{row}");
-        };
-        assert_eq!(with_design(request), expected, "{request}");
-        examples += 1;
+    for (start, design, count) in [
+        ("With the file of Design A", design_a(), 7),
+        ("With the file of `designs/moved.stm`", moved(), 5),
+    ] {
+        let section = document.lines().skip_while(|line| !line.starts_with(start)).skip(1);
+        let rows = section.take_while(|line| !line.starts_with("With "));
+        let mut examples = 0;
+        for row in rows.filter(|line| line.starts_with("| `")) {
+            let words: Vec<&str> = row.split('`').collect();
+            let [_, request, _, expected, _] = words[..] else {
+                panic!("{row}");
+            };
+            let request = request.replace('D', &hex(&file_bytes(&design)));
+            assert_eq!(answer(&request), expected, "{row}");
+            examples += 1;
+        }
+        assert_eq!(examples, count);
     }
-    assert_eq!(examples, 6);
 }
 
 #[test]

@@ -1,7 +1,8 @@
 -- Statements, movers and properties: under any assignment that obeys its gates, what a builder leaves is what the step rule leaves.
 use mathlib.Core.Path.{_≡_, refl, sym, ap, ap₂, _∙_}
 use mathlib.Core.Bool.{Bool, true, false, not, _&&_, cond}
-use mathlib.Core.List.{List, [], _∷_, map}
+use mathlib.Core.List.{List, [], _∷_, _++_, map, map-append}
+use mathlib.Core.Option.{some}
 use Prim.Native.Nat.{ℕ, zero, suc, _+_, _*_, _^_, _<_}
 use native.Mathlib.Omega.{arith}
 use lib.Dec.{eqb}
@@ -10,18 +11,19 @@ use lib.Seq.{set-getD}
 use Rattle.design.specs.Tree.{BoolExpr, Stmt, Stmts, assign, assignB, ifElse, done, then, InvalidCell, Design, Mover, cell, raise, movers, bit}
 use Rattle.design.specs.State.{State, Layout, layout, statusSlot, statusWidth, widths}
 use Rattle.design.specs.WellFormed.{BoolOk, StmtOk, StmtsOk, MoverOk, MoversOk, InvalidsOk, WellFormed}
-use Rattle.step.specs.Property.{Property, invariant, noInvalidCell, PropertyOk}
-use Rattle.step.specs.OneStep.{execute, executeAll, statusAndEvent, enabled, effect, move, noInvalid, holds}
+use Rattle.step.specs.Property.{Property, invariant, noInvalidCell, constraint, PropertyOk}
+use Rattle.step.specs.Evaluation.{evalBool}
+use Rattle.step.specs.OneStep.{execute, executeAll, statusAndEvent, enabled, effect, move, noInvalid, trueAt, holds}
 use Rattle.clauses.specs.Literal.{Literal, negate, trueLiteral}
 use Rattle.clauses.specs.Meaning.{literalTrue}
 use Rattle.clauses.specs.Circuit.{Bits}
 use Rattle.clauses.specs.Expression.{Slots, constantBits, integerAt, booleanAt}
 use Rattle.clauses.specs.Action.{muxBits!, muxes!, statement!, statements!, statusAndEvent!, enable!, effect!, mover!, movers!, noInvalid! }
-use Rattle.clauses.specs.Formula.{property!, step! }
+use Rattle.clauses.specs.Formula.{property!, stepProperty!, step! }
 use Rattle.clauses.proofs.Gates.{negate-true, and-assoc}
 use Rattle.clauses.proofs.Correct.{LiteralBelow, Correct, correct-give, correct-bind, correct-weaken, correct-means, and-correct, mux-correct, negate-below}
 use Rattle.clauses.proofs.Arithmetic.{BitsBelow, bits-up, Word, number, equal-correct}
-use Rattle.clauses.proofs.Expressions.{stateOf, SlotsBelow, slots-up, constant-word, number-constant, Fits, fits-up, integer-word, integer-value, boolean-below, boolean-value, int-correct, bool-correct}
+use Rattle.clauses.proofs.Expressions.{stateOf, SlotsBelow, slots-up, constant-word, number-constant, Fits, fits-up, fits-append, integer-word, integer-value, boolean-below, boolean-value, int-correct, bool-correct}
 
 bit-cond : (c x y : Bool) (X Y : ℕ) → bit (cond c x y) + 2 * cond c X Y ≡ cond c (bit x + 2 * X) (bit y + 2 * Y)
 bit-cond true x y X Y = refl
@@ -194,13 +196,29 @@ module _ (ws : List ℕ) (l : Layout) where
         correct-means (noInvalid-correct ps y n₂ (fits-up (omega arith) f) by (k .1)) λ ρ r one e ey ex.
         e ∙ ap (λ b. b && noInvalid l (stateOf ρ s) ps) (ey ∙ ap (λ b. literalTrue ρ c && b) (negate-true ρ x ∙ ap not ex)) ∙ and-assoc (literalTrue ρ c) _ _
 
+-- what a property says of a step from one state to another: only property 2 says anything
+abbrev pub stepTrue : Design → Property → State → State → Bool
+stepTrue d (invariant e) s next = true
+stepTrue d noInvalidCell s next = true
+stepTrue d (constraint e) s next = trueAt d (constraint e) (some s) next
+
 module _ (d : Design) (wf : WellFormed d) (s : Slots) (n : ℕ) (f : Fits (widths d) n s) where
   pub property-correct : (p : Property) → PropertyOk d p → Correct n (property! d p s n) LiteralBelow (λ ρ r. literalTrue ρ r ≡ holds d p (stateOf ρ s))
-  unfolding property! holds PropertyOk
+  unfolding property! trueAt PropertyOk
   property-correct (invariant e) ok = bool-correct (widths d) (layout d) s e n f ok
   property-correct noInvalidCell ok =
       correct-means (noInvalid-correct (widths d) (layout d) s (d .invalid) trueLiteral n f (omega (arith, f .known)) (wf .invalid)) λ ρ r one e.
       e ∙ ap (λ b. b && noInvalid (layout d) (stateOf ρ s) (d .invalid)) one
+  property-correct (constraint e) ok = correct-give _ (omega (arith, f .known)) λ ρ one. one
+
+  pub stepProperty-correct : (p : Property) → PropertyOk d p → (r : Slots) → Fits (widths d) n r
+      → Correct n (stepProperty! d p s r n) LiteralBelow (λ ρ x. literalTrue ρ x ≡ stepTrue d p (stateOf ρ s) (stateOf ρ r))
+  unfolding stepProperty! trueAt PropertyOk
+  stepProperty-correct (invariant e) ok r g = correct-give _ (omega (arith, f .known)) λ ρ one. one
+  stepProperty-correct noInvalidCell ok r g = correct-give _ (omega (arith, f .known)) λ ρ one. one
+  stepProperty-correct (constraint e) ok r g =
+      correct-means (bool-correct (widths d ++ widths d) (layout d) (s ++ r) e n (fits-append f g) ok) λ ρ x one h.
+      h ∙ ap (λ t. evalBool (layout d) t e) (map-append (number ρ) s r)
 
   pub step-correct : Correct n (step! d s n) (λ k rs. AllFit (widths d) k rs × (length rs ≡ length (movers d)))
       (λ ρ rs. map (stateOf ρ) rs ≡ map (move (layout d) (stateOf ρ s)) (movers d))

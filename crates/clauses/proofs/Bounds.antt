@@ -1,26 +1,23 @@
 -- "the limits keep n below 2^31": the sizes of an accepted design, and of its formula for any bound.
-use mathlib.Core.Path.{_≡_, sym, ap, _∙_}
-use mathlib.Core.Bool.{true, false}
+use mathlib.Core.Path.{_≡_, refl, sym, ap, _∙_}
+use mathlib.Core.Bool.{Bool, true, false}
 use mathlib.Core.List.{List, [], _∷_, _++_, map}
 use Prim.Native.Nat.{ℕ, zero, suc, _+_, _*_, _<_, _≤_}
 use native.Mathlib.Omega.{arith}
-use lib.Dec.{eqb}
-use borrow.Author.Tests.{eqb-true}
 use lib.ListN.{length, getD, replicate, length-map}
 use Rattle.design.specs.Tree.{BoolExpr, constantB, Kind, boolean, integer, external, Variable, Cell, InvalidCell, Design, Mover, cell, raise, ifExternal, externals, movers}
 use Rattle.design.specs.State.{width, statusWidth, widths}
 use Rattle.design.specs.Limits.{maxVariables, maxCells, maxMovers, maxDepth, maxNest, maxBits}
-use Rattle.design.specs.Reading.{Read, got, bad}
-use Rattle.design.specs.Expression.{Names, boolExpr}
-use Rattle.design.specs.DesignFile.{item, Matrix, Entry, normal, invalid, eventAt, guard, filling, c-matrix, c-event, c-guard, c-middle, c-past, c-kind, cellAt}
-use Rattle.design.specs.Check.{Checked, check, trailer, normals, invalids, matricesOffset, eventsOffset, cellsOffset, invariantOffset, names, eventIn}
+use Rattle.design.specs.Expression.{Names, withLater, boolExpr}
+use Rattle.design.specs.DesignFile.{item, Matrix, Entry, normal, invalid, eventAt, guard, c-matrix, c-event, c-guard, c-middle, c-past, c-kind, cellAt}
+use Rattle.design.specs.Check.{Checked, check, normals, invalids, itemsEnd, hasConstraint, constraintOffset, matricesOffset, eventsOffset, cellsOffset, invariantOffset, names, eventIn}
 use Rattle.design.specs.Sections.{Run, Rows, Cells, EntryRead}
-use Rattle.design.proofs.Sections.{need-inv, item-same, Whole, whole}
+use Rattle.design.proofs.Sections.{item-same, filling-inv, items-before, Whole, whole}
 use Rattle.design.proofs.Widths.{total-append, statuses-total}
-use Rattle.design.proofs.Positions.{event-reads, cell-reads, invariant-stands}
+use Rattle.design.proofs.Positions.{event-reads, cell-reads, expressions-order, invariant-stands, constraint-stands, constraint-none}
 use Rattle.step.specs.Property.{propertyOf}
 use Rattle.clauses.specs.Formula.{total, S, w}
-use Rattle.clauses.specs.Cost.{gatesIn, boolCost, enableCost, effectCost, moverCost, moversCost, invalidCost, propertyCost, stepCost}
+use Rattle.clauses.specs.Cost.{gatesIn, boolCost, enableCost, effectCost, moverCost, moversCost, invalidCost, propertyCost, stepPropertyCost, stepCost}
 use Rattle.clauses.specs.Limits.{gatesOfByte, gatesOfActionByte, gatesOfEvent, mostGates}
 use Rattle.clauses.proofs.Bytes.{bool-bytes, list-bytes}
 
@@ -77,17 +74,9 @@ raises-cost bits few (x ∷ xs) v = go (x .kind) (raises-cost bits few xs (suc v
     go integer h = omega arith
     go external h = omega arith
 
-filling-reads : {A : Type 0} (i p past : ℕ) (r : Read A) (a : A) (n : ℕ) → filling i p past r ≡ item a n → r ≡ got a past
-filling-reads i p past (got b m) a n e =
-    let h = need-inv (eqb m past) i p (item b past) a n e in
-    let q : m ≡ past = eqb-true m past (h .0) in
-    let s : b ≡ a = item-same _ _ _ _ (h .1) in
-    cc
-filling-reads i p past bad a n e = let z : _≡_ {A = ℕ} 0 1 = cc in absurd (omega arith)
-
 module _ (file : List ℕ) (bytes : (i : ℕ) → getD file i 0 < 256) where
   abbrev E : ℕ
-  E = trailer file
+  E = itemsEnd file
 
   abbrev N : Names
   N = names file
@@ -110,7 +99,7 @@ module _ (file : List ℕ) (bytes : (i : ℕ) → getD file i 0 < 256) where
       omega arith
   guard-bytes at (suc k) g n e =
       bool-bytes file N (c-middle file at) maxDepth (at + 8) .of g (c-middle file at)
-      (filling-reads 8 at (c-middle file at) (boolExpr file N (c-middle file at) maxDepth (at + 8)) g n e)
+      (filling-inv 8 at (c-middle file at) (boolExpr file N (c-middle file at) maxDepth (at + 8)) g n e .0)
 
   module _ (bits : ℕ) (few : bits ≤ maxBits) (f : ℕ → ℕ → BoolExpr) (cheap : (m e : ℕ) → Cheap (f m e)) where
     -- the gates of a cell's mover, or of an invalid cell in property 1
@@ -147,7 +136,7 @@ module _ (file : List ℕ) (bytes : (i : ℕ) → getD file i 0 < 256) where
 pub record Bounded (d : Design) : Type 0 where
   pub bits : S d ≤ maxBits
   pub movers : w d ≤ maxMovers
-  pub gates : (p : ℕ) → gatesIn (propertyCost d (propertyOf d p)) + gatesIn (stepCost d) ≤ mostGates
+  pub gates : (p : ℕ) → gatesIn (propertyCost d (propertyOf d p)) + gatesIn (stepCost d (propertyOf d p)) ≤ mostGates
 
 module _ (file : List ℕ) (bytes : (i : ℕ) → getD file i 0 < 256) (d : Design) (h : Whole file d) where
   S-bound : S d ≤ maxBits
@@ -174,17 +163,30 @@ module _ (file : List ℕ) (bytes : (i : ℕ) → getD file i 0 < 256) (d : Desi
       let b = ap (λ (l : List InvalidCell). gatesIn (invalidCost l)) (h .parts .invalid) in
       omega arith
 
-  step-bound : gatesIn (stepCost d) ≤ gatesIn (moversCost (S d) (map cell (d .cells))) + maxBits * maxVariables
-  unfolding stepCost movers
-  step-bound = omega (arith, movers-append (S d) (map cell (d .cells)) (externals 0 (d .variables)), raises-cost (S d) S-bound (d .variables) 0, h .parts .variable-count, h .variables)
+  movers-bound : gatesIn (moversCost (S d) (movers d)) ≤ gatesIn (moversCost (S d) (map cell (d .cells))) + maxBits * maxVariables
+  unfolding movers
+  movers-bound = omega (arith, movers-append (S d) (map cell (d .cells)) (externals 0 (d .variables)), raises-cost (S d) S-bound (d .variables) 0, h .parts .variable-count, h .variables)
 
-  invariant-bound : gatesIn (boolCost (d .invariant)) + gatesOfByte * invariantOffset file ≤ gatesOfByte * trailer file
-  invariant-bound = bool-bytes file (names file) (trailer file) maxDepth (invariantOffset file) .of (d .invariant) (trailer file) (invariant-stands file d (h .parts))
+  invariant-bound : gatesIn (boolCost (d .invariant)) + gatesOfByte * invariantOffset file ≤ gatesOfByte * constraintOffset file
+  invariant-bound = bool-bytes file (names file) (constraintOffset file) maxDepth (invariantOffset file) .of (d .invariant) (constraintOffset file) (invariant-stands file d (h .parts))
 
-  gates-bound : (p : ℕ) → gatesIn (propertyCost d (propertyOf d p)) + gatesIn (stepCost d) ≤ mostGates
-  unfolding propertyCost propertyOf
-  gates-bound zero = omega (arith, invariant-bound, cells-bound, step-bound, h .short)
-  gates-bound (suc p) = omega (arith, invariant-bound, cells-bound, step-bound, h .short)
+  constraint-bound : gatesIn (boolCost (d .constraint)) + gatesOfByte * constraintOffset file ≤ gatesOfByte * itemsEnd file
+  unfolding boolCost
+  constraint-bound = go (hasConstraint file) refl
+    where
+      go : (t : Bool) → hasConstraint file ≡ t → gatesIn (boolCost (d .constraint)) + gatesOfByte * constraintOffset file ≤ gatesOfByte * itemsEnd file
+      go true e =
+          bool-bytes file (withLater true (names file)) (itemsEnd file) maxDepth (constraintOffset file) .of (d .constraint) (itemsEnd file)
+          (constraint-stands file d (h .parts) e)
+      go false e =
+          let z : gatesIn (boolCost (d .constraint)) ≡ 0 = ap (λ x. gatesIn (boolCost x)) (constraint-none file d (h .parts) e) in
+          omega (arith, expressions-order file d (h .parts))
+
+  gates-bound : (p : ℕ) → gatesIn (propertyCost d (propertyOf d p)) + gatesIn (stepCost d (propertyOf d p)) ≤ mostGates
+  unfolding propertyCost stepCost stepPropertyCost propertyOf
+  gates-bound zero = omega (arith, invariant-bound, constraint-bound, items-before file, cells-bound, movers-bound, h .short)
+  gates-bound (suc zero) = omega (arith, invariant-bound, constraint-bound, items-before file, cells-bound, movers-bound, h .short)
+  gates-bound (suc (suc p)) = omega (arith, invariant-bound, constraint-bound, items-before file, cells-bound, movers-bound, h .short)
 
 pub bounded : (file : List ℕ) → ((i : ℕ) → getD file i 0 < 256) → (d : Design) → check file ≡ Checked.accepted d → Bounded d
 bounded file bytes d e =

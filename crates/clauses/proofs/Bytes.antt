@@ -9,7 +9,7 @@ use lib.Dec.{ltb, leb, eqb}
 use Rattle.design.specs.Tree.{IntExpr, BoolExpr, Stmt, Stmts, variableB}
 use Rattle.design.specs.Limits.{maxDepth, maxBits}
 use Rattle.design.specs.Reading.{Read, got, bad, Reader, bind, provided, Line, lookup}
-use Rattle.design.specs.Expression.{Names, IntOp, BoolOp, intOps, boolOps, intOp, boolOp, byte, word, intOf, boolOf, intExpr, boolExpr}
+use Rattle.design.specs.Expression.{Names, IntOp, BoolOp, intOps, boolOps, intOp, boolOp, byte, word, legal, numbered, intOf, boolOf, intExpr, boolExpr}
 use Rattle.design.specs.Action.{StmtOp, stmtOp, value, assignment, statements, listOf, conditional, stmtOf, statement, list}
 use Rattle.clauses.specs.Cost.{gatesIn, intCost, boolCost, statementCost, statementsCost}
 use Rattle.clauses.specs.Limits.{gatesOfByte, gatesOfActionByte}
@@ -56,14 +56,14 @@ lookup-all P other (l ∷ ls) b p h = cond-all P (eqb b (l .code)) (l .means) (l
 -- an operator adds at most 80 gates
 abbrev IntAdds : IntOp → Type 0
 IntAdds IntOp.op-constant = Unit {0}
-IntAdds IntOp.op-variable = Unit {0}
-IntAdds IntOp.op-status = Unit {0}
+IntAdds (IntOp.op-variable next) = Unit {0}
+IntAdds (IntOp.op-status next) = Unit {0}
 IntAdds IntOp.op-unknown = Unit {0}
 IntAdds (IntOp.op-ints f) = (a b : IntExpr) → gatesIn (intCost (f a b)) ≤ gatesIn (intCost a) + gatesIn (intCost b) + gatesOfByte
 
 abbrev BoolAdds : BoolOp → Type 0
 BoolAdds BoolOp.op-constant = Unit {0}
-BoolAdds BoolOp.op-variable = Unit {0}
+BoolAdds (BoolOp.op-variable next) = Unit {0}
 BoolAdds BoolOp.op-not = Unit {0}
 BoolAdds BoolOp.op-unknown = Unit {0}
 BoolAdds (BoolOp.op-bools f) = (a b : BoolExpr) → gatesIn (boolCost (f a b)) ≤ gatesIn (boolCost a) + gatesIn (boolCost b) + gatesOfByte
@@ -71,13 +71,13 @@ BoolAdds (BoolOp.op-ints f) = (a b : IntExpr) → gatesIn (boolCost (f a b)) ≤
 
 int-adds : (b : ℕ) → IntAdds (intOp b)
 unfolding intOp AllLines intCost
-int-adds b = lookup-all IntAdds IntOp.op-unknown intOps b tt (tt, (tt, (tt, ((λ x y. omega arith), ((λ x y. omega arith), tt)))))
+int-adds b = lookup-all IntAdds IntOp.op-unknown intOps b tt (tt, (tt, (tt, ((λ x y. omega arith), ((λ x y. omega arith), (tt, (tt, tt)))))))
 
 bool-adds : (b : ℕ) → BoolAdds (boolOp b)
 unfolding boolOp AllLines boolCost
 bool-adds b =
     lookup-all BoolAdds BoolOp.op-unknown boolOps b tt
-    (tt, (tt, (tt, ((λ x y. omega arith), ((λ x y. omega arith), ((λ x y. omega arith), ((λ x y. omega arith), tt)))))))
+    (tt, (tt, (tt, ((λ x y. omega arith), ((λ x y. omega arith), ((λ x y. omega arith), ((λ x y. omega arith), (tt, tt))))))))
 
 -- read from `at` on, so many gates a byte
 abbrev pub IntBytes : ℕ → IntExpr → ℕ → Type 0
@@ -98,11 +98,12 @@ module _ (text : List ℕ) (names : Names) (end : ℕ) where
       → Reads (IntBytes at) (intOf text names end operand o n)
   unfolding intCost
   intOf-bytes operand h IntOp.op-constant k at n e = reads-bind (word text names end n) _ (reads-word n) λ c m q. reads-got _ _ (omega arith)
-  intOf-bytes operand h IntOp.op-variable k at n e =
+  intOf-bytes operand h (IntOp.op-variable next) k at n e =
       reads-bind (byte text names end n) _ (reads-byte n) λ v m q.
-      reads-provided (ltb v (names .variables)) _ (reads-provided (eqb (names .kindOf v) 1) _ (reads-got _ _ (omega arith)))
-  intOf-bytes operand h IntOp.op-status k at n e =
-      reads-bind (byte text names end n) _ (reads-byte n) λ v m q. reads-provided (ltb v (names .matrices)) _ (reads-got _ _ (omega arith))
+      reads-provided (legal text names end next) _ (reads-provided (ltb v (names .variables)) _ (reads-provided (eqb (names .kindOf v) 1) _ (reads-got _ _ (omega arith))))
+  intOf-bytes operand h (IntOp.op-status next) k at n e =
+      reads-bind (byte text names end n) _ (reads-byte n) λ v m q.
+      reads-provided (legal text names end next) _ (reads-provided (ltb v (names .matrices)) _ (reads-got _ _ (omega arith)))
   intOf-bytes operand h IntOp.op-unknown k at n e = reads-bad
   intOf-bytes operand h (IntOp.op-ints f) k at n e =
       reads-bind (operand n) _ (h n) λ a m q.
@@ -121,9 +122,10 @@ module _ (text : List ℕ) (names : Names) (end : ℕ) where
   unfolding boolCost
   boolOf-bytes int i operand h BoolOp.op-constant k at n e =
       reads-bind (byte text names end n) _ (reads-byte n) λ v m q. reads-provided (leb v 1) _ (reads-got _ _ (omega arith))
-  boolOf-bytes int i operand h BoolOp.op-variable k at n e =
+  boolOf-bytes int i operand h (BoolOp.op-variable next) k at n e =
       reads-bind (byte text names end n) _ (reads-byte n) λ v m q.
-      reads-provided (ltb v (names .variables)) _ (reads-provided (not (eqb (names .kindOf v) 1)) _ (reads-got (variableB v) _ (omega arith)))
+      reads-provided (legal text names end next) _ (reads-provided (ltb v (names .variables)) _ (reads-provided (not (eqb (names .kindOf v) 1)) _
+      (reads-got (variableB (numbered text names end next v)) _ (omega arith))))
   boolOf-bytes int i operand h BoolOp.op-not k at n e = reads-bind (operand n) _ (h n) λ a m q. reads-got _ _ (omega arith)
   boolOf-bytes int i operand h BoolOp.op-unknown k at n e = reads-bad
   boolOf-bytes int i operand h (BoolOp.op-bools f) k at n e =

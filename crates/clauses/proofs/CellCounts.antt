@@ -6,28 +6,28 @@ use Prim.Native.Nat.{ℕ, _+_, _*_, _-_, _<_, _≤_}
 use native.Mathlib.Omega.{arith}
 use lib.ListN.{getD, length}
 use Rattle.design.specs.Tree.{Stmts, Design, cell}
-use Rattle.design.specs.Limits.{maxBytes, maxVariables, maxMatrices, maxDepth, maxNest, eventPlaces}
+use Rattle.design.specs.Limits.{maxBytes, tailBytes, maxVariables, maxMatrices, maxDepth, maxNest, eventPlaces}
 use Rattle.design.specs.Reading.{Read, got}
-use Rattle.design.specs.Expression.{Names, boolExpr}
+use Rattle.design.specs.Expression.{Names, withLater, boolExpr}
 use Rattle.design.specs.Action.{list}
 use Rattle.design.specs.DesignFile.{Entry, normal, invalid, c-matrix, c-event, c-kind, c-guard, c-middle, c-past, events}
-use Rattle.design.specs.Check.{trailer, names, namesOf, matricesOffset, cellsOffset, cellCount, invariantOffset, eventIn}
+use Rattle.design.specs.Check.{version, hasConstraint, itemsEnd, constraintOffset, names, namesOf, matricesOffset, cellsOffset, cellCount, invariantOffset, eventIn}
 use Rattle.design.specs.declared.shape.Shape.{Shape}
 use Rattle.design.specs.Sections.{Parts, Cells, CellRead, NormalRead, Standing, CellFields}
 use Rattle.design.specs.Places.{Indexed}
-use Rattle.design.proofs.Positions.{cell-reads}
+use Rattle.design.proofs.Positions.{cell-reads, expressions-order, constraint-none}
 use Rattle.design.proofs.Places.{Read as Tree, read, cell-fields}
 use Rattle.step.specs.Property.{propertyOf}
 use Rattle.step.specs.Accepted.{isRead}
 use Rattle.design.specs.Sections.{NormalCell}
 use Rattle.design.proofs.Indexed as indexed
-use Rattle.clauses.specs.Cost.{Cost, cost, boolCost, statementsCost, statusAndEventCost, enableCost, effectCost, moverCost, propertyCost}
+use Rattle.clauses.specs.Cost.{Cost, cost, boolCost, statementsCost, statusAndEventCost, enableCost, effectCost, moverCost, propertyCost, stepPropertyCost}
 use Rattle.clauses.specs.FrameSizes.{gatesAt, both, listGates, entryCost, entriesCost, HasGates, FewGates, CellHere, PlaceCounted, CellCounted, noGates}
 use Rattle.clauses.specs.Ready.{ShapedFile, Ready}
 use Rattle.clauses.specs.Limits.{textGates, mostGates}
 use Rattle.clauses.specs.declared.cost.GatesAt.{GatesAt}
 use Rattle.clauses.proofs.Bounds.{bounded}
-use Rattle.clauses.proofs.FrameCounts.{entries-few, property-cells, property-invariant}
+use Rattle.clauses.proofs.FrameCounts.{entries-few, property-cells, property-invariant, property-none, step-property-none, step-property-cost}
 use Rattle.clauses.proofs.TextGates.{Few, bool-few}
 
 -- the gates of what is known to be read
@@ -48,6 +48,15 @@ more-gates x e r n k p q =
 pub few-gates : (r : GatesAt) → Few r → FewGates mostGates r
 few-gates r f = record { ands = omega (arith, f .ands); wides = omega (arith, f .wides) }
 
+none-few : (r : GatesAt) (n : ℕ) → r ≡ noGates n → FewGates mostGates r
+none-few r n e = let z = none-gates r n e in record { ands = omega (arith, z .0); wides = omega (arith, z .1) }
+
+none-has : (r : GatesAt) (n : ℕ) → r ≡ noGates n → {k : Cost} → k ≡ cost 0 0 → HasGates r k
+none-has r n e q = let z = none-gates r n e in subst (HasGates r) (sym q) (record { ands = z .0; wides = z .1 })
+
+pub property-without : (p : ℕ) → (p ≡ 0 → ⊥) → (p ≡ 1 → ⊥) → (r : GatesAt) → r ≡ noGates 0 → FewGates mostGates r × ((d : Design) → HasGates r (propertyCost d (propertyOf d p)))
+property-without p z o r e = (none-few r 0 e, λ d. none-has r 0 e (property-none d p z o))
+
 -- what is known of an accepted file with its shape
 module _ {file : List ℕ} {shape : Shape} (h : ShapedFile file shape) where
   pub sizes : (16 ≤ length file) × (length file ≤ maxBytes) × (shape .matrices ≤ maxMatrices) × (shape .variables ≤ maxVariables)
@@ -55,6 +64,33 @@ module _ {file : List ℕ} {shape : Shape} (h : ShapedFile file shape) where
 
   pub kinds : 3 * shape .variables ≤ length file
   kinds = indexed.kinds file (h .accepted) shape (h .counts)
+
+  pub tail : tailBytes (version file) ≤ length file
+  tail = indexed.tail-inside file (h .accepted)
+
+  pub expressions-inside : constraintOffset file ≤ itemsEnd file
+  expressions-inside = let t = read file (h .accepted) in expressions-order file (t .tree) (t .all .parts) .1
+
+  -- the gates of property 2 in a step
+  abbrev StepGates : ℕ → GatesAt → Type 0
+  StepGates p r = FewGates mostGates r × ((d : Design) → Parts file d → HasGates r (stepPropertyCost (propertyOf d p)))
+
+  pub no-step-property : (p : ℕ) → p < 2 → (r : GatesAt) → r ≡ noGates 0 → StepGates p r
+  no-step-property p l r e = (none-few r 0 e, λ d w. none-has r 0 e (step-property-none d p l))
+
+  pub no-constraint : hasConstraint file ≡ false → (p : ℕ) → 2 ≤ p → (r : GatesAt) → r ≡ noGates 0 → StepGates p r
+  unfolding boolCost
+  no-constraint z p l r e = (none-few r 0 e, λ d w. none-has r 0 e (step-property-cost d p l ∙ ap boolCost (constraint-none file d w z)))
+
+  module _ (c : hasConstraint file ≡ true) (at end : ℕ) (a : at ≡ constraintOffset file) (b : end ≡ itemsEnd file) where
+    pub constraint-reads : isRead (boolExpr file (withLater true (namesOf file shape)) end maxDepth at) ≡ true
+    constraint-reads = ap isRead (indexed.constraint-some file (h .accepted) shape (h .counts) at end a b c .1)
+
+    pub constraint-gates : (p : ℕ) → 2 ≤ p → (r : GatesAt) → r ≡ gatesAt boolCost (boolExpr file (withLater true (namesOf file shape)) end maxDepth at) → StepGates p r
+    constraint-gates p l r e = (
+      few-gates r (bool-few file _ end (omega (arith, sizes .1)) maxDepth at r e),
+      λ d w. subst (HasGates r) (sym (step-property-cost d p l)) (known-gates boolCost _ _ _ r (indexed.constraint-got file (h .accepted) shape (h .counts) at end a b d w c) e),
+    )
 
 pub tables : {file table : List ℕ} {shape : Shape} → Ready file table shape → Indexed file table shape
 tables h = record { accepted = h .shaped .accepted; events = h .events; shaped = h .shaped .counts }
@@ -71,7 +107,7 @@ module _ (file table : List ℕ) (H : Shape) (h : Ready file table H) where
     pub event-slot : 16 * m + e < eventPlaces
     event-slot = indexed.event-slot file table H (tables h) m e a b
 
-    pub event-inside : place + 1 + getD file place 0 ≤ trailer file
+    pub event-inside : place + 1 + getD file place 0 ≤ itemsEnd file
     event-inside = indexed.event-inside file table H (tables h) m e a b
 
     module _ (k : ℕ) (q : k ≡ getD file place 0) where
@@ -99,18 +135,21 @@ module _ (file table : List ℕ) (H : Shape) (h : Ready file table H) where
         let s = subst (λ (i : ℕ). HasGates x (boolCost (eventIn (w .rows) i (c-event file p)))) a (subst (λ (j : ℕ). HasGates x (boolCost (eventIn (w .rows) m j))) b (k d w)) in
         record { ands = omega (arith, s .ands); wides = omega (arith, s .wides) }
 
-  -- the property: the invariant, or the invalid cells
-  module _ (at end : ℕ) (a : at ≡ invariantOffset file) (b : end ≡ trailer file) where
+  -- the property: the invariant, the invalid cells, or none here
+  module _ (at end : ℕ) (a : at ≡ invariantOffset file) (b : end ≡ constraintOffset file) where
+    pub invariant-within : end ≤ length file
+    invariant-within = omega (arith, expressions-inside (h .shaped))
+
     pub invariant-reads : isRead (boolExpr file N end maxDepth at) ≡ true
     invariant-reads = ap isRead (indexed.invariant-some file (h .shaped .accepted) H (h .shaped .counts) at end a b .1)
 
     pub invariant-gates : (p : ℕ) → p ≡ 0 → (r : GatesAt) → r ≡ gatesAt boolCost (boolExpr file N end maxDepth at) → FewGates mostGates r × ((d : Design) → Parts file d → HasGates r (propertyCost d (propertyOf d p)))
     invariant-gates p z r e = (
-      few-gates r (bool-few file N end (omega (arith, sizes (h .shaped) .1)) maxDepth at r e),
+      few-gates r (bool-few file N end (omega (arith, invariant-within, sizes (h .shaped) .1)) maxDepth at r e),
       λ d w. subst (HasGates r) (sym (property-invariant file d w (H .bits) (h .shaped .bits .state d w) p z)) (known-gates boolCost _ _ _ r (indexed.invariant-got file (h .shaped .accepted) H (h .shaped .counts) at end a b d w) e),
     )
 
-  pub property-gates : (p : ℕ) → (p ≡ 0 → ⊥) → (r : GatesAt) → ((d : Design) (w : Parts file d) → HasGates r (entriesCost (H .bits) true (w .entries))) → (d : Design) → Parts file d → HasGates r (propertyCost d (propertyOf d p))
+  pub property-gates : (p : ℕ) → p ≡ 1 → (r : GatesAt) → ((d : Design) (w : Parts file d) → HasGates r (entriesCost (H .bits) true (w .entries))) → (d : Design) → Parts file d → HasGates r (propertyCost d (propertyOf d p))
   property-gates p z r k d w = subst (HasGates r) (sym (property-cells file d w (H .bits) (h .shaped .bits .state d w) p z)) (k d w)
 
   -- a normal cell
@@ -119,7 +158,7 @@ module _ (file table : List ℕ) (H : Shape) (h : Ready file table H) where
     normal-fields = indexed.normal-fields file table H (tables h) p x
 
     module _ (n : ℕ) (q : n ≡ c-guard file p) where
-      pub guard-inside : p + 8 + n ≤ trailer file
+      pub guard-inside : p + 8 + n ≤ itemsEnd file
       guard-inside = let f = normal-fields .past in omega arith
 
       pub guard-none : n ≡ 0 → (r : GatesAt) → r .ands ≡ 0 → r .wides ≡ 0 → HasGates r (boolCost (x .cell .guard))
@@ -144,7 +183,7 @@ module _ (file table : List ℕ) (H : Shape) (h : Ready file table H) where
           → HasGates g (boolCost (x .cell .guard)) → s ≡ listGates (H .bits) (list file N n maxNest m) → t ≡ both e g 1 0 → r ≡ both t s 0 (H .bits) → HasGates r (moverCost (H .bits) (cell (x .cell)))
       unfolding moverCost enableCost effectCost
       normal-gates e g s t r f k q u v =
-          let is : NormalRead file (trailer file) (names file) (matricesOffset file) (eventIn (x .parts .rows)) p (x .cell) = x .stands .1 .entry .1 in
+          let is : NormalRead file (itemsEnd file) (names file) (matricesOffset file) (eventIn (x .parts .rows)) p (x .cell) = x .stands .1 .entry .1 in
           let ev = ap statusAndEventCost (is .event) in
           let i = f (x .tree) (x .parts) in
           let j = known-gates (λ (y : Stmts). statementsCost y (H .bits)) _ _ _ s (indexed.action-got file table H (tables h) p x m n a b) q in
@@ -250,11 +289,11 @@ module _ (file : List ℕ) (bits : ℕ) (t : Bool) where
             → g .ands + entriesCost bits t es .ands ≡ entriesCost bits t (w .entries) .ands → g .wides + entriesCost bits t es .wides ≡ entriesCost bits t (w .entries) .wides → First d w
         go [] b r c a v = absurd (omega arith)
         go (x ∷ xs) b r c a v =
-            let q = cell-reads file (trailer file) (names file) (matricesOffset file) (eventIn (w .rows)) b (g .next) x (r .0) (r .1) in
+            let q = cell-reads file (itemsEnd file) (names file) (matricesOffset file) (eventIn (w .rows)) b (g .next) x (r .0) (r .1) in
             record {
               entry = x;
               more = xs;
-              stands = (b, subst (CellRead file (trailer file) (names file) (matricesOffset file) (eventIn (w .rows)) b (g .next) x) (q .past) q);
+              stands = (b, subst (CellRead file (itemsEnd file) (names file) (matricesOffset file) (eventIn (w .rows)) b (g .next) x) (q .past) q);
               run = subst (λ (p : ℕ). Cells file (eventIn (w .rows)) (g .next) p xs (invariantOffset file)) (q .past) (r .2);
               count = omega arith;
               ands = a;

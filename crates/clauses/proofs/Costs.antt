@@ -8,15 +8,15 @@ use lib.Seq.{set-getD}
 use Rattle.design.specs.Tree.{IntExpr, BoolExpr, Stmt, Stmts, constant, variable, status, sum, difference, constantB, variableB, notB, andB, orB, equal, less, assign, assignB, ifElse, done, then, InvalidCell, Design, Mover, cell, raise, movers}
 use Rattle.design.specs.State.{Layout, layout, statusSlot, statusWidth, widths}
 use Rattle.design.specs.WellFormed.{StmtOk, StmtsOk, MoverOk, MoversOk, WellFormed}
-use Rattle.step.specs.Property.{Property, invariant, noInvalidCell}
+use Rattle.step.specs.Property.{Property, invariant, noInvalidCell, constraint}
 use Rattle.clauses.specs.Literal.{Literal, negate, trueLiteral, falseLiteral}
 use Rattle.clauses.specs.Words.{words}
 use Rattle.clauses.specs.Gate.{Gate, and, xor, mux, gatesClauses}
 use Rattle.clauses.specs.Circuit.{Built, Build, give, _>>=_, and!, xor!, mux!, or!, Bits, sum!, difference!, negateTop, less!, xors!, chain!, equal! }
 use Rattle.clauses.specs.Expression.{Slots, constantBits, integerAt, int!, bool! }
 use Rattle.clauses.specs.Action.{muxBits!, muxes!, statement!, statements!, statusAndEvent!, enable!, effect!, mover!, movers!, noInvalid! }
-use Rattle.clauses.specs.Formula.{total, property!, step!, S}
-use Rattle.clauses.specs.Cost.{Cost, cost, addCosts, gatesIn, clausesIn, wordsIn, intCost, boolCost, statementCost, statementsCost, statusAndEventCost, enableCost, effectCost, moverCost, moversCost, invalidCost, propertyCost, stepCost}
+use Rattle.clauses.specs.Formula.{total, property!, stepProperty!, step!, S}
+use Rattle.clauses.specs.Cost.{Cost, cost, addCosts, gatesIn, clausesIn, wordsIn, intCost, boolCost, statementCost, statementsCost, statusAndEventCost, enableCost, effectCost, moverCost, moversCost, invalidCost, propertyCost, stepPropertyCost}
 use Rattle.clauses.proofs.Arithmetic.{length-negate, length-negateTop}
 use Rattle.clauses.proofs.Expressions.{length-pad, length-constant}
 use Rattle.clauses.proofs.Actions.{map-set, head-eq, tail-eq}
@@ -299,9 +299,16 @@ pub property-costs : (d : Design) (p : Property) (s : Slots) (n : ℕ) → Costs
 unfolding property! propertyCost
 property-costs d (invariant e) s n = bool-costs (layout d) s e n
 property-costs d noInvalidCell s n = noInvalid-costs (layout d) s (d .invalid) trueLiteral n
+property-costs d (constraint e) s n = costs-give _ tt
 
-pub step-costs : (d : Design) → WellFormed d → (s : Slots) (n : ℕ) → map length s ≡ widths d → Costs n (step! d s n) (stepCost d) (λ rs. length rs ≡ length (movers d))
-unfolding step! stepCost S
+pub stepProperty-costs : (d : Design) (p : Property) (s next : Slots) (n : ℕ) → Costs n (stepProperty! d p s next n) (stepPropertyCost p) Any
+unfolding stepProperty! stepPropertyCost
+stepProperty-costs d (invariant e) s next n = costs-give _ tt
+stepProperty-costs d noInvalidCell s next n = costs-give _ tt
+stepProperty-costs d (constraint e) s next n = bool-costs (layout d) (s ++ next) e n
+
+pub step-costs : (d : Design) → WellFormed d → (s : Slots) (n : ℕ) → map length s ≡ widths d → Costs n (step! d s n) (moversCost (S d) (movers d)) (λ rs. length rs ≡ length (movers d))
+unfolding step! S
 step-costs d wf s n f = movers-costs (widths d) (layout d) s f (movers d) n (wf .movers)
 
 -- gates, clauses and words of gates, by their cost

@@ -135,7 +135,7 @@ module _ (file : List ℕ) (p k : ℕ) (values choices : List ℕ) where
     abbrev d : Design
     d = tree .tree
 
-    module _ (a : p ≤ lastProperty) (b : k ≤ maxBound) (bytes : (i : ℕ) → getD file i 0 < 256) (s : FrameSizes) (f : (e : Design) → check file ≡ Checked.accepted e → s ≡ frameSizes e (propertyOf e p)) where
+    module _ (a : p ≤ lastProperty file) (b : k ≤ maxBound) (bytes : (i : ℕ) → getD file i 0 < 256) (s : FrameSizes) (f : (e : Design) → check file ≡ Checked.accepted e → s ≡ frameSizes e (propertyOf e p)) where
       inner : choicesToWrite file p k values (length choices) ≡ need (leb (n d (propertyOf d p) k) (length values) && leb k (length choices)) 16 0 (chosenFrom d (propertyOf d p) values k 0)
       unfolding choicesToWrite rest tree
       inner = in-range file p k rest h a b

@@ -50,6 +50,7 @@ well-formed-A = record {
   statuses = omega arith;
   invalid = omega arith;
   invariant = omega arith;
+  constraint = omega arith;
   start = omega arith;
 }
 

@@ -217,14 +217,14 @@ module _ (file : List ℕ) (shape : Shape) where
     pub assign-here : (at < length file) × (getD file at 0 < shape .variables)
     assign-here = let k = assign-live file N (h .end) at _ _ reads-here in (omega (arith, k .0, h .inside), k .1)
 
-    pub assign-int-here : getD file (3 * getD file at 0) 0 ≡ 1 → IntHere file file shape (at + 1)
+    pub assign-int-here : getD file (3 * getD file at 0) 0 ≡ 1 → IntHere file file shape false (at + 1)
     assign-int-here k = record { end = h .end; levels = maxDepth; inside = h .inside; read = one-reads (assign-int file N (h .end) at _ _ reads-here k) }
 
-    pub assign-flag-here : (getD file (3 * getD file at 0) 0 ≡ 1 → ⊥) → BoolHere file file shape (at + 1)
+    pub assign-flag-here : (getD file (3 * getD file at 0) 0 ≡ 1 → ⊥) → BoolHere file file shape false (at + 1)
     assign-flag-here k = record { end = h .end; levels = maxDepth; inside = h .inside; read = one-reads (assign-flag file N (h .end) at _ _ reads-here k) }
 
   module _ {at : ℕ} (codes codes′ : List ℕ) {pen p1 : Cursor} {xs ys : List ℤ} {m : ℕ} where
-    pub assign-int-node : (x : List ℕ) → getD file (3 * getD file at 0) 0 ≡ 1 → Encodes file (intsAt file file shape) (int! (layoutOf shape) (SL codes)) (at + 1) pen xs ys (fromCodes x) p1 m
+    pub assign-int-node : (x : List ℕ) → getD file (3 * getD file at 0) 0 ≡ 1 → Encodes file (intsAt file file shape false) (int! (layoutOf shape) (SL codes)) (at + 1) pen xs ys (fromCodes x) p1 m
         → SL codes′ ≡ set (SL codes) (getD file at 0) (fromCodes x) → Encodes file (assignsAt file file shape) (SG codes) at pen xs ys (SL codes′) p1 m
     assign-int-node x k w e = record {
       encodes = λ end levels t n i h.
@@ -232,7 +232,7 @@ module _ (file : List ℕ) (shape : Shape) where
           (assign-tree (layoutOf shape) (SL codes) (getD file at 0)) (assign-int file N end at t n h k) (SL codes′) (λ a j q. w .encodes end maxDepth a j i q) e;
     }
 
-    pub assign-flag-node : (x : ℕ) → (getD file (3 * getD file at 0) 0 ≡ 1 → ⊥) → Encodes file (boolsAt file file shape) (bool! (layoutOf shape) (SL codes)) (at + 1) pen xs ys (fromCode x) p1 m
+    pub assign-flag-node : (x : ℕ) → (getD file (3 * getD file at 0) 0 ≡ 1 → ⊥) → Encodes file (boolsAt file file shape false) (bool! (layoutOf shape) (SL codes)) (at + 1) pen xs ys (fromCode x) p1 m
         → SL codes′ ≡ set (SL codes) (getD file at 0) (fromCode x ∷ []) → Encodes file (assignsAt file file shape) (SG codes) at pen xs ys (SL codes′) p1 m
     assign-flag-node x k w e = record {
       encodes = λ end levels t n i h.
@@ -258,10 +258,10 @@ module _ (file : List ℕ) (shape : Shape) where
       parts : IfRead (boolExpr file N (h .end) maxDepth) (list file N (h .end) (h .levels - 1)) (at + 1) (h .read .tree) (h .read .past)
       parts = stmt-if file N (h .end) (h .levels) at _ _ stmt-reads z .1
 
-      pub if-test-here : BoolHere file file shape (at + 1)
+      pub if-test-here : BoolHere file file shape false (at + 1)
       if-test-here = record { end = h .end; levels = maxDepth; inside = h .inside; read = record { tree = parts .test; past = parts .first; reads = parts .reads } }
 
-      module _ (codes : List ℕ) {pen p1 : Cursor} {xs ys : List ℤ} {out : Literal} {m : ℕ} (w : Encodes file (boolsAt file file shape) (bool! (layoutOf shape) (SL codes)) (at + 1) pen xs ys out p1 m) where
+      module _ (codes : List ℕ) {pen p1 : Cursor} {xs ys : List ℤ} {out : Literal} {m : ℕ} (w : Encodes file (boolsAt file file shape false) (bool! (layoutOf shape) (SL codes)) (at + 1) pen xs ys out p1 m) where
         first-at : m ≡ parts .first
         first-at = w .encodes (h .end) maxDepth _ _ (h .inside) (parts .reads) .1
 
@@ -282,7 +282,7 @@ module _ (file : List ℕ) (shape : Shape) where
           if-second-on = omega (arith, if-first-on, second-at, first-at, ahead-list file N (h .end) (h .levels - 1) (parts .first) (parts .yes) (parts .second) (parts .then))
 
   pub if-node : {at : ℕ} (codes : List ℕ) (y z r : List ℕ) {x : Literal} {pen p1 p2 p3 p4 : Cursor} {x0 x1 x2 x3 x4 : List ℤ} {m1 m2 m3 : ℕ} → (getD file at 0 ≡ 0x20 → ⊥)
-      → Encodes file (boolsAt file file shape) (bool! (layoutOf shape) (SL codes)) (at + 1) pen x0 x1 x p1 m1 → Encodes file (listsAt file file shape) (LG codes) m1 p1 x1 x2 (SL y) p2 m2
+      → Encodes file (boolsAt file file shape false) (bool! (layoutOf shape) (SL codes)) (at + 1) pen x0 x1 x p1 m1 → Encodes file (listsAt file file shape) (LG codes) m1 p1 x1 x2 (SL y) p2 m2
       → Encodes file (listsAt file file shape) (LG codes) m2 p2 x2 x3 (SL z) p3 m3 → Writes p3 (muxes! x (SL y) (SL z)) x3 x4 (SL r) p4 → Encodes file (stmtsAt file file shape) (SG codes) at pen x0 x4 (SL r) p4 m3
   if-node codes y z r ne w1 w2 w3 u = record {
     encodes = λ end levels t n i h.

@@ -1,6 +1,6 @@
 -- What stands at the cells of an accepted file, and the gates of cells and externals. Assumes nothing.
 use mathlib.Core.Path.{_≡_, refl, sym, ap, ap₂, _∙_}
-use mathlib.Core.Bool.{true}
+use mathlib.Core.Bool.{Bool, true, false}
 use mathlib.Core.List.{List, [], _∷_}
 use Prim.Native.Nat.{ℕ, zero, suc, _+_, _*_, _/_, _%_, _<_, _≤_}
 use native.Mathlib.Omega.{arith}
@@ -8,16 +8,17 @@ use lib.ListN.{getD, length, set, take}
 use lib.Seq.{length-take-le}
 use lib.IntN.{ℤ}
 use Rattle.design.specs.Tree.{BoolExpr, constantB, Cell, Design, cell, raise, truth}
-use Rattle.design.specs.Limits.{maxBytes, maxVariables, maxMatrices, maxDepth, maxNest, maxBits, eventPlaces}
+use Rattle.design.specs.Limits.{maxBytes, maxVariables, maxMatrices, maxDepth, maxNest, maxBits, pairBits, eventPlaces}
 use Rattle.design.specs.State.{Layout, statusSlot, statusWidth}
 use Rattle.design.specs.Reading.{got}
 use Rattle.design.specs.Expression.{boolExpr}
 use Rattle.design.specs.DesignFile.{c-matrix, c-status, c-event, c-guard, c-middle, c-past, events}
-use Rattle.design.specs.Check.{namesOf, names, trailer, matricesOffset, eventIn}
+use Rattle.design.specs.Check.{namesOf, names, itemsEnd, matricesOffset, eventIn}
 use Rattle.design.specs.declared.shape.Shape.{Shape}
 use Rattle.design.specs.Sections.{Parts, NormalRead, CellFields}
 use Rattle.design.proofs.Places.{Read as Tree, read}
 use Rattle.design.proofs.Indexed as indexed
+use Rattle.design.proofs.Widths.{total-append}
 use Rattle.design.specs.Sections.{NormalCell}
 use Rattle.clauses.specs.Literal.{Literal, positive, negate, trueLiteral, literalOf}
 use Rattle.clauses.specs.Circuit.{Built, give, _>>=_, and!, mux!, equal!, Bits}
@@ -25,7 +26,7 @@ use Rattle.clauses.specs.Expression.{Slots, constantBits, integerAt, boo
 use Rattle.clauses.specs.Action.{muxBits!, muxes!, statements!, statusAndEvent!, enable!, effect!, mover! }
 use Rattle.clauses.specs.Formula.{total, variablesFrom}
 use Rattle.clauses.specs.Writing.{fromCode, fromCodes, Emits}
-use Rattle.clauses.specs.FlatState.{widthsFrom, widthsIn, layoutOf, cut, slotsOf, over, Slotted}
+use Rattle.clauses.specs.FlatState.{widthsFrom, widthsIn, layoutOf, cut, slotsOf, readWidths, over, Slotted}
 use Rattle.clauses.specs.Encoders.{Writes, Here, listsAt, BoolHere, BoolEncoded, ListEncoded}
 use Rattle.clauses.specs.Ready.{ShapedFile, Ready, resultFrom}
 use Rattle.clauses.specs.declared.gate.Cursor.{Cursor}
@@ -41,15 +42,15 @@ module _ {file : List ℕ} {shape : Shape} (h : ShapedFile file shape) where
   pub few-bits : total (widthsIn file shape) ≤ maxBits
   few-bits = omega (arith, h .bits .few, h .bits .total)
 
-  pub slotted : (codes : List ℕ) → length codes ≡ maxBits → Slotted file shape codes
-  slotted codes e = record {
-    kinds = kinds h;
-    variables = sizes h .3;
-    matrices = sizes h .2;
-    sum = h .bits .total;
-    few = h .bits .few;
-    bits = omega (arith, few-bits);
-  }
+  slotted-in : (later : Bool) (codes : List ℕ) → total (readWidths later file shape) ≤ length codes → Slotted later file shape codes
+  slotted-in later codes e = record { kinds = kinds h; variables = sizes h .3; matrices = sizes h .2; sum = h .bits .total; few = h .bits .few; bits = e }
+
+  pub slotted : (codes : List ℕ) → length codes ≡ maxBits → Slotted false file shape codes
+  slotted codes e = slotted-in false codes (omega (arith, few-bits))
+
+  -- the literals of two states
+  pub slotted-two : (codes : List ℕ) → length codes ≡ pairBits → Slotted true file shape codes
+  slotted-two codes e = slotted-in true codes (omega (arith, few-bits, total-append (widthsIn file shape) (widthsIn file shape)))
 
 module _ {file table : List ℕ} {shape : Shape} (h : Ready file table shape) where
   long : length file ≤ maxBytes
@@ -69,13 +70,13 @@ module _ {file table : List ℕ} {shape : Shape} (h : Ready file table shape) wh
     pub event-slot : 16 * m + e < eventPlaces
     event-slot = indexed.event-slot file table shape (tables h) m e (named .0) (named .1)
 
-    pub event-inside : place + 1 + getD file place 0 ≤ trailer file
+    pub event-inside : place + 1 + getD file place 0 ≤ itemsEnd file
     event-inside = indexed.event-inside file table shape (tables h) m e (named .0) (named .1)
 
     event-got : (d : Design) (w : Parts file d) (at : ℕ) → at ≡ place → boolExpr file (namesOf file shape) (place + 1 + getD file place 0) maxDepth (at + 1) ≡ got (eventIn (w .rows) m e) (place + 1 + getD file place 0)
     event-got d w at q = indexed.event-got file table shape (tables h) m e (named .0) (named .1) d w _ (at + 1) refl (ap (λ (k : ℕ). k + 1) q)
 
-    pub event-here : (at : ℕ) → at ≡ place → BoolHere file file shape (at + 1)
+    pub event-here : (at : ℕ) → at ≡ place → BoolHere file file shape false (at + 1)
     event-here at q = record {
       end = place + 1 + getD file place 0;
       levels = maxDepth;
@@ -84,7 +85,7 @@ module _ {file table : List ℕ} {shape : Shape} (h : Ready file table shape) wh
     }
 
     -- its gates
-    pub event-writes : (at : ℕ) → at ≡ place → (codes : List ℕ) {pen : Cursor} {xs ys : List ℤ} (r : BoolOut) → BoolEncoded file file shape codes (at + 1) pen xs ys r
+    pub event-writes : (at : ℕ) → at ≡ place → (codes : List ℕ) {pen : Cursor} {xs ys : List ℤ} (r : BoolOut) → BoolEncoded file file shape false codes (at + 1) pen xs ys r
         → (d : Design) (w : Parts file d) → Writes pen (bool! (layoutOf shape) (slotsOf file shape codes) (eventIn (w .rows) (c-matrix file p) (c-event file p))) xs ys (fromCode (r .lit)) (r .pen)
     event-writes at q codes {pen = pen} r k d w =
         emits-same _ _ (ap₂ (λ (x y : ℕ). bool! (layoutOf shape) (slotsOf file shape codes) (eventIn (w .rows) x y) (pen .var)) a b)
@@ -95,17 +96,17 @@ module _ {file table : List ℕ} {shape : Shape} (h : Ready file table shape) wh
     pub normal-fields : CellFields file p
     normal-fields = indexed.normal-fields file table shape (tables h) p x
 
-    pub is : NormalRead file (trailer file) (names file) (matricesOffset file) (eventIn (x .parts .rows)) p (x .cell)
+    pub is : NormalRead file (itemsEnd file) (names file) (matricesOffset file) (eventIn (x .parts .rows)) p (x .cell)
     is = indexed.cell-is file table shape (tables h) p x
 
     pub guard-none : c-guard file p ≡ 0 → x .cell .guard ≡ constantB true
     guard-none = indexed.guard-none file table shape (tables h) p x
 
     -- a guard that is there, and the action
-    pub guard-here : (n : ℕ) → n ≡ c-guard file p → (n ≡ 0 → ⊥) → BoolHere file file shape (p + 8)
+    pub guard-here : (n : ℕ) → n ≡ c-guard file p → (n ≡ 0 → ⊥) → BoolHere file file shape false (p + 8)
     guard-here n e z = record { end = p + 8 + n; levels = maxDepth; inside = omega (arith, normal-fields .past, long); read = record { tree = x .cell .guard; past = c-middle file p; reads = indexed.guard-got file table shape (tables h) p x n e z } }
 
-    pub guard-writes : (n : ℕ) → n ≡ c-guard file p → (n ≡ 0 → ⊥) → (codes : List ℕ) {pen : Cursor} {xs ys : List ℤ} (r : BoolOut) → BoolEncoded file file shape codes (p + 8) pen xs ys r
+    pub guard-writes : (n : ℕ) → n ≡ c-guard file p → (n ≡ 0 → ⊥) → (codes : List ℕ) {pen : Cursor} {xs ys : List ℤ} (r : BoolOut) → BoolEncoded file file shape false codes (p + 8) pen xs ys r
         → Writes pen (bool! (layoutOf shape) (slotsOf file shape codes) (x .cell .guard)) xs ys (fromCode (r .lit)) (r .pen)
     guard-writes n e z codes r k = k .encodes (p + 8 + n) maxDepth _ _ (omega (arith, normal-fields .past, long)) (indexed.guard-got file table shape (tables h) p x n e z) .0
 

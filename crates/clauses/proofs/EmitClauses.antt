@@ -5,10 +5,12 @@ use mathlib.Core.Bool.{cond}
 use mathlib.Core.List.{List, [], _∷_, _++_, append-assoc}
 use native.Mathlib.Omega.{arith}
 use native.Mathlib.Numerals.{add-one}
-use lib.ListN.{length, take, set, length-set}
-use lib.Seq.{take-suc-set}
+use native.Mathlib.Nat.{zero-add, eq-or-lt-of-le}
+use mathlib.Core.Logic.{⊎-elim}
+use lib.ListN.{length, getD, take, drop, set, length-set}
+use lib.Seq.{take-suc-set, take-add, getD-set-same, getD-set-other}
 use lib.IntN.{ℤ, pos}
-use Rattle.design.specs.Limits.{maxBits}
+use Rattle.design.specs.Limits.{maxBits, pairBits}
 use Rattle.design.specs.Tree.{truth}
 use Rattle.clauses.specs.Literal.{Literal, positive, negate, Clause}
 use Rattle.clauses.specs.Words.{wordOf, clauseWords, words}
@@ -16,7 +18,7 @@ use Rattle.clauses.specs.Circuit.{Bits}
 use Rattle.clauses.specs.Formula.{variablesFrom, unitsOf, against, pairs, ties}
 use Rattle.clauses.specs.Writing.{fromCode, fromCodes, variableLimit, Puts}
 use Rattle.clauses.proofs.EmitWords.{puts-then, puts-same, puts-none, append-nil, words-append}
-use Rattle.clauses.proofs.EmitLists.{codes-append, codes-take}
+use Rattle.clauses.proofs.EmitLists.{codes-append, codes-take, codes-drop, drop-one, drop-none, take-none}
 
 -- where what is left is put from here, the whole is put from the start
 pub record PutsLeft (whole xs₀ : List ℤ) (cur₀ : ℕ) (rest xs : List ℤ) (cur : ℕ) : Type 0 where
@@ -86,6 +88,57 @@ pub listing-end : {v n : ℕ} (out : List ℕ) {x i : ℕ} → n ≤ i → Listi
 listing-end {v} {n} out {x} {i} l k h =
     let q : i ≡ n = omega (arith, k .along .within) in
     sym (codes-take n out) ∙ ap (λ (j : ℕ). fromCodes (take j out)) (sym q) ∙ sym (append-nil (fromCodes (take i out))) ∙ ap (λ (t : Bits). fromCodes (take i out) ++ t) (sym (no-more x (n - i) (omega arith))) ∙ k .same h
+
+-- the literals of two runs of variables, one behind the other
+pub record TwoRuns (v w n : ℕ) (out : List ℕ) (x y i : ℕ) : Type 0 where
+  pub first : Along v n x i
+  pub second : Along w n y i
+  pub size : length out ≡ pairBits
+  pub low : v + n ≤ variableLimit → (k : ℕ) → k < i → fromCode (getD out k 0) ≡ positive (v + k)
+  pub high : w + n ≤ variableLimit → (k : ℕ) → k < i → fromCode (getD out (n + k) 0) ≡ positive (w + k)
+
+pub two-runs : (v w n : ℕ) (out : List ℕ) → length out ≡ pairBits → TwoRuns v w n out v w 0
+two-runs v w n out e = record { first = along-start v n; second = along-start w n; size = e; low = λ h k l. absurd (omega arith); high = λ h k l. absurd (omega arith) }
+
+-- one of the elements that were there, or the new one
+set-more : (out : List ℕ) (o v i c : ℕ) → o + i < length out → ((k : ℕ) → k < i → fromCode (getD out (o + k) 0) ≡ positive (v + k)) → fromCode c ≡ positive (v + i)
+    → (k : ℕ) → k < i + 1 → fromCode (getD (set out (o + i) c) (o + k) 0) ≡ positive (v + k)
+set-more out o v i c room f e k l =
+    ⊎-elim
+    (λ (q : k ≡ i). ap (λ (j : ℕ). fromCode (getD (set out (o + i) c) (o + j) 0)) q ∙ ap fromCode (getD-set-same out (o + i) c 0 room) ∙ e ∙ ap (λ (j : ℕ). positive (v + j)) (sym q))
+    (λ (q : k < i). ap fromCode (getD-set-other out (o + i) (o + k) c 0 (λ z. omega arith)) ∙ f k q)
+    (eq-or-lt-of-le (let z : k ≤ i = omega arith in z))
+
+pub two-runs-on : {v w n : ℕ} (out : List ℕ) {x y i : ℕ} (a b x′ y′ : ℕ) → n ≤ maxBits → i < n → TwoRuns v w n out x y i → (x < variableLimit → fromCode a ≡ positive x) → (y < variableLimit → fromCode b ≡ positive y)
+    → (x < variableLimit → x′ ≡ x + 1) → (y < variableLimit → y′ ≡ y + 1) → TwoRuns v w n (set (set out i a) (n + i) b) x′ y′ (i + 1)
+two-runs-on {v} {w} {n} out {x} {y} {i} a b x′ y′ few l k ea eb ex ey =
+    let z = set out i a in
+    let long : length z ≡ pairBits = length-set out i a ∙ k .size in
+    record {
+      first = along-on x′ l (k .first) ex;
+      second = along-on y′ l (k .second) ey;
+      size = length-set z (n + i) b ∙ long;
+      low = λ h j m.
+          let one = set-more out 0 v i a (omega (arith, k .size)) (λ j r. ap (λ (t : ℕ). fromCode (getD out t 0)) (zero-add j) ∙ k .low h j r) (ea (along-less l h (k .first)) ∙ ap positive (k .first .here h)) j m in
+          ap fromCode (getD-set-other z (n + i) j b 0 (λ e. omega arith)) ∙ ap₂ (λ (s t : ℕ). fromCode (getD (set out s a) t 0)) (sym (zero-add i)) (sym (zero-add j)) ∙ one;
+      high = λ h j m. set-more z n w i b (omega arith) (λ j r. ap fromCode (getD-set-other out i (n + j) a 0 (λ e. omega arith)) ∙ k .high h j r) (eb (along-less l h (k .second)) ∙ ap positive (k .second .here h)) j m;
+    }
+
+-- so many literals from a position on
+literals-are : (out : List ℕ) (o v n : ℕ) → o + n ≤ length out → ((k : ℕ) → k < n → fromCode (getD out (o + k) 0) ≡ positive (v + k)) → take n (drop o (fromCodes out)) ≡ variablesFrom v n
+literals-are out o v zero room f = take-none (drop o (fromCodes out))
+literals-are out o v (suc n) room f =
+    let rest = literals-are out (o + 1) (suc v) n (omega arith) (λ k l. ap (λ (j : ℕ). fromCode (getD out j 0)) (let q : o + 1 + k ≡ o + suc k = omega arith in q) ∙ f (suc k) (omega arith) ∙ ap positive (let q : v + suc k ≡ suc v + k = omega arith in q)) in
+    ap (take (suc n)) (sym (codes-drop o out) ∙ ap fromCodes (drop-one out o (omega arith)))
+    ∙ ap₂ (λ (a : Literal) (t : Bits). a ∷ t) (ap (λ (j : ℕ). fromCode (getD out j 0)) (let q : o ≡ o + 0 = omega arith in q) ∙ f 0 (omega arith) ∙ ap positive (let q : v + 0 ≡ v = omega arith in q))
+    (ap (take n) (codes-drop (o + 1) out) ∙ rest)
+
+pub two-runs-end : {v w n : ℕ} (out : List ℕ) {x y i : ℕ} → n ≤ maxBits → n ≤ i → TwoRuns v w n out x y i → v + n ≤ variableLimit → w + n ≤ variableLimit → take (n + n) (fromCodes out) ≡ variablesFrom v n ++ variablesFrom w n
+two-runs-end {v} {w} {n} out few l k h g =
+    take-add n n (fromCodes out)
+    ∙ ap₂ _++_
+    (ap (take n) (sym (drop-none (fromCodes out))) ∙ literals-are out 0 v n (omega (arith, k .size)) (λ j r. ap (λ (t : ℕ). fromCode (getD out t 0)) (zero-add j) ∙ k .low h j (omega arith)))
+    (literals-are out n w n (omega (arith, k .size)) (λ j r. k .high g j (omega arith)))
 
 -- A loop that puts the words W of what is left of n variables. `step` says what one variable puts.
 pub record Putting (W : Bits → List ℤ) (v n : ℕ) (xs₀ : List ℤ) (cur₀ : ℕ) (xs : List ℤ) (cur x i : ℕ) : Type 0 where

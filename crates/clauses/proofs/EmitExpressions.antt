@@ -2,30 +2,33 @@
 use Prim.Native.Nat.{ℕ, _+_, _-_, _*_, _<_, _≤_}
 use mathlib.Core.Path.{_≡_, refl, sym, ap, subst, _∙_}
 use native.Mathlib.Omega.{arith}
-use mathlib.Core.Bool.{Bool, true, false, cond}
+use mathlib.Core.Bool.{Bool, true, false, cond, not, _||_}
+use mathlib.Core.Logic.{_⊎_, ⊎-elim}
 use mathlib.Core.List.{List, []}
 use lib.ListN.{length, getD}
-use lib.Dec.{eqb}
+use lib.Dec.{eqb, ltb}
 use borrow.Author.Tests.{eq-eqb, ne-eqb}
 use lib.IntN.{ℤ}
 use Rattle.design.specs.Tree.{IntExpr, BoolExpr, constant, variable, status, sum, difference, constantB, variableB, notB, andB, orB, equal, less, truth}
 use Rattle.design.specs.Reading.{got, Reader}
-use Rattle.design.specs.Expression.{Names, intExpr, boolExpr}
+use Rattle.design.specs.Expression.{Names, withLater, numbered, intExpr, boolExpr}
 use Rattle.design.specs.Check.{namesOf}
 use Rattle.design.specs.declared.shape.Shape.{Shape}
-use Rattle.design.specs.Answers.{found}
-use Rattle.design.proofs.Forward.{bool-on}
-use Rattle.design.specs.State.{Layout, statusSlot}
+use Rattle.step.specs.Accepted.{isRead, past}
+use Rattle.step.proofs.Values.{integerByte, statusByte, booleanByte, arithmeticOf, logicOf, compareOf, int-forward, bool-forward}
+use Rattle.design.specs.State.{Layout, numberIn, statusSlot}
 use Rattle.clauses.specs.Literal.{Literal, negate, falseLiteral, literalOf}
 use Rattle.clauses.specs.Circuit.{Build, give, _>>=_, and!, or!, Bits, Summed, sum!, difference!, equal!, less! }
 use Rattle.clauses.specs.Expression.{Slots, constantBits, integerAt, booleanAt, int!, bool! }
-use Rattle.clauses.specs.Writing.{Emits}
+use Rattle.clauses.specs.Writing.{fromCodes, Emits}
 use Rattle.clauses.specs.Piece.{arithmetic!, logic!, compare! }
-use Rattle.clauses.specs.FlatState.{slotsOf, layoutOf, Reads}
+use Rattle.clauses.specs.FlatState.{readSlots, layoutOf, Slotted, Reads}
 use Rattle.clauses.specs.Encoders.{Writes, Here, Encodes, intsAt, boolsAt, IntHere, BoolHere}
 use Rattle.clauses.specs.declared.gate.Cursor.{Cursor}
+use Rattle.clauses.specs.declared.expression.IntOut.{IntOut}
 use Rattle.clauses.proofs.EmitBuilds.{emits-same, emits-result, emits-give, emits-bind, emits-map}
-use Rattle.clauses.proofs.EmitReads.{OneRead, TwoRead, arithmeticOf, logicOf, compareOf, int-live, bool-live, int-ahead, read-constant, read-variable, read-status, is-status, read-arithmetic, read-truth, read-flag, is-flag, read-not, read-logic, read-compare}
+use Rattle.clauses.proofs.EmitSlots.{slotted-for}
+use Rattle.clauses.proofs.EmitReads.{OneRead, TwoRead, Named, above, int-inside, bool-inside, read-constant, read-variable, read-status, names-slot, is-next-status, read-arithmetic, read-truth, read-flag, is-flag, read-not, read-logic, read-compare}
 
 -- by the operator byte
 plus-is : (op : ℕ) (x y : Bits) → op ≡ 0x04 → arithmetic! op x y ≡ (sum! x y falseLiteral >>= (λ (r : Summed). give (r .bits)))
@@ -98,7 +101,7 @@ module _ (l : Layout) (s : Slots) where
   unfolding int! arithmetic!
   arithmetic-tree op a b = go (eqb op 0x04)
     where
-      go : (t : Bool) → int! l s (cond t (sum a b) (difference a b)) ≡ (int! l s a >>= (λ (x : Bits). int! l s b >>= (λ (y : Bits). cond t (sum! x y falseLiteral) (difference! x y) >>= (λ (r : Summed). give (r .bits)))))
+      go : (t : Bool) → int! l s (cond t sum difference a b) ≡ (int! l s a >>= (λ (x : Bits). int! l s b >>= (λ (y : Bits). cond t (sum! x y falseLiteral) (difference! x y) >>= (λ (r : Summed). give (r .bits)))))
       go true = refl
       go false = refl
 
@@ -106,7 +109,7 @@ module _ (l : Layout) (s : Slots) where
   unfolding bool! logic!
   logic-tree op a b = go (eqb op 0x13)
     where
-      go : (t : Bool) → bool! l s (cond t (andB a b) (orB a b)) ≡ (bool! l s a >>= (λ (x : Literal). bool! l s b >>= (λ (y : Literal). cond t (and! x y) (or! x y))))
+      go : (t : Bool) → bool! l s (cond t andB orB a b) ≡ (bool! l s a >>= (λ (x : Literal). bool! l s b >>= (λ (y : Literal). cond t (and! x y) (or! x y))))
       go true = refl
       go false = refl
 
@@ -114,7 +117,7 @@ module _ (l : Layout) (s : Slots) where
   unfolding bool! compare!
   compare-tree op a b = go (eqb op 0x15)
     where
-      go : (t : Bool) → bool! l s (cond t (equal a b) (less a b)) ≡ (int! l s a >>= (λ (x : Bits). int! l s b >>= (λ (y : Bits). cond t (equal! x y) (less! x y))))
+      go : (t : Bool) → bool! l s (cond t equal less a b) ≡ (int! l s a >>= (λ (x : Bits). int! l s b >>= (λ (y : Bits). cond t (equal! x y) (less! x y))))
       go true = refl
       go false = refl
 
@@ -187,102 +190,146 @@ only-node inner outer f one build build′ g law a r w q = record {
   encodes = λ end levels t n i h. one-emits (inner end (levels - 1)) f build build′ g law (one end levels t n h) r (λ e m k. w .encodes end (levels - 1) e m i k) q;
 }
 
--- What stands where an expression is read, by its first byte.
-module _ (text file : List ℕ) (shape : Shape) (at : ℕ) where
+-- what is handed out by its parts
+pub int-outs : {A : Type 0} {text : List ℕ} {reader : ℕ → ℕ → Reader A} {build : A → Build Bits} {at : ℕ} {pen : Cursor} {xs ys : List ℤ} (r : IntOut) {lits : List ℕ} {after : Cursor} {next : ℕ}
+    → (r .lits ≡ lits) × (r .pen ≡ after) × (r .next ≡ next) → Encodes text reader build at pen xs ys (fromCodes lits) after next → Encodes text reader build at pen xs ys (fromCodes (r .lits)) (r .pen) (r .next)
+int-outs {text = text} {reader = reader} {build = build} {at = at} {pen = pen} {xs = xs} {ys = ys} r {lits} {after} {next} (a, b, c) w =
+    subst (λ (l : List ℕ). Encodes text reader build at pen xs ys (fromCodes l) (r .pen) (r .next)) (sym a)
+    (subst (λ (p : Cursor). Encodes text reader build at pen xs ys (fromCodes lits) p (r .next)) (sym b)
+    (subst (λ (n : ℕ). Encodes text reader build at pen xs ys (fromCodes lits) after n) (sym c) w))
+
+-- the number of a slot that the text names
+numbered-is : (text file : List ℕ) (shape : Shape) (later : Bool) (end : ℕ) (next : Bool) (i : ℕ) → numbered text (withLater later (namesOf file shape)) end next i ≡ numberIn (layoutOf shape) next i
+numbered-is text file shape later end true i = refl
+numbered-is text file shape later end false i = refl
+
+-- What stands where an expression is read, by its first byte. `later` says whether it may read the next state too.
+module _ (text file : List ℕ) (shape : Shape) (later : Bool) (at : ℕ) where
   abbrev N : Names
-  N = namesOf file shape
+  N = withLater later (namesOf file shape)
 
   abbrev op : ℕ
   op = getD text at 0
 
-  pub arithmetic-pair : 4 ≤ op → (end levels : ℕ) (e : IntExpr) (n : ℕ) → intExpr text N end levels at ≡ got e n → TwoRead (intExpr text N end (levels - 1)) (arithmeticOf op) (at + 1) e n
-  arithmetic-pair l end levels e n h = read-arithmetic text N end levels at e n h (λ q. omega arith) (λ q. omega arith) (λ q. omega arith)
+  abbrev ix : ℕ
+  ix = getD text (at + 1) 0
+
+  pub arithmetic-pair : 4 ≤ op → op ≤ 5 → (end levels : ℕ) (e : IntExpr) (n : ℕ) → intExpr text N end levels at ≡ got e n → TwoRead (intExpr text N end (levels - 1)) (arithmeticOf op) (at + 1) e n
+  arithmetic-pair l u end levels e n h = read-arithmetic text N end levels at e n h l (omega arith)
 
   pub logic-pair : 0x12 ≤ op → (op ≡ 0x12 → ⊥) → op < 0x15 → (end levels : ℕ) (e : BoolExpr) (n : ℕ) → boolExpr text N end levels at ≡ got e n → TwoRead (boolExpr text N end (levels - 1)) (logicOf op) (at + 1) e n
-  logic-pair l z u end levels e n h = read-logic text N end levels at e n h (λ q. omega arith) (λ q. omega arith) z u
+  logic-pair l z u end levels e n h = read-logic text N end levels at e n h (above op 0x12 z l) u
 
-  pub compare-pair : 0x15 ≤ op → (end levels : ℕ) (e : BoolExpr) (n : ℕ) → boolExpr text N end levels at ≡ got e n → TwoRead (intExpr text N end (levels - 1)) (compareOf op) (at + 1) e n
-  compare-pair l end levels e n h = read-compare text N end levels at e n h l
+  pub compare-pair : 0x15 ≤ op → op ≤ 0x16 → (end levels : ℕ) (e : BoolExpr) (n : ℕ) → boolExpr text N end levels at ≡ got e n → TwoRead (intExpr text N end (levels - 1)) (compareOf op) (at + 1) e n
+  compare-pair l u end levels e n h = read-compare text N end levels at e n h l (omega arith)
 
   pub not-one : op ≡ 0x12 → (end levels : ℕ) (e : BoolExpr) (n : ℕ) → boolExpr text N end levels at ≡ got e n → OneRead (boolExpr text N end (levels - 1)) notB (at + 1) e n
   not-one q end levels e n h = read-not text N end levels at e n h q
 
-  module _ (h : IntHere text file shape at) where
+  module _ (h : IntHere text file shape later at) where
     pub int-byte : at < length text
-    int-byte = omega (arith, int-live text N (h .end) (h .levels) at _ _ (h .read .reads), h .inside)
+    int-byte = omega (arith, int-inside text N (h .end) (h .levels) at _ _ (h .read .reads), h .inside)
 
     pub constant-here : op ≡ 1 → at + 3 ≤ length text
     constant-here q = omega (arith, read-constant text N (h .end) (h .levels) at _ _ (h .read .reads) q .0, h .inside)
 
-    pub variable-here : op ≡ 2 → (at + 2 ≤ length text) × (getD text (at + 1) 0 < shape .variables) × (getD file (3 * getD text (at + 1) 0) 0 ≡ 1)
-    variable-here q = let k = read-variable text N (h .end) (h .levels) at _ _ (h .read .reads) q in (omega (arith, k .0, h .inside), k .1, k .2)
+    module _ (s : (op < 4) ⊎ (5 < op)) (z : op ≡ 1 → ⊥) where
+      pub slot-here : at + 2 ≤ length text
+      slot-here =
+          let (next, k) = names-slot text N (h .end) (h .levels) at _ _ (h .read .reads) s z in
+          ⊎-elim
+          (λ q. omega (arith, read-variable text N (h .end) (h .levels) at _ _ (h .read .reads) next q .0 .inside, h .inside))
+          (λ q. omega (arith, read-status text N (h .end) (h .levels) at _ _ (h .read .reads) next q .0 .inside, h .inside))
+          k
 
-    pub status-is : op < 4 → (op ≡ 1 → ⊥) → (op ≡ 2 → ⊥) → op ≡ 3
-    status-is l h1 h2 = is-status text N (h .end) (h .levels) at _ _ (h .read .reads) l h1 h2
+      pub status-is : (op ≡ 2 → ⊥) → (op ≡ 3 → ⊥) → (op ≡ 6 → ⊥) → op ≡ 7
+      status-is = is-next-status text N (h .end) (h .levels) at _ _ (h .read .reads) s z
 
-    pub status-here : op ≡ 3 → (at + 2 ≤ length text) × (getD text (at + 1) 0 < shape .matrices)
-    status-here q = let k = read-status text N (h .end) (h .levels) at _ _ (h .read .reads) q in (omega (arith, k .0, h .inside), k .1)
+    -- what the loaders ask for
+    module _ (next : Bool) {codes : List ℕ} (slots : Slotted later file shape codes) (v : ℕ) (e : v ≡ ix) where
+      pub variable-here : op ≡ integerByte next → Slotted next file shape codes × (v < shape .variables) × (getD file (3 * v) 0 ≡ 1)
+      variable-here q =
+          let (k, kind, t) = read-variable text N (h .end) (h .levels) at _ _ (h .read .reads) next q in
+          (slotted-for file shape next later (k .allowed) slots, omega (arith, k .there), subst (λ (i : ℕ). getD file (3 * i) 0 ≡ 1) (sym e) kind)
 
-  module _ (h : BoolHere text file shape at) where
+      pub status-here : op ≡ statusByte next → Slotted next file shape codes × (v < shape .matrices)
+      status-here q =
+          let (k, t) = read-status text N (h .end) (h .levels) at _ _ (h .read .reads) next q in
+          (slotted-for file shape next later (k .allowed) slots, omega (arith, k .there))
+
+  module _ (h : BoolHere text file shape later at) where
     pub bool-byte : at < length text
-    bool-byte = omega (arith, bool-live text N (h .end) (h .levels) at _ _ (h .read .reads), h .inside)
+    bool-byte = omega (arith, bool-inside text N (h .end) (h .levels) at _ _ (h .read .reads), h .inside)
 
     pub truth-here : op ≡ 0x10 → at + 2 ≤ length text
     truth-here q = omega (arith, read-truth text N (h .end) (h .levels) at _ _ (h .read .reads) q .0, h .inside)
 
-    pub flag-is : op < 0x12 → (op ≡ 0x10 → ⊥) → op ≡ 0x11
-    flag-is l z = is-flag text N (h .end) (h .levels) at _ _ (h .read .reads) l z
+    module _ (s : (op < 0x12) ⊎ (0x16 < op)) (z : op ≡ 0x10 → ⊥) where
+      pub flag-is : op ≡ booleanByte (ltb 0x16 op)
+      flag-is = is-flag text N (h .end) (h .levels) at _ _ (h .read .reads) s z
 
-    pub flag-here : op ≡ 0x11 → (at + 2 ≤ length text) × (getD text (at + 1) 0 < shape .variables) × (getD file (3 * getD text (at + 1) 0) 0 ≡ 1 → ⊥)
-    flag-here q = let k = read-flag text N (h .end) (h .levels) at _ _ (h .read .reads) q in (omega (arith, k .0, h .inside), k .1, k .2)
+      flag-read : (t : BoolExpr) × Named text N (h .end) (ltb 0x16 op) (shape .variables) at (h .read .past) × (getD file (3 * ix) 0 ≡ 1 → ⊥)
+      flag-read = let (k, kind, t) = read-flag text N (h .end) (h .levels) at _ _ (h .read .reads) (ltb 0x16 op) flag-is in (h .read .tree, k, kind)
+
+      pub flag-inside : at + 2 ≤ length text
+      flag-inside = omega (arith, flag-read .1 .inside, h .inside)
+
+      pub flag-here : {codes : List ℕ} → Slotted later file shape codes → (v : ℕ) → v ≡ ix → Slotted (ltb 0x16 op) file shape codes × (v < shape .variables) × (getD file (3 * v) 0 ≡ 1 → ⊥)
+      flag-here slots v e =
+          (slotted-for file shape (ltb 0x16 op) later (flag-read .1 .allowed) slots, omega (arith, flag-read .1 .there), subst (λ (i : ℕ). getD file (3 * i) 0 ≡ 1 → ⊥) (sym e) (flag-read .2))
 
   pub ints-ahead : (end levels j : ℕ) (e : IntExpr) (n : ℕ) → intExpr text N end levels j ≡ got e n → j ≤ n
-  ints-ahead end levels j e n h = int-ahead text N end levels j e n h
+  ints-ahead end levels j e n h = int-forward text N end levels j n (ap isRead h) (sym (ap past h))
 
   pub bools-ahead : (end levels j : ℕ) (e : BoolExpr) (n : ℕ) → boolExpr text N end levels j ≡ got e n → j ≤ n
-  bools-ahead end levels j e n h = bool-on text N end levels j n (sym (ap found h))
+  bools-ahead end levels j e n h = bool-forward text N end levels j n (ap isRead h) (sym (ap past h))
 
   -- leaves: nothing is written
   module _ (codes : List ℕ) where
     abbrev SL : Slots
-    SL = slotsOf file shape codes
+    SL = readSlots later file shape codes
 
-    pub constant-leaf : {pen : Cursor} {xs : List ℤ} {out : Bits} {next x : ℕ} → op ≡ 1 → x ≡ getD text (at + 1) 0 + 256 * getD text (at + 1 + 1) 0 → out ≡ constantBits 16 x → next ≡ at + 3
-        → Encodes text (intsAt text file shape) (int! (layoutOf shape) SL) at pen xs xs out pen next
+    pub constant-leaf : {pen : Cursor} {xs : List ℤ} {out : Bits} {next x : ℕ} → op ≡ 1 → x ≡ ix + 256 * getD text (at + 1 + 1) 0 → out ≡ constantBits 16 x → next ≡ at + 3
+        → Encodes text (intsAt text file shape later) (int! (layoutOf shape) SL) at pen xs xs out pen next
     constant-leaf q ex o l = record {
       encodes = λ end levels t n i h.
           let k = read-constant text N end levels at t n h q in
           leaf-emits (intExpr text N end levels) (int! (layoutOf shape) SL) _ _ h (k .1) (constant-give (layoutOf shape) SL _) (o ∙ ap (constantBits 16) ex) (l ∙ sym (k .2));
     }
 
-    pub variable-leaf : {pen : Cursor} {xs : List ℤ} {out : Bits} {next v : ℕ} → op ≡ 2 → v ≡ getD text (at + 1) 0 → out ≡ integerAt SL v → next ≡ at + 2
-        → Encodes text (intsAt text file shape) (int! (layoutOf shape) SL) at pen xs xs out pen next
-    variable-leaf q ev o l = record {
-      encodes = λ end levels t n i h.
-          let k = read-variable text N end levels at t n h q in
-          leaf-emits (intExpr text N end levels) (int! (layoutOf shape) SL) _ _ h (k .3) (variable-give (layoutOf shape) SL _) (o ∙ ap (integerAt SL) ev) (l ∙ sym (k .4));
-    }
-
-    pub status-leaf : {pen : Cursor} {xs : List ℤ} {out : Bits} {next m : ℕ} → op ≡ 3 → m ≡ getD text (at + 1) 0 → out ≡ integerAt SL (shape .variables + m) → next ≡ at + 2
-        → Encodes text (intsAt text file shape) (int! (layoutOf shape) SL) at pen xs xs out pen next
-    status-leaf q em o l = record {
-      encodes = λ end levels t n i h.
-          let k = read-status text N end levels at t n h q in
-          leaf-emits (intExpr text N end levels) (int! (layoutOf shape) SL) _ _ h (k .2) (status-give (layoutOf shape) SL _) (o ∙ ap (λ (j : ℕ). integerAt SL (shape .variables + j)) em) (l ∙ sym (k .3));
-    }
-
-    pub truth-leaf : {pen : Cursor} {xs : List ℤ} {out : Literal} {next : ℕ} → op ≡ 0x10 → out ≡ literalOf (truth (getD text (at + 1) 0)) → next ≡ at + 2
-        → Encodes text (boolsAt text file shape) (bool! (layoutOf shape) SL) at pen xs xs out pen next
+    pub truth-leaf : {pen : Cursor} {xs : List ℤ} {out : Literal} {next : ℕ} → op ≡ 0x10 → out ≡ literalOf (truth ix) → next ≡ at + 2
+        → Encodes text (boolsAt text file shape later) (bool! (layoutOf shape) SL) at pen xs xs out pen next
     truth-leaf q o l = record {
       encodes = λ end levels t n i h.
           let k = read-truth text N end levels at t n h q in
           leaf-emits (boolExpr text N end levels) (bool! (layoutOf shape) SL) _ _ h (k .1) (truth-give (layoutOf shape) SL _) o (l ∙ sym (k .2));
     }
 
-    pub flag-leaf : {pen : Cursor} {xs : List ℤ} {out : Literal} {next v : ℕ} → op ≡ 0x11 → v ≡ getD text (at + 1) 0 → out ≡ booleanAt SL v → next ≡ at + 2
-        → Encodes text (boolsAt text file shape) (bool! (layoutOf shape) SL) at pen xs xs out pen next
-    flag-leaf q ev o l = record {
-      encodes = λ end levels t n i h.
-          let k = read-flag text N end levels at t n h q in
-          leaf-emits (boolExpr text N end levels) (bool! (layoutOf shape) SL) _ _ h (k .3) (flag-give (layoutOf shape) SL _) (o ∙ ap (booleanAt SL) ev) (l ∙ sym (k .4));
-    }
+    -- a slot, of the state or of the next one; its literals are known where it may be read
+    number : (next : Bool) (v end : ℕ) → v ≡ ix → numberIn (layoutOf shape) next v ≡ numbered text N end next ix
+    number next v end ev = ap (numberIn (layoutOf shape) next) ev ∙ sym (numbered-is text file shape later end next ix)
+
+    module _ (next : Bool) {pen : Cursor} {xs : List ℤ} {past v : ℕ} (ev : v ≡ ix) (l : past ≡ at + 2) where
+      pub variable-leaf : {out : Bits} → op ≡ integerByte next → ((not next || later) ≡ true → out ≡ integerAt SL (numberIn (layoutOf shape) next v))
+          → Encodes text (intsAt text file shape later) (int! (layoutOf shape) SL) at pen xs xs out pen past
+      variable-leaf q o = record {
+        encodes = λ end levels t n i h.
+            let (k, kind, tree) = read-variable text N end levels at t n h next q in
+            leaf-emits (intExpr text N end levels) (int! (layoutOf shape) SL) _ _ h tree (variable-give (layoutOf shape) SL _) (o (k .allowed) ∙ ap (integerAt SL) (number next v end ev)) (l ∙ sym (k .ends));
+      }
+
+      pub status-leaf : {out : Bits} → op ≡ statusByte next → ((not next || later) ≡ true → out ≡ integerAt SL (shape .variables + numberIn (layoutOf shape) next v))
+          → Encodes text (intsAt text file shape later) (int! (layoutOf shape) SL) at pen xs xs out pen past
+      status-leaf q o = record {
+        encodes = λ end levels t n i h.
+            let (k, tree) = read-status text N end levels at t n h next q in
+            leaf-emits (intExpr text N end levels) (int! (layoutOf shape) SL) _ _ h tree (status-give (layoutOf shape) SL _) (o (k .allowed) ∙ ap (λ (j : ℕ). integerAt SL (shape .variables + j)) (number next v end ev)) (l ∙ sym (k .ends));
+      }
+
+      pub flag-leaf : {out : Literal} → op ≡ booleanByte next → ((not next || later) ≡ true → out ≡ booleanAt SL (numberIn (layoutOf shape) next v))
+          → Encodes text (boolsAt text file shape later) (bool! (layoutOf shape) SL) at pen xs xs out pen past
+      flag-leaf q o = record {
+        encodes = λ end levels t n i h.
+            let (k, kind, tree) = read-flag text N end levels at t n h next q in
+            leaf-emits (boolExpr text N end levels) (bool! (layoutOf shape) SL) _ _ h tree (flag-give (layoutOf shape) SL _) (o (k .allowed) ∙ ap (booleanAt SL) (number next v end ev)) (l ∙ sym (k .ends));
+      }

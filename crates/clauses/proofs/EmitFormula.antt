@@ -25,7 +25,7 @@ use Rattle.clauses.specs.Literal.{Literal, Clause}
 use Rattle.clauses.specs.Words.{clauseWords, words}
 use Rattle.clauses.specs.Expression.{Slots}
 use Rattle.clauses.specs.Action.{movers! }
-use Rattle.clauses.specs.Formula.{variablesFrom, flat, pairs, allTies, S, w, P, G, F, n, property!, stateAt, frame, firstPart, propertyClauses, stepClauses, framePart, lastClause, part, partsFrom, formula}
+use Rattle.clauses.specs.Formula.{variablesFrom, flat, pairs, allTies, S, w, P, G, F, n, property!, stepProperty!, stateAt, frame, firstPart, propertyClauses, stepClauses, framePart, lastClause, part, partsFrom, formula}
 use Rattle.clauses.specs.Limits.{frameLimit}
 use Rattle.clauses.specs.Writing.{variableLimit, fromCodes, Puts, Emits}
 use Rattle.clauses.specs.FlatState.{slotsOf, layoutOf}
@@ -36,7 +36,6 @@ use Rattle.clauses.specs.declared.frame.FrameSizes.{FrameSizes}
 use Rattle.clauses.proofs.Frames.{P-is, G-is}
 use Rattle.clauses.proofs.Within.{frame-suc, last-past}
 use Rattle.clauses.proofs.Limits.{small-of-file}
-use Rattle.clauses.proofs.FrameNumbers.{length-is}
 use Rattle.clauses.proofs.EmitWords.{append-nil, puts-same, words-append}
 use Rattle.clauses.proofs.EmitSteps.{layout-is}
 use Rattle.clauses.proofs.EmitClauses.{PutsLeft, puts-start, puts-on, puts-end}
@@ -73,16 +72,17 @@ start-is s h j l t few e q =
 
 module _ {file events cells : List ℕ} {shape : Shape} {s : FrameSizes} (h : FrameReady file events cells shape s) where
   -- the step out of the frame at v
-  pub step-written : (v flags after var all bits : ℕ) (codes firsts : List ℕ) {x0 x1 x2 x3 x4 : List ℤ} {c0 c1 c2 c3 c4 u : ℕ}
+  pub step-written : (p v flags after var all bits : ℕ) (codes firsts : List ℕ) {x0 x1 x2 x3 x4 x5 : List ℤ} {c0 c1 c2 c3 c4 c5 u u′ : ℕ} {out : Literal}
       → all ≡ s .movers → bits ≡ s .bits → flags ≡ v + (s .bits + s .property .ands + s .property .wides) → after ≡ v + frameLength s → var ≡ flags + all → length firsts ≡ maxMovers
       → (flags + all ≤ variableLimit → Puts (clauseWords (variablesFrom flags all)) x0 x1 c0 c1)
       → (flags + all ≤ variableLimit → Puts (words (pairs (variablesFrom flags all))) x1 x2 c1 c2)
       → ((d : Design) (w : Parts file d) → Emits var (movers! (layoutOf shape) (slotsOf file shape codes) (movers d) var) x2 x3 c2 (map (resultFrom file shape) (take (shape .normals + shape .externals) firsts)) c3 u)
+      → ((d : Design) (w : Parts file d) → v + S d ≤ variableLimit → after + S d ≤ variableLimit → Emits u (stepProperty! d (propertyOf d p) (stateAt d v) (stateAt d after) u) x3 x4 c3 out c4 u′)
       → (flags + all ≤ variableLimit → after + bits ≤ variableLimit → ((k : ℕ) → k < all → getD firsts k 0 + bits ≤ variableLimit) → (R : ℕ → Slots) → ((v : ℕ) → flat (R v) ≡ variablesFrom v bits)
-      → Puts (words (allTies (variablesFrom flags all) (map R (take all firsts)) (variablesFrom after bits))) x3 x4 c3 c4)
-      → (d : Design) (p j : ℕ) → check file ≡ Checked.accepted d → s ≡ frameSizes d (propertyOf d p) → j < maxBound → v ≡ frame d (propertyOf d p) j → slotsOf file shape codes ≡ stateAt d v → Puts (words (stepClauses d (propertyOf d p) j)) x0 x4 c0 c4
+      → Puts (words (allTies (variablesFrom flags all) (map R (take all firsts)) (variablesFrom after bits))) x4 x5 c4 c5)
+      → (d : Design) (j : ℕ) → check file ≡ Checked.accepted d → s ≡ frameSizes d (propertyOf d p) → j < maxBound → v ≡ frame d (propertyOf d p) j → slotsOf file shape codes ≡ stateAt d v → Puts (words (stepClauses d (propertyOf d p) j)) x0 x5 c0 c5
   unfolding w
-  step-written v flags after var all bits codes firsts {x0} {x1} {x2} {x3} {x4} {c0} {c1} {c2} {c3} {c4} {u} ea eb ef et ev long any prs gates ties d p j ok es low at state =
+  step-written p v flags after var all bits codes firsts {x0} {x1} {x2} {x3} {x4} {x5} {c0} {c1} {c2} {c3} {c4} {c5} {u} {u′} {out} ea eb ef et ev long any prs gates more ties d j ok es low at state =
       let wf = well-formed file (h .bytes) d ok in
       let ps = whole file d ok .parts in
       let N = numbers d (propertyOf d p) s wf es in
@@ -99,8 +99,9 @@ module _ {file events cells : List ℕ} {shape : Shape} {s : FrameSizes} (h : Fr
       (subst (λ (k : ℕ). Puts (clauseWords (variablesFrom flags k)) x0 x1 c0 c1) q (any fit))
       (subst (λ (k : ℕ). Puts (words (pairs (variablesFrom flags k))) x1 x2 c1 c2) q (prs fit))
       (subst (λ (k : ℕ). Emits var (movers! (layoutOf shape) (slotsOf file shape codes) (movers d) var) x2 x3 c2 (map R (take k firsts)) c3 u) (sym (ea ∙ h .movers)) (gates d ps))
-      (λ out room. subst (λ (k : ℕ). Puts (words (allTies (variablesFrom flags k) (map R (take all firsts)) (variablesFrom after (S d)))) x3 x4 c3 c4) q
-      (subst (λ (k : ℕ). Puts (words (allTies (variablesFrom flags all) (map R (take all firsts)) (variablesFrom after k))) x3 x4 c3 c4) r
+      (subst (λ (k : ℕ). Emits u (stepProperty! d (propertyOf d p) (stateAt d k) (stateAt d after) u) x3 x4 c3 out c4 u′) at (more d ps (omega arith) (omega arith)))
+      (λ out room. subst (λ (k : ℕ). Puts (words (allTies (variablesFrom flags k) (map R (take all firsts)) (variablesFrom after (S d)))) x4 x5 c4 c5) q
+      (subst (λ (k : ℕ). Puts (words (allTies (variablesFrom flags all) (map R (take all firsts)) (variablesFrom after k))) x4 x5 c4 c5) r
       (ties fit fit′
       (λ k l. let z = firsts-within (h .ready .shaped) d ps wf v (slotsOf file shape codes) var all firsts state q (omega arith) out room k l in omega arith)
       R (λ x. result-bits (h .ready .shaped) d ps x ∙ ap (variablesFrom x) (sym r)))))
@@ -128,9 +129,9 @@ module _ {file events cells : List ℕ} {shape : Shape} {s : FrameSizes} (h : Fr
     property-written {var} e gates =
         property-puts d (propertyOf d p) j var (slotsOf file shape codes) low (state-at ∙ ap (stateAt d) frame-at) (omega (arith, numbers d (propertyOf d p) s wf es .bits, frame-at)) (gates d (whole file d ok .parts))
 
-  pub step-state : (v bits : ℕ) (codes : List ℕ) → bits ≡ s .bits → length codes ≡ maxBits → (v + bits ≤ variableLimit → take bits (fromCodes codes) ≡ variablesFrom v bits)
-      → (d : Design) (p j : ℕ) → check file ≡ Checked.accepted d → s ≡ frameSizes d (propertyOf d p) → j < maxBound → v ≡ frame d (propertyOf d p) j → slotsOf file shape codes ≡ stateAt d v
-  step-state v bits codes eb long vars d p j ok es low at =
+  pub step-state : (p v bits : ℕ) (codes : List ℕ) → bits ≡ s .bits → length codes ≡ maxBits → (v + bits ≤ variableLimit → take bits (fromCodes codes) ≡ variablesFrom v bits)
+      → (d : Design) (j : ℕ) → check file ≡ Checked.accepted d → s ≡ frameSizes d (propertyOf d p) → j < maxBound → v ≡ frame d (propertyOf d p) j → slotsOf file shape codes ≡ stateAt d v
+  step-state p v bits codes eb long vars d j ok es low at =
       state-at p j v bits codes (at ∙ sym (frame-starts d (propertyOf d p) s (well-formed file (h .bytes) d ok) es j)) eb (omega arith) long vars d ok es
 
 -- a frame's part
@@ -170,11 +171,10 @@ module _ {file events cells : List ℕ} {shape : Shape} {s : FrameSizes} (h : Fr
   pub frame-part : (i ≡ 0 → ⊥) → i ≤ k + 1 → ((d : Design) → check file ≡ Checked.accepted d → s ≡ frameSizes d (propertyOf d p) → Puts (words (framePart d (propertyOf d p) k (i - 1))) xs ys cur c) → Puts (words (part d (propertyOf d p) k i)) xs ys cur c
   frame-part z l f = puts-same (ap words (frame-is d (propertyOf d p) k i z l)) (f d ok es)
 
-  pub last-part : (stride : ℕ) → stride ≡ frameLength s → k ≤ maxBound → k + 1 < i
-      → ((d : Design) (w : Parts file d) → stride ≡ F d (propertyOf d p) → n d (propertyOf d p) k < variableLimit → Puts (words (lastClause d (propertyOf d p) k ∷ [])) xs ys cur c) → Puts (words (part d (propertyOf d p) k i)) xs ys cur c
-  last-part stride e few l f =
-      let q : stride ≡ F d (propertyOf d p) = e ∙ ap frameLength es ∙ length-is d (well-formed file (h .bytes) d ok) (propertyOf d p) in
-      puts-same (ap words (last-is d (propertyOf d p) k i l)) (f d (whole file d ok .parts) q (omega (arith, small-of-file file (h .bytes) d ok p k few .variables)))
+  pub last-part : k ≤ maxBound → k + 1 < i
+      → ((d : Design) → check file ≡ Checked.accepted d → s ≡ frameSizes d (propertyOf d p) → n d (propertyOf d p) k < variableLimit → Puts (words (lastClause d (propertyOf d p) k ∷ [])) xs ys cur c)
+      → Puts (words (part d (propertyOf d p) k i)) xs ys cur c
+  last-part few l f = puts-same (ap words (last-is d (propertyOf d p) k i l)) (f d ok es (omega (arith, small-of-file file (h .bytes) d ok p k few .variables)))
 
 -- All parts, one after the other.
 module _ (file : List ℕ) (s : FrameSizes) (p k : ℕ) (xs₀ : List ℤ) where

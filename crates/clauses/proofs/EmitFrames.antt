@@ -1,19 +1,20 @@
 -- The state's variables of a frame, as the file and as the design name them; the ties of all movers. Assumes nothing.
 use Prim.Native.Nat.{ℕ, zero, suc, _+_, _-_, _<_, _≤_}
 use mathlib.Core.Path.{_≡_, refl, sym, ap, ap₂, subst, _∙_}
+use mathlib.Core.Bool.{true}
 use mathlib.Core.List.{List, [], _∷_, _++_, map}
 use native.Mathlib.Omega.{arith}
-use lib.ListN.{length, getD, take, drop}
-use lib.Seq.{take-at, drop-at, getD-take, length-take-le}
+use lib.ListN.{length, getD, take, drop, length-drop}
+use lib.Seq.{take-at, drop-at, take-append-le, drop-append-le, getD-take, length-take-le}
 use lib.IntN.{ℤ}
 use Rattle.design.specs.Tree.{Design, Mover, movers}
 use Rattle.design.specs.State.{Layout, widths}
 use Rattle.design.specs.WellFormed.{MoversOk, WellFormed}
 use Rattle.design.specs.Sections.{Parts}
 use Rattle.design.proofs.Places.{read}
-use Rattle.design.specs.Limits.{maxBits}
+use Rattle.design.specs.Limits.{maxBits, pairBits}
 use Rattle.design.specs.declared.shape.Shape.{Shape}
-use Rattle.design.proofs.Widths.{state-size, widths-are as widths-by-bytes}
+use Rattle.design.proofs.Widths.{state-size, total-append, widths-are as widths-by-bytes}
 use Rattle.clauses.specs.Literal.{positive}
 use Rattle.clauses.specs.Words.{words}
 use Rattle.clauses.specs.Circuit.{Bits}
@@ -22,7 +23,7 @@ use Rattle.clauses.specs.Action.{movers! }
 use Rattle.clauses.specs.Formula.{total, variablesFrom, slotsFrom, flat, ties, allTies, S, stateAt}
 use Rattle.clauses.specs.Cost.{gatesIn, moverCost, moversCost}
 use Rattle.clauses.specs.Writing.{fromCodes, variableLimit, Puts}
-use Rattle.clauses.specs.FlatState.{widthsFrom, widthsIn, cut, slotsOf, layoutOf}
+use Rattle.clauses.specs.FlatState.{widthsFrom, widthsIn, cut, slotsOf, readSlots, layoutOf}
 use Rattle.clauses.specs.Ready.{ShapedFile, resultFrom}
 use Rattle.clauses.proofs.Costs.{movers-costs, gates-counted}
 use Rattle.clauses.proofs.StateBits.{length-variables, variables-append, flat-slots}
@@ -47,6 +48,15 @@ cut-variables (w ∷ ws) v =
     ∙ ap₂ (λ (x y : Bits). x ∷ cut ws y) (take-at a b w (length-variables v w)) (drop-at a b w (length-variables v w))
     ∙ ap (λ (r : Slots). a ∷ r) (cut-variables ws (v + w))
 
+-- slots after slots
+cut-append : (ws us : List ℕ) (xs ys : Bits) → length xs ≡ total ws → cut (ws ++ us) (xs ++ ys) ≡ cut ws xs ++ cut us ys
+unfolding cut
+cut-append [] us [] ys e = refl
+cut-append [] us (x ∷ xs) ys e = absurd (omega arith)
+cut-append (w ∷ ws) us xs ys e =
+    ap₂ (λ (x y : Bits). x ∷ cut (ws ++ us) y) (take-append-le w xs ys (omega arith)) (drop-append-le w xs ys (omega arith))
+    ∙ ap (λ (r : Slots). take w xs ∷ r) (cut-append ws us (drop w xs) ys (omega (arith, length-drop w xs)))
+
 module _ (file : List ℕ) (shape : Shape) where
   pub result-slots : (v : ℕ) → resultFrom file shape v ≡ slotsFrom v (widthsIn file shape)
   unfolding resultFrom
@@ -70,6 +80,25 @@ module _ {file : List ℕ} {shape : Shape} (h : ShapedFile file shape) (d : Desi
       cut-take ws (fromCodes codes) (omega (arith, few-bits h, codes-length codes))
       ∙ ap (cut ws) (ap (λ (k : ℕ). take k (fromCodes codes)) bits-are ∙ e ∙ ap (variablesFrom v) (sym bits-are))
       ∙ cut-variables ws v ∙ ap (slotsFrom v) widths-are
+
+  -- the states of two frames, likewise
+  two-states : (codes : List ℕ) (v u : ℕ) → length codes ≡ pairBits → take (S d + S d) (fromCodes codes) ≡ variablesFrom v (S d) ++ variablesFrom u (S d)
+      → readSlots true file shape codes ≡ stateAt d v ++ stateAt d u
+  unfolding stateAt
+  two-states codes v u l e =
+      let ws = widthsIn file shape in
+      let both : total (ws ++ ws) ≡ S d + S d = total-append ws ws ∙ ap₂ _+_ bits-are bits-are in
+      let one : (x : ℕ) → cut ws (variablesFrom x (S d)) ≡ slotsFrom x (widths d) = (λ x. ap (λ (k : ℕ). cut ws (variablesFrom x k)) (sym bits-are) ∙ cut-variables ws x ∙ ap (slotsFrom x) widths-are) in
+      cut-take (ws ++ ws) (fromCodes codes) (omega (arith, total-append ws ws, few-bits h, codes-length codes))
+      ∙ ap (cut (ws ++ ws)) (ap (λ (k : ℕ). take k (fromCodes codes)) both ∙ e)
+      ∙ cut-append ws ws (variablesFrom v (S d)) (variablesFrom u (S d)) (length-variables v (S d) ∙ sym bits-are) ∙ ap₂ _++_ (one v) (one u)
+
+  pub states-are : (codes : List ℕ) (v u n : ℕ) → n ≡ shape .bits → length codes ≡ pairBits
+      → (v + n ≤ variableLimit → u + n ≤ variableLimit → take (n + n) (fromCodes codes) ≡ variablesFrom v n ++ variablesFrom u n)
+      → v + S d ≤ variableLimit → u + S d ≤ variableLimit → readSlots true file shape codes ≡ stateAt d v ++ stateAt d u
+  states-are codes v u n q l f a b =
+      let s : n ≡ S d = q ∙ h .bits .state d w in
+      two-states codes v u l (subst (λ (k : ℕ). take (k + k) (fromCodes codes) ≡ variablesFrom v k ++ variablesFrom u k) s (f (omega arith) (omega arith)))
 
   pub result-bits : (v : ℕ) → flat (resultFrom file shape v) ≡ variablesFrom v (S d)
   result-bits v = result-flat file shape v ∙ ap (variablesFrom v) bits-are

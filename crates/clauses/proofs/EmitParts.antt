@@ -12,29 +12,35 @@ use lib.IntN.{ℤ, pos}
 use Rattle.design.specs.Tree.{Variable, boolean, Design}
 use Rattle.design.specs.State.{width, statusWidth, widths, start}
 use Rattle.design.specs.DesignFile.{Item, item, need, kind, at8, at16, variableAt}
-use Rattle.design.specs.Check.{trailer, variableCount, matrixCount}
+use Rattle.design.specs.Check.{Checked, check, itemsEnd, variableCount, matrixCount}
 use Rattle.design.specs.Places.{Accepted}
 use Rattle.design.specs.Sections.{Parts}
-use Rattle.design.proofs.Sections.{need-inv, item-same}
+use Rattle.design.proofs.Sections.{need-inv, item-same, whole}
+use Rattle.design.proofs.WellFormed.{well-formed}
 use Rattle.design.proofs.Positions.{variable-stands}
 use Rattle.design.proofs.Places.{read}
 use Rattle.design.specs.Limits.{maxVariables, maxMatrices, maxBits}
 use Rattle.design.specs.declared.shape.Shape.{Shape}
 use Rattle.design.proofs.Indexed.{variables-inside}
-use Rattle.step.specs.Property.{Property, propertyOf}
+use Rattle.step.specs.Property.{Property, invariant, noInvalidCell, constraint, propertyOf}
 use Rattle.design.proofs.Widths.{width-bound, variables-small, variable-is, kind-width, widths-run, matrix-count}
 use Rattle.clauses.specs.Literal.{Literal, negate, trueLiteral, Clause}
 use Rattle.clauses.specs.Words.{wordOf, clauseWords, words}
 use Rattle.clauses.specs.Circuit.{Bits}
 use Rattle.clauses.specs.Expression.{Slots}
-use Rattle.clauses.specs.Formula.{total, variablesFrom, slotsFrom, unitsOf, initialUnits, S, stateAt, property!, propertyAt, P, F, frame, n, firstPart, negatedFrom, lastClause}
+use Rattle.clauses.specs.Formula.{total, variablesFrom, slotsFrom, unitsOf, initialUnits, S, stateAt, property!, stepProperty!, propertyAt, stepAt, stepPropertyAt, P, F, frame, n, firstPart, propertyLiteral, framesTaken, stepPropertyIn, propertyLiteralIn, negatedFrom, lastClause}
 use Rattle.clauses.specs.Limits.{frameLimit}
 use Rattle.clauses.specs.Writing.{fromCode, fromCodes, gateWords, variableLimit, Puts, Emits}
 use Rattle.clauses.specs.FlatState.{widthsFrom, slotsOf}
-use Rattle.clauses.specs.Ready.{ShapedFile}
+use Rattle.clauses.specs.Cost.{gatesIn, stepPropertyCost, stepCost}
+use Rattle.clauses.specs.FrameSizes.{HasGates, frameSizes, frameLength}
+use Rattle.clauses.specs.Ready.{ShapedFile, propertyLiteralAt, PropertyLiteralFits}
+use Rattle.clauses.specs.declared.cost.GatesAt.{GatesAt}
+use Rattle.clauses.specs.declared.frame.FrameSizes.{FrameSizes}
 use Rattle.clauses.proofs.Costs.{gates-counted, words-counted}
 use Rattle.clauses.proofs.StateBits.{variables-append}
-use Rattle.clauses.proofs.Frames.{property-costs-at, P-is}
+use Rattle.clauses.proofs.Frames.{property-costs-at, step-costs-at, step-property-costs-at, property-next, P-is, G-is}
+use Rattle.clauses.proofs.FrameNumbers.{length-is, frames-are}
 use Rattle.clauses.proofs.Models.{frame-zero}
 use Rattle.clauses.proofs.Within.{past-le, last-past}
 use Rattle.clauses.proofs.EmitWords.{puts-then, puts-same, words-append, append-nil, code-yes}
@@ -90,9 +96,9 @@ module _ (file : List ℕ) (a : Accepted file) (nv : ℕ) (e : nv ≡ variableCo
         let rest = drop (v + 1) vs in
         let cons : drop v vs ≡ u ∷ rest = rw (add-one, drop-cons vs v none (omega (arith, w .variable-count))) in
         let stands = variable-stands file d w v (omega arith) none in
-        let (kd, few, past) = variable-is file (trailer file) (3 * v) (3 * v + 3) u stands in
+        let (kd, few, past) = variable-is file (itemsEnd file) (3 * v) (3 * v + 3) u stands in
         let wide : width (u .kind) ≡ n = ap width kd ∙ sym (kind-width (at8 file (3 * v)) few) ∙ sym en in
-        let given : u .initial ≡ value = initial-is file (trailer file) (3 * v) (3 * v + 3) u stands ∙ sym ev in
+        let given : u .initial ≡ value = initial-is file (itemsEnd file) (3 * v) (3 * v + 3) u stands ∙ sym ev in
         let one = words (unitsOf (variablesFrom x n) value) in
         let e1 : unitsIn x (drop v vs) ≡ one ++ unitsIn (x + n) rest =
         ap (unitsIn x) cons
@@ -134,7 +140,7 @@ module _ (file : List ℕ) (h : Accepted file) (nv nm : ℕ) (e : nv ≡ variabl
   unfolding firstPart stateAt start widths
   first-puts y ey p1 p2 p3 d w p =
       let vs = d .variables in
-      let from : 2 + total (widthsIn vs) ≡ y = ap (λ (k : ℕ). 2 + k) (ap total (sym (widths-run file (trailer file) 0 0 _ vs refl (w .variable-run)) ∙ ap (widthsFrom file 0) (w .variable-count ∙ sym e)) ∙ sym at) ∙ sym ey in
+      let from : 2 + total (widthsIn vs) ≡ y = ap (λ (k : ℕ). 2 + k) (ap total (sym (widths-run file (itemsEnd file) 0 0 _ vs refl (w .variable-run)) ∙ ap (widthsFrom file 0) (w .variable-count ∙ sym e)) ∙ sym at) ∙ sym ey in
       let count : length (d .statuses) ≡ nm = matrix-count file d w ∙ sym q in
       let both : words (initialUnits (slotsFrom 2 (widthsIn vs ++ replicate (length (d .statuses)) statusWidth)) (valuesIn vs ++ replicate (length (d .statuses)) 0)) ≡ unitsIn 2 vs ++ words (unitsOf (variablesFrom y (4 * nm)) 0) =
       ap words (units-apart 2 (widthsIn vs) (replicate (length (d .statuses)) statusWidth) (valuesIn vs) (replicate (length (d .statuses)) 0) (length-map vs (λ (z : Variable). width (z .kind)) ∙ sym (length-map vs (λ (z : Variable). z .initial))))
@@ -159,51 +165,114 @@ property-out {file} {shape} h codes p v n y r size en taken ey f d w room =
     let ws = words-counted (b .gates) in
     emits-same _ _ same (f d w) .emits (record { numbers = omega (arith, costs .ands, costs .wides, P-is d (propertyOf d p)); words = omega (arith, costs .ands, costs .wides, P-is d (propertyOf d p)) }) .result
 
--- the last clause, a frame at a time
-next-frame : (d : Design) (p : Property) (stride x y j : ℕ) → stride ≡ F d p → x ≡ frame d p j → y ≡ x + stride → y ≡ frame d p (j + 1)
-unfolding frame
-next-frame d p stride x y j e at ey = ey ∙ ap₂ (λ (a b : ℕ). a + b) at e ∙ (let q : 2 + j * F d p + F d p ≡ 2 + suc j * F d p = omega arith in q) ∙ ap (λ (i : ℕ). 2 + i * F d p) (sym (add-one j))
+-- property 2's literal in the step out of a frame: its gates are the last before the next frame
+pub step-out : {file : List ℕ} (p v after y r : ℕ) (g : GatesAt) → ((i : ℕ) → getD file i 0 < 256) → ((d : Design) → Parts file d → HasGates g (stepPropertyCost (propertyOf d p)))
+    → (g .ands + g .wides ≤ after → y ≡ after - (g .ands + g .wides))
+    → {xs ys : List ℤ} {c k : ℕ} → ((d : Design) (w : Parts file d) → v + S d ≤ variableLimit → after + S d ≤ variableLimit → Emits y (stepProperty! d (propertyOf d p) (stateAt d v) (stateAt d after) y) xs ys 0 (fromCode r) c k)
+    → (d : Design) → check file ≡ Checked.accepted d → after ≡ v + F d (propertyOf d p) → after + S d ≤ variableLimit → fromCode r ≡ (stepPropertyAt d (propertyOf d p) v (stateAt d after)) .out
+unfolding stepPropertyAt gateWords F stepCost
+step-out {file} p v after y r g bytes gates less f d ok e room =
+    let q = propertyOf d p in
+    let wf = well-formed file bytes d ok in
+    let parts = whole file d ok .parts in
+    let k = gates d parts in
+    let costs = step-property-costs-at d q v (stateAt d after) in
+    let ends : (stepAt d q v) .next + gatesIn (stepPropertyCost q) ≡ after = omega (arith, step-costs-at d wf q v .next, property-next d q v, G-is d wf q) in
+    let same : y ≡ (stepAt d q v) .next = omega (arith, less (omega (arith, k .ands, k .wides)), k .ands, k .wides) in
+    let b = stepPropertyAt d q v (stateAt d after) in
+    let n = gates-counted (b .gates) in
+    let ws = words-counted (b .gates) in
+    emits-same _ _ (ap (stepProperty! d q (stateAt d v) (stateAt d after)) same) (f d parts (omega arith) room) .emits
+    (record { numbers = omega (arith, costs .ands, costs .wides); words = omega (arith, costs .ands, costs .wides) }) .result
 
-pub record Closing (file : List ℕ) (p stride bound : ℕ) (xs₀ : List ℤ) (cur₀ : ℕ) (xs : List ℤ) (cur x j : ℕ) : Type 0 where
-  pub within : j ≤ bound + 1
+-- the literal that counts, by the property's number
+module _ (d : Design) where
+  pub literal-of-state : (p : ℕ) → p < 2 → (v n : ℕ) → n ≡ S d → (l : Literal) → (v + n + P d (propertyOf d p) ≤ variableLimit → l ≡ (propertyAt d (propertyOf d p) v) .out)
+      → PropertyLiteralFits d (propertyOf d p) v → l ≡ propertyLiteralAt d (propertyOf d p) v
+  unfolding propertyOf
+  literal-of-state zero h v n e l f room = f (omega arith)
+  literal-of-state (suc zero) h v n e l f room = f (omega arith)
+  literal-of-state (suc (suc p)) h v n e l f room = absurd (omega arith)
+
+  pub literal-of-step : (p : ℕ) → 2 ≤ p → (v after : ℕ) → after ≡ v + F d (propertyOf d p) → (l : Literal) → (after + S d ≤ variableLimit → l ≡ (stepPropertyAt d (propertyOf d p) v (stateAt d after)) .out)
+      → PropertyLiteralFits d (propertyOf d p) v → l ≡ propertyLiteralAt d (propertyOf d p) v
+  unfolding propertyOf
+  literal-of-step zero h v after e l f room = absurd (omega arith)
+  literal-of-step (suc zero) h v after e l f room = absurd (omega arith)
+  literal-of-step (suc (suc p)) h v after e l f room = f (omega arith) ∙ ap (λ (k : ℕ). (stepPropertyAt d (constraint (d .constraint)) v (stateAt d k)) .out) e
+
+  -- in the frames that count it is within the limit
+  state-fits : (q : Property) (j k : ℕ) → j ≤ k → n d q k < variableLimit → frame d q j + S d + P d q ≤ variableLimit
+  state-fits q j k l room = let e : j + (k - j) ≡ k = omega arith in omega (arith, rw e at (past-le d q j (k - j)), last-past d q k)
+
+  next-is : (q : Property) (j : ℕ) → frame d q j + F d q ≡ frame d q (suc j)
+  unfolding frame
+  next-is q j = omega arith
+
+  literal-fits : (q : Property) (j k : ℕ) → j < framesTaken q k → n d q k < variableLimit → PropertyLiteralFits d q (frame d q j)
+  literal-fits (invariant e) j k l room = state-fits (invariant e) j k (omega arith) room
+  literal-fits noInvalidCell j k l room = state-fits noInvalidCell j k (omega arith) room
+  literal-fits (constraint e) j k l room = omega (arith, state-fits (constraint e) (suc j) k (omega arith) room, next-is (constraint e) j)
+
+  property-literal-is : (q : Property) (j : ℕ) → propertyLiteralAt d q (frame d q j) ≡ propertyLiteralIn d q j
+  unfolding propertyLiteralIn stepPropertyIn
+  property-literal-is q j = ap (λ (k : ℕ). propertyLiteral q ((propertyAt d q (frame d q j)) .out) ((stepPropertyAt d q (frame d q j) (stateAt d k)) .out)) (next-is q j)
+
+  next-frame : (q : Property) (stride x y j : ℕ) → stride ≡ F d q → x ≡ frame d q j → y ≡ x + stride → y ≡ frame d q (j + 1)
+  next-frame q stride x y j e at ey = ey ∙ ap₂ (λ (a b : ℕ). a + b) at e ∙ next-is q j ∙ ap (frame d q) (sym (add-one j))
+
+  -- the frames that count, from the sizes
+  counted : (q : Property) (s : FrameSizes) (k : ℕ) → s ≡ frameSizes d q → k + s .last ≡ framesTaken q k
+  unfolding frameSizes
+  counted q s k e = ap (λ (x : FrameSizes). k + x .last) e ∙ omega (arith, frames-are k q)
+
+-- the last clause, a frame at a time
+pub record Closing (file : List ℕ) (p stride frames : ℕ) (xs₀ : List ℤ) (cur₀ : ℕ) (xs : List ℤ) (cur x j : ℕ) : Type 0 where
+  pub within : j ≤ frames
   pub small : x ≤ 2 + frameLimit * j
   pub here : (d : Design) → stride ≡ F d (propertyOf d p) → x ≡ frame d (propertyOf d p) j
-  pub left : (d : Design) (w : Parts file d) → stride ≡ F d (propertyOf d p) → n d (propertyOf d p) bound < variableLimit → PutsLeft (clauseWords (lastClause d (propertyOf d p) bound)) xs₀ cur₀ (clauseWords (negatedFrom d (propertyOf d p) (bound + 1 - j) j)) xs cur
+  pub left : (d : Design) (bound : ℕ) → check file ≡ Checked.accepted d → stride ≡ F d (propertyOf d p) → frames ≡ framesTaken (propertyOf d p) bound → n d (propertyOf d p) bound < variableLimit
+      → PutsLeft (clauseWords (lastClause d (propertyOf d p) bound)) xs₀ cur₀ (clauseWords (negatedFrom d (propertyOf d p) (frames - j) j)) xs cur
 
-module _ (file : List ℕ) (p stride bound : ℕ) (xs₀ : List ℤ) (cur₀ : ℕ) where
-  pub closing-start : Closing file p stride bound xs₀ cur₀ xs₀ cur₀ 2 0
+module _ (file : List ℕ) (p stride frames : ℕ) (xs₀ : List ℤ) (cur₀ : ℕ) where
+  pub closing-start : Closing file p stride frames xs₀ cur₀ xs₀ cur₀ 2 0
   unfolding frame lastClause
   closing-start = record {
     within = omega arith;
     small = omega arith;
     here = λ d e. omega arith;
-    left = λ d w e k. subst (λ (m : ℕ). PutsLeft (clauseWords (negatedFrom d (propertyOf d p) (suc bound) 0)) xs₀ cur₀ (clauseWords (negatedFrom d (propertyOf d p) m 0)) xs₀ cur₀) (let q : suc bound ≡ bound + 1 - 0 = omega arith in q) (puts-start _ xs₀ cur₀);
+    left = λ d bound ok e f room.
+        let q = propertyOf d p in
+        subst (λ (m : ℕ). PutsLeft (clauseWords (negatedFrom d q (framesTaken q bound) 0)) xs₀ cur₀ (clauseWords (negatedFrom d q m 0)) xs₀ cur₀) (let z : framesTaken q bound ≡ frames - 0 = omega arith in z) (puts-start _ xs₀ cur₀);
   }
 
-  pub closing-on : {xs : List ℤ} {cur x j : ℕ} → j ≤ bound → stride ≤ frameLimit → Closing file p stride bound xs₀ cur₀ xs cur x j → (n y : ℕ) (l m : Literal) → ((d : Design) (w : Parts file d) → n ≡ S d) → y ≡ x + stride
-      → ((d : Design) (w : Parts file d) → x + n + P d (propertyOf d p) ≤ variableLimit → l ≡ (propertyAt d (propertyOf d p) x) .out) → m ≡ negate l → {ys : List ℤ} {c : ℕ} → Puts (wordOf m ∷ []) xs ys cur c → Closing file p stride bound xs₀ cur₀ ys c y (j + 1)
+  pub closing-on : {xs : List ℤ} {cur x j : ℕ} → j < frames → stride ≤ frameLimit → Closing file p stride frames xs₀ cur₀ xs cur x j → (y : ℕ) (l m : Literal) → y ≡ x + stride
+      → ((d : Design) → check file ≡ Checked.accepted d → stride ≡ F d (propertyOf d p) → PropertyLiteralFits d (propertyOf d p) x → l ≡ propertyLiteralAt d (propertyOf d p) x) → m ≡ negate l
+      → {ys : List ℤ} {c : ℕ} → Puts (wordOf m ∷ []) xs ys cur c → Closing file p stride frames xs₀ cur₀ ys c y (j + 1)
   unfolding negatedFrom
-  closing-on {xs} {cur} {x} {j} le few k bits y l m eb ey el em {ys} {c} puts = record {
+  closing-on {x = x} {j = j} lt few k y l m ey el em {ys} {c} puts = record {
     within = omega arith;
     small = omega (arith, k .small);
     here = λ d e. next-frame d (propertyOf d p) stride x y j e (k .here d e) ey;
-    left = λ d w e room.
+    left = λ d bound ok e f room.
+        let q = propertyOf d p in
         let at = k .here d e in
-        let inside = inside-frame d room in
-        let lit : l ≡ (propertyAt d (propertyOf d p) (frame d (propertyOf d p) j)) .out = el d w (omega (arith, eb d w)) ∙ ap (λ (v : ℕ). (propertyAt d (propertyOf d p) v) .out) at in
-        let one : wordOf m ∷ [] ≡ wordOf (negate ((propertyAt d (propertyOf d p) (frame d (propertyOf d p) j)) .out)) ∷ [] = ap (λ (t : Literal). wordOf t ∷ []) (em ∙ ap negate lit) in
-        let rest = clauseWords (negatedFrom d (propertyOf d p) (bound - j) (suc j)) in
-        let e1 : clauseWords (negatedFrom d (propertyOf d p) (bound + 1 - j) j) ≡ (wordOf (negate ((propertyAt d (propertyOf d p) (frame d (propertyOf d p) j)) .out)) ∷ []) ++ rest = ap (λ (i : ℕ). clauseWords (negatedFrom d (propertyOf d p) i j)) (let q : bound + 1 - j ≡ suc (bound - j) = omega arith in q) in
-        subst (λ (t : List ℤ). PutsLeft (clauseWords (lastClause d (propertyOf d p) bound)) xs₀ cur₀ t ys c) (ap₂ (λ (i v : ℕ). clauseWords (negatedFrom d (propertyOf d p) i v)) (let q : bound - j ≡ bound + 1 - (j + 1) = omega arith in q) (sym (add-one j)))
-        (puts-on (wordOf (negate ((propertyAt d (propertyOf d p) (frame d (propertyOf d p) j)) .out)) ∷ []) rest e1 (k .left d w e room) (puts-same one puts));
+        let fits = literal-fits d q j bound (omega arith) room in
+        let lit : l ≡ propertyLiteralIn d q j = el d ok e (subst (PropertyLiteralFits d q) (sym at) fits) ∙ ap (propertyLiteralAt d q) at ∙ property-literal-is d q j in
+        let one : wordOf m ∷ [] ≡ wordOf (negate (propertyLiteralIn d q j)) ∷ [] = ap (λ (t : Literal). wordOf t ∷ []) (em ∙ ap negate lit) in
+        let rest = clauseWords (negatedFrom d q (frames - (j + 1)) (suc j)) in
+        let e1 : clauseWords (negatedFrom d q (frames - j) j) ≡ (wordOf (negate (propertyLiteralIn d q j)) ∷ []) ++ rest = ap (λ (i : ℕ). clauseWords (negatedFrom d q i j)) (let z : frames - j ≡ suc (frames - (j + 1)) = omega arith in z) in
+        subst (λ (v : ℕ). PutsLeft (clauseWords (lastClause d q bound)) xs₀ cur₀ (clauseWords (negatedFrom d q (frames - (j + 1)) v)) ys c) (sym (add-one j))
+        (puts-on (wordOf (negate (propertyLiteralIn d q j)) ∷ []) rest e1 (k .left d bound ok e f room) (puts-same one puts));
   }
-    where
-      inside-frame : (d : Design) → n d (propertyOf d p) bound < variableLimit → frame d (propertyOf d p) j + S d + P d (propertyOf d p) ≤ variableLimit
-      inside-frame d room = let q : j + (bound - j) ≡ bound = omega arith in omega (arith, rw q at (past-le d (propertyOf d p) j (bound - j)), last-past d (propertyOf d p) bound)
 
-  pub closing-end : {xs : List ℤ} {cur x j : ℕ} → bound < j → Closing file p stride bound xs₀ cur₀ xs cur x j → {ys : List ℤ} {c : ℕ} → Puts (pos 0 ∷ []) xs ys cur c
-      → (d : Design) (w : Parts file d) → stride ≡ F d (propertyOf d p) → n d (propertyOf d p) bound < variableLimit → Puts (words (lastClause d (propertyOf d p) bound ∷ [])) xs₀ ys cur₀ c
+  pub closing-end : {xs : List ℤ} {cur x j : ℕ} → frames ≤ j → Closing file p stride frames xs₀ cur₀ xs cur x j → {ys : List ℤ} {c : ℕ} → Puts (pos 0 ∷ []) xs ys cur c
+      → ((i : ℕ) → getD file i 0 < 256) → (s : FrameSizes) (bound : ℕ) → stride ≡ frameLength s → frames ≡ bound + s .last
+      → (d : Design) → check file ≡ Checked.accepted d → s ≡ frameSizes d (propertyOf d p) → n d (propertyOf d p) bound < variableLimit → Puts (words (lastClause d (propertyOf d p) bound ∷ [])) xs₀ ys cur₀ c
   unfolding negatedFrom
-  closing-end {j = j} l k puts d w e room =
-      let q : bound + 1 - j ≡ 0 = omega (arith, k .within) in
-      puts-same (sym (append-nil (clauseWords (lastClause d (propertyOf d p) bound)))) (k .left d w e room .then _ _ (puts-same (sym (ap (λ (i : ℕ). clauseWords (negatedFrom d (propertyOf d p) i j)) q)) puts))
+  closing-end {j = j} l k puts bytes s bound es ef d ok e room =
+      let q = propertyOf d p in
+      let stride-is : stride ≡ F d q = es ∙ ap frameLength e ∙ length-is d (well-formed file bytes d ok) q in
+      let z : frames - j ≡ 0 = omega (arith, k .within) in
+      puts-same (sym (append-nil (clauseWords (lastClause d q bound))))
+      (k .left d bound ok stride-is (ef ∙ counted d q s bound e) room .then _ _ (puts-same (sym (ap (λ (i : ℕ). clauseWords (negatedFrom d q i j)) z)) puts))

@@ -1,7 +1,7 @@
 -- The state's literals in a flat list: widths, offsets, slots. Assumes nothing.
 use Prim.Native.Nat.{ℕ, zero, suc, _+_, _-_, _*_, _/_, _%_, _<_, _≤_}
 use mathlib.Core.Path.{_≡_, refl, sym, ap, ap₂, _∙_}
-use mathlib.Core.Bool.{Bool, cond}
+use mathlib.Core.Bool.{Bool, true, false, false≢true, cond, not, _||_}
 use mathlib.Core.List.{List, [], _∷_, _++_, append-assoc}
 use native.Mathlib.Omega.{arith}
 use native.Mathlib.Numerals.{add-one}
@@ -11,12 +11,13 @@ use lib.ListN.{length, getD, take, drop, set, replicate, length-append, length-s
 use lib.Seq.{take-suc, drop-drop, getD-drop, take-append-le, take-append-add, getD-append-add, length-take-le}
 use Rattle.design.proofs.Widths.{widthAt, total-append}
 use Rattle.design.specs.Tree.{truth}
+use Rattle.design.specs.State.{layoutOf, numberIn}
 use Rattle.design.specs.declared.shape.Shape.{Shape}
 use Rattle.clauses.specs.Literal.{Literal, literalOf}
 use Rattle.clauses.specs.Expression.{pad, constantBits, lowest}
 use Rattle.clauses.specs.Formula.{total}
 use Rattle.clauses.specs.Writing.{fromCode, fromCodes}
-use Rattle.clauses.specs.FlatState.{widthsFrom, widthsOf, widthsIn, cut, slotsOf}
+use Rattle.clauses.specs.FlatState.{widthsFrom, widthsOf, widthsIn, cut, slotsOf, readWidths, readSlots, Slotted}
 use Rattle.clauses.proofs.EmitWords.{code-no, code-yes, append-nil}
 use Rattle.clauses.proofs.EmitLists.{codes-take, codes-drop, codes-more, take-all, take-none, drop-none}
 
@@ -86,21 +87,79 @@ module _ (file : List ℕ) (nv nm : ℕ) where
   pub status-room : (m o : ℕ) → m < nm → o ≡ total (widthsFrom file 0 nv) + 4 * m → o + 4 ≤ total (widthsOf file nv nm)
   status-room m o h e = omega (arith, cut-room (widthsOf file nv nm) (nv + m) (omega (arith, widths-length)), status-width m h, status-start m h)
 
-module _ (file : List ℕ) (shape : Shape) (codes : List ℕ) where
+-- the slots that an expression reads, of the state or of the next one
+module _ (file : List ℕ) (shape : Shape) where
   abbrev nv : ℕ
   nv = shape .variables
 
   abbrev nm : ℕ
   nm = shape .matrices
 
-  -- the slot of a variable, or of a status
-  pub variable-slot : (v o w : ℕ) → v < nv → o ≡ total (widthsFrom file 0 v) → w ≡ widthAt file v → getD (slotsOf file shape codes) v [] ≡ take w (drop o (fromCodes codes))
-  unfolding slotsOf
-  variable-slot v o w h e q = cut-get (widthsIn file shape) v (fromCodes codes) (omega (arith, widths-length file nv nm)) ∙ ap₂ (λ (a b : ℕ). take a (drop b (fromCodes codes))) (variable-width file nv nm v h ∙ sym q) (variable-start file nv nm v h ∙ sym e)
+  abbrev ws : List ℕ
+  ws = widthsIn file shape
 
-  pub status-slot : (m o : ℕ) → m < nm → o ≡ total (widthsFrom file 0 nv) + 4 * m → getD (slotsOf file shape codes) (nv + m) [] ≡ take 4 (drop o (fromCodes codes))
+  read-slot : (codes : List ℕ) (later next : Bool) → (not next || later) ≡ true → (v : ℕ) → v < nv + nm
+      → getD (readSlots later file shape codes) (numberIn (layoutOf shape) next v) [] ≡ take (getD ws v 0) (drop (cond next (total ws) 0 + total (take v ws)) (fromCodes codes))
   unfolding slotsOf
-  status-slot m o h e = cut-get (widthsIn file shape) (nv + m) (fromCodes codes) (omega (arith, widths-length file nv nm)) ∙ ap₂ (λ (a b : ℕ). take a (drop b (fromCodes codes))) (status-width file nv nm m h) (status-start file nv nm m h ∙ sym e)
+  read-slot codes false false e v h =
+      cut-get ws v (fromCodes codes) (omega (arith, widths-length file nv nm)) ∙ ap (λ (k : ℕ). take (getD ws v 0) (drop k (fromCodes codes))) (let q : total (take v ws) ≡ 0 + total (take v ws) = omega arith in q)
+  read-slot codes true false e v h =
+      let l : v < length ws = omega (arith, widths-length file nv nm) in
+      let q : total (take v (ws ++ ws)) ≡ 0 + total (take v ws) = omega (arith, ap total (take-append-le v ws ws (omega arith))) in
+      cut-get (ws ++ ws) v (fromCodes codes) (omega (arith, length-append ws ws)) ∙ ap₂ (λ (a b : ℕ). take a (drop b (fromCodes codes))) (List·getD-append ws ws 0 v l) q
+  read-slot codes false true e v h = absurd (false≢true e)
+  read-slot codes true true e v h =
+      ap (λ (k : ℕ). getD (cut (ws ++ ws) (fromCodes codes)) (k + v) []) (sym (widths-length file nv nm))
+      ∙ cut-get (ws ++ ws) (length ws + v) (fromCodes codes) (omega (arith, length-append ws ws, widths-length file nv nm))
+      ∙ ap₂ (λ (a b : ℕ). take a (drop b (fromCodes codes))) (getD-append-add ws ws v 0) (ap total (take-append-add ws ws v) ∙ total-append ws (take v ws))
+
+  read-room : (next : Bool) (v : ℕ) → v < nv + nm → cond next (total ws) 0 + total (take v ws) + getD ws v 0 ≤ total (readWidths next file shape)
+  read-room false v h = omega (arith, cut-room ws v (omega (arith, widths-length file nv nm)))
+  read-room true v h = omega (arith, cut-room ws v (omega (arith, widths-length file nv nm)), total-append ws ws)
+
+  status-number : (next : Bool) (m : ℕ) → numberIn (layoutOf shape) next (nv + m) ≡ nv + numberIn (layoutOf shape) next m
+  status-number false m = refl
+  status-number true m = let q : nv + nm + (nv + m) ≡ nv + (nv + nm + m) = omega arith in q
+
+  -- who may read the next state may read the state
+  pub slotted-for : {codes : List ℕ} (next later : Bool) → (not next || later) ≡ true → Slotted later file shape codes → Slotted next file shape codes
+  slotted-for false false e s = s
+  slotted-for true true e s = s
+  slotted-for true false e s = absurd (false≢true e)
+  slotted-for false true e s =
+      record { kinds = s .kinds; variables = s .variables; matrices = s .matrices; sum = s .sum; few = s .few; bits = omega (arith, s .bits, total-append ws ws) }
+
+-- The slot of a variable, or of a status; f is where the state's bits begin, or the next one's.
+module _ {file : List ℕ} {shape : Shape} {codes : List ℕ} (next : Bool) (s : Slotted next file shape codes) {f : ℕ} (e : f ≡ cond next (shape .bits) 0) where
+  abbrev start : f ≡ cond next (total (widthsIn file shape)) 0
+  start = e ∙ ap (λ (k : ℕ). cond next k 0) (s .sum)
+
+  module _ {v o w : ℕ} (h : v < shape .variables) (q : o ≡ total (widthsFrom file 0 v)) (k : w ≡ widthAt file v) where
+    place : o ≡ total (take v (widthsIn file shape))
+    place = q ∙ sym (variable-start file (shape .variables) (shape .matrices) v h)
+
+    wide : w ≡ getD (widthsIn file shape) v 0
+    wide = k ∙ sym (variable-width file (shape .variables) (shape .matrices) v h)
+
+    pub variable-inside : f + o + w ≤ length codes
+    variable-inside = omega (arith, s .bits, read-room file shape next v (omega arith), start, place, wide)
+
+    pub variable-slot : (later : Bool) → (not next || later) ≡ true → getD (readSlots later file shape codes) (numberIn (layoutOf shape) next v) [] ≡ take w (drop (f + o) (fromCodes codes))
+    variable-slot later l = read-slot file shape codes later next l v (omega arith) ∙ ap₂ (λ (a b : ℕ). take a (drop b (fromCodes codes))) (sym wide) (sym (ap₂ _+_ start place))
+
+  module _ {m o : ℕ} (h : m < shape .matrices) (q : o ≡ total (widthsFrom file 0 (shape .variables)) + 4 * m) where
+    status-place : o ≡ total (take (shape .variables + m) (widthsIn file shape))
+    status-place = q ∙ sym (status-start file (shape .variables) (shape .matrices) m h)
+
+    pub status-inside : f + o + 4 ≤ length codes
+    status-inside =
+        omega (arith, s .bits, read-room file shape next (shape .variables + m) (omega arith), start, status-place, status-width file (shape .variables) (shape .matrices) m h)
+
+    pub status-slot : (later : Bool) → (not next || later) ≡ true → getD (readSlots later file shape codes) (shape .variables + numberIn (layoutOf shape) next m) [] ≡ take 4 (drop (f + o) (fromCodes codes))
+    status-slot later l =
+        ap (λ (k : ℕ). getD (readSlots later file shape codes) k []) (sym (status-number file shape next m))
+        ∙ read-slot file shape codes later next l (shape .variables + m) (omega arith)
+        ∙ ap₂ (λ (a b : ℕ). take a (drop b (fromCodes codes))) (status-width file (shape .variables) (shape .matrices) m h) (sym (ap₂ _+_ start status-place))
 
 pub integer-width : (file : List ℕ) (v : ℕ) → getD file (3 * v) 0 ≡ 1 → _≡_ {A = ℕ} 16 (cond (eqb (getD file (3 * v) 0) 1) 16 1)
 integer-width file v e = ap {B = ℕ} (λ (t : Bool). cond t 16 1) (sym (eq-eqb (getD file (3 * v) 0) 1 e))

@@ -1,7 +1,7 @@
 -- The flat state: a slot set, and all bits muxed. Assumes nothing.
 use Prim.Native.Nat.{ℕ, zero, suc, _+_, _-_, _*_, _<_, _≤_}
 use mathlib.Core.Path.{_≡_, refl, sym, ap, ap₂, _∙_}
-use mathlib.Core.Bool.{cond}
+use mathlib.Core.Bool.{Bool, cond}
 use mathlib.Core.List.{List, [], _∷_, _++_, append-assoc}
 use native.Mathlib.Omega.{arith}
 use native.Mathlib.Numerals.{add-one}
@@ -214,7 +214,7 @@ module _ (T : ℕ) (c : Literal) (a b : List ℕ) (p : T ≤ length a) (q : T �
       let e : cut ws (fromCodes s) ≡ cut ws (fromCodes (take T s)) = cut-take ws (fromCodes s) (omega (arith, codes-length s, l .size)) ∙ ap (cut ws) (ap (λ (k : ℕ). take k (fromCodes s)) (sym z) ∙ sym (codes-take T s)) in
       emits-result _ (sym e) w4
 
-pub slotted-again : {file : List ℕ} {shape : Shape} {a b : List ℕ} → Slotted file shape a → length a ≡ length b → Slotted file shape b
+pub slotted-again : {later : Bool} {file : List ℕ} {shape : Shape} {a b : List ℕ} → Slotted later file shape a → length a ≡ length b → Slotted later file shape b
 slotted-again s e = record { kinds = s .kinds; variables = s .variables; matrices = s .matrices; sum = s .sum; few = s .few; bits = omega (arith, s .bits) }
 
 -- a variable's slot set; v′ is what the code read

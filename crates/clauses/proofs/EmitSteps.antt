@@ -15,9 +15,9 @@ use Rattle.design.specs.Tree.{BoolExpr, constantB, done, Cell, InvalidCell, Des
 use Rattle.design.specs.Limits.{maxBytes, maxMovers, maxDepth}
 use Rattle.design.specs.State.{Layout, layout}
 use Rattle.design.specs.Reading.{got}
-use Rattle.design.specs.Expression.{boolExpr}
+use Rattle.design.specs.Expression.{withLater, boolExpr}
 use Rattle.design.specs.DesignFile.{Entry, normal, invalid, c-matrix, c-status, c-event, c-kind, c-past}
-use Rattle.design.specs.Check.{namesOf, trailer, variableCount, matricesOffset, cellsOffset, cellCount, invariantOffset, invalids, names, eventIn}
+use Rattle.design.specs.Check.{namesOf, hasConstraint, itemsEnd, constraintOffset, variableCount, matricesOffset, cellsOffset, cellCount, invariantOffset, invalids, names, eventIn}
 use Rattle.design.specs.Places.{pastCells, normalPlaces, CellsIndexed}
 use Rattle.design.specs.Sections.{Parts, EntryRead, Standing, CellFields}
 use Rattle.design.proofs.Widths.{layout-is as layout-by-counts}
@@ -32,19 +32,20 @@ use Rattle.clauses.specs.Literal.{Literal, negate, trueLiteral}
 use Rattle.clauses.specs.Circuit.{Build, give, _>>=_, and! }
 use Rattle.clauses.specs.Expression.{Slots, bool! }
 use Rattle.clauses.specs.Action.{statusAndEvent!, mover!, movers!, noInvalid! }
-use Rattle.clauses.specs.Formula.{property! }
+use Rattle.clauses.specs.Formula.{property!, stepProperty! }
 use Rattle.clauses.specs.Writing.{fromCode, Emits}
 use Rattle.clauses.specs.Piece.{link! }
-use Rattle.clauses.specs.FlatState.{slotsOf, layoutOf}
+use Rattle.clauses.specs.FlatState.{slotsOf, readSlots, layoutOf}
 use Rattle.clauses.specs.Ready.{ShapedFile, resultFrom}
-use Rattle.clauses.specs.Encoders.{Writes, BoolHere, BoolEncoded}
+use Rattle.clauses.specs.Encoders.{Writes, Gives, BoolHere, BoolEncoded}
 use Rattle.clauses.specs.declared.gate.Cursor.{Cursor}
+use Rattle.clauses.specs.declared.gate.Out.{Out}
 use Rattle.clauses.specs.declared.expression.BoolOut.{BoolOut}
 use Rattle.clauses.proofs.EmitWords.{append-nil}
 use Rattle.clauses.proofs.EmitLists.{drop-all}
 use Rattle.clauses.proofs.EmitBuilds.{emits-same, emits-result, emits-give, emits-bind, Left, left-start, left-on, left-map, left-same, left-result, left-end}
 use Rattle.clauses.proofs.EmitStates.{built-same}
-use Rattle.clauses.proofs.CellCounts.{sizes}
+use Rattle.clauses.proofs.CellCounts.{sizes, expressions-inside}
 
 -- every external's kind byte is 2
 kind-in : (file : List ℕ) (v : ℕ) (rest : List ℕ) → ((k : ℕ) → k < length rest → getD file (3 * getD rest k 0) 0 ≡ 2) → (t : Bool) → eqb (getD file (3 * v) 0) 2 ≡ t → (k : ℕ) → k < length (cond t (v ∷ rest) rest) → getD file (3 * getD (cond t (v ∷ rest) rest) k 0) 0 ≡ 2
@@ -254,7 +255,7 @@ module _ (file : List ℕ) (shape : Shape) (codes : List ℕ) where
   scan-fields d w p i h e = subst (CellFields file) (sym e) (cell-fields file (eventIn (w .rows)) (pastCells file i (cellsOffset file)) (getD (w .entries) i none) (here d w i h))
 
   -- a cell and the cells after it
-  link-is : (l : Layout) (s : Slots) (c : Literal) (f : ℕ → ℕ → BoolExpr) (p : ℕ) (x : Entry) (xs : List Entry) → EntryRead file (trailer file) (names file) (matricesOffset file) f p (c-kind file p) x → (n : ℕ)
+  link-is : (l : Layout) (s : Slots) (c : Literal) (f : ℕ → ℕ → BoolExpr) (p : ℕ) (x : Entry) (xs : List Entry) → EntryRead file (itemsEnd file) (names file) (matricesOffset file) f p (c-kind file p) x → (n : ℕ)
       → noInvalid! l s c (invalids (x ∷ xs)) n ≡ (link! l s c (c-kind file p) (c-matrix file p) (c-status file p) (f (c-matrix file p) (c-event file p)) >>= (λ (y : Literal). noInvalid! l s y (invalids xs))) n
   unfolding noInvalid! link! _>>=_ give
   link-is l s c f p (normal q) xs r n = ap (λ (t : Bool). (cond t (give c) (statusAndEvent! l s (c-matrix file p) (c-status file p) (f (c-matrix file p) (c-event file p)) >>= (λ (x : Literal). and! c (negate x))) >>= (λ (y : Literal). noInvalid! l s y (invalids xs))) n) (sym (eq-eqb _ _ (r .0)))
@@ -290,37 +291,89 @@ module _ (file : List ℕ) (shape : Shape) (codes : List ℕ) where
   unfolding noInvalid!
   scanning-end part {n = n} {i = i} h k d w = left-end part (left-same _ _ (ap (λ (es : List Entry). noInvalid! (layoutOf shape) SL part (invalids es) n) (drop-all (w .entries) i (omega (arith, w .cell-count)))) (k .left d w))
 
--- the invariant, and the layout
-module _ {file : List ℕ} {shape : Shape} (h : ShapedFile file shape) where
-  pub invariant-got : (d : Design) (w : Parts file d) (at end : ℕ) → at ≡ invariantOffset file → end ≡ trailer file → boolExpr file (namesOf file shape) end maxDepth at ≡ got (d .invariant) end
-  invariant-got d w at end a e = indexed.invariant-got file (h .accepted) shape (h .counts) at end a e d w
+-- where a property has no gates
+pub gives-true : (b : Build Literal) → b ≡ give trueLiteral → {pen : Cursor} {xs : List ℤ} (r : Out) → (fromCode (r .lit) ≡ trueLiteral) × (r .cur ≡ pen .cur) × (r .var ≡ pen .var) → Gives pen b xs xs r
+gives-true b e {pen} {xs} r (l, c, v) =
+    let one = emits-same _ _ (ap (λ (x : Build Literal). x (pen .var)) (sym e)) (emits-give (pen .var) trueLiteral xs (pen .cur)) in
+    emits-result _ (sym l)
+    (subst (λ (k : ℕ). Emits (pen .var) (b (pen .var)) xs xs (pen .cur) trueLiteral (r .cur) k) (sym v)
+    (subst (λ (k : ℕ). Emits (pen .var) (b (pen .var)) xs xs (pen .cur) trueLiteral k (pen .var)) (sym c) one))
 
+module _ (d : Design) (s : Slots) where
+  pub property-none : (p : ℕ) → (p ≡ 0 → ⊥) → (p ≡ 1 → ⊥) → property! d (propertyOf d p) s ≡ give trueLiteral
+  unfolding property! propertyOf
+  property-none zero h z = absurd (h refl)
+  property-none (suc zero) h z = absurd (z refl)
+  property-none (suc (suc p)) h z = refl
+
+  module _ (next : Slots) where
+    pub step-property-none : (p : ℕ) → p < 2 → stepProperty! d (propertyOf d p) s next ≡ give trueLiteral
+    unfolding stepProperty! propertyOf
+    step-property-none zero h = refl
+    step-property-none (suc zero) h = refl
+    step-property-none (suc (suc p)) h = absurd (omega arith)
+
+    pub step-property-is : (p : ℕ) → 2 ≤ p → stepProperty! d (propertyOf d p) s next ≡ bool! (layout d) (s ++ next) (d .constraint)
+    unfolding stepProperty! propertyOf
+    step-property-is zero h = absurd (omega arith)
+    step-property-is (suc zero) h = absurd (omega arith)
+    step-property-is (suc (suc p)) h = refl
+
+    -- a file without a constraint
+    pub step-property-true : (p : ℕ) → 2 ≤ p → d .constraint ≡ constantB true → stepProperty! d (propertyOf d p) s next ≡ give trueLiteral
+    unfolding bool!
+    step-property-true p h e = step-property-is p h ∙ ap (bool! (layout d) (s ++ next)) e
+
+-- the expressions of an accepted file, and the layout
+module _ {file : List ℕ} {shape : Shape} (h : ShapedFile file shape) where
   pub layout-is : (d : Design) (w : Parts file d) → layout d ≡ layoutOf shape
   layout-is d w = sym (layout-by-counts file d w (shape .variables) (shape .matrices) (h .counts .variables) (h .counts .matrices))
 
-  pub property-0 : (d : Design) (w : Parts file d) (p : ℕ) (s : Slots) (n : ℕ) → p ≡ 0 → bool! (layoutOf shape) s (d .invariant) n ≡ property! d (propertyOf d p) s n
+  property-0 : (d : Design) (w : Parts file d) (p : ℕ) (s : Slots) (n : ℕ) → p ≡ 0 → bool! (layoutOf shape) s (d .invariant) n ≡ property! d (propertyOf d p) s n
   unfolding property! propertyOf
   property-0 d w zero s n e = ap (λ (l : Layout). bool! l s (d .invariant) n) (sym (layout-is d w))
   property-0 d w (suc p) s n e = absurd (omega arith)
 
-  pub property-1 : (d : Design) (w : Parts file d) (p : ℕ) (s : Slots) (n : ℕ) → (p ≡ 0 → ⊥) → noInvalid! (layoutOf shape) s trueLiteral (d .invalid) n ≡ property! d (propertyOf d p) s n
+  pub property-1 : (d : Design) (w : Parts file d) (p : ℕ) (s : Slots) (n : ℕ) → p ≡ 1 → noInvalid! (layoutOf shape) s trueLiteral (d .invalid) n ≡ property! d (propertyOf d p) s n
   unfolding property! propertyOf
-  property-1 d w zero s n e = absurd (e refl)
-  property-1 d w (suc p) s n e = ap (λ (l : Layout). noInvalid! l s trueLiteral (d .invalid) n) (sym (layout-is d w))
+  property-1 d w zero s n e = absurd (omega arith)
+  property-1 d w (suc zero) s n e = ap (λ (l : Layout). noInvalid! l s trueLiteral (d .invalid) n) (sym (layout-is d w))
+  property-1 d w (suc (suc p)) s n e = absurd (omega arith)
 
   pub cell-in : (p i : ℕ) → i < cellCount file → p ≡ pastCells file i (cellsOffset file) → CellFields file p
   cell-in p i l e = let t = read file (h .accepted) in scan-fields file shape [] (t .tree) (t .all .parts) p i l e
 
   -- the invariant's gates
-  pub invariant-here : (at : ℕ) → at ≡ invariantOffset file → BoolHere file file shape at
-  invariant-here at a =
-      let t = read file (h .accepted) in
-      record { end = trailer file; levels = maxDepth; inside = omega (arith, sizes h); read = record { tree = t .tree .invariant; past = trailer file; reads = invariant-got (t .tree) (t .all .parts) at (trailer file) a refl } }
+  module _ (at : ℕ) (a : at ≡ invariantOffset file) where
+    invariant-got : (d : Design) (w : Parts file d) → boolExpr file (namesOf file shape) (constraintOffset file) maxDepth at ≡ got (d .invariant) (constraintOffset file)
+    invariant-got = indexed.invariant-got file (h .accepted) shape (h .counts) at (constraintOffset file) a refl
 
-  pub invariant-writes : (at p : ℕ) → at ≡ invariantOffset file → p ≡ 0 → (codes : List ℕ) {pen : Cursor} {xs ys : List ℤ} (r : BoolOut) → BoolEncoded file file shape codes at pen xs ys r
-      → (d : Design) (w : Parts file d) → Writes pen (property! d (propertyOf d p) (slotsOf file shape codes)) xs ys (fromCode (r .lit)) (r .pen)
-  invariant-writes at p a z codes {pen = pen} r k d w =
-      emits-same _ _ (property-0 d w p (slotsOf file shape codes) (pen .var) z) (k .encodes (trailer file) maxDepth _ _ (omega (arith, sizes h)) (invariant-got d w at (trailer file) a refl) .0)
+    pub invariant-here : BoolHere file file shape false at
+    invariant-here =
+        let t = read file (h .accepted) in
+        record { end = constraintOffset file; levels = maxDepth; inside = omega (arith, expressions-inside h); read = record { tree = t .tree .invariant; past = constraintOffset file; reads = invariant-got (t .tree) (t .all .parts) } }
+
+    pub invariant-writes : (p : ℕ) → p ≡ 0 → (codes : List ℕ) {pen : Cursor} {xs ys : List ℤ} (r : BoolOut) → BoolEncoded file file shape false codes at pen xs ys r
+        → (d : Design) (w : Parts file d) → Writes pen (property! d (propertyOf d p) (slotsOf file shape codes)) xs ys (fromCode (r .lit)) (r .pen)
+    invariant-writes p z codes {pen = pen} r k d w =
+        emits-same _ _ (property-0 d w p (slotsOf file shape codes) (pen .var) z) (k .encodes (constraintOffset file) maxDepth _ _ (omega (arith, expressions-inside h)) (invariant-got d w) .0)
+
+  -- the constraint's gates, over two states
+  module _ (c : hasConstraint file ≡ true) (at : ℕ) (a : at ≡ constraintOffset file) where
+    constraint-got : (d : Design) (w : Parts file d) → boolExpr file (withLater true (namesOf file shape)) (itemsEnd file) maxDepth at ≡ got (d .constraint) (itemsEnd file)
+    constraint-got d w = indexed.constraint-got file (h .accepted) shape (h .counts) at (itemsEnd file) a refl d w c
+
+    pub constraint-here : BoolHere file file shape true at
+    constraint-here =
+        let t = read file (h .accepted) in
+        record { end = itemsEnd file; levels = maxDepth; inside = omega arith; read = record { tree = t .tree .constraint; past = itemsEnd file; reads = constraint-got (t .tree) (t .all .parts) } }
+
+    pub constraint-writes : (p : ℕ) → 2 ≤ p → (codes : List ℕ) {pen : Cursor} {xs ys : List ℤ} (r : BoolOut) → BoolEncoded file file shape true codes at pen xs ys r
+        → (d : Design) (w : Parts file d) (s next : Slots) → readSlots true file shape codes ≡ s ++ next → Writes pen (stepProperty! d (propertyOf d p) s next) xs ys (fromCode (r .lit)) (r .pen)
+    constraint-writes p l codes {pen = pen} r k d w s next e =
+        emits-same _ _
+        (ap₂ (λ (x : Layout) (y : Slots). bool! x y (d .constraint) (pen .var)) (sym (layout-is d w)) e ∙ ap (λ (b : Build Literal). b (pen .var)) (sym (step-property-is d s next p l)))
+        (k .encodes (itemsEnd file) maxDepth _ _ (omega arith) (constraint-got d w) .0)
 
   pub mover-total : {cells : List ℕ} → CellsIndexed file cells (shape .normals) → (d : Design) (w : Parts file d) → length (movers d) ≡ shape .normals + shape .externals
   mover-total x d w = omega (arith, mover-count file d w, x .count, h .externals, ap (λ (n : ℕ). length (externalsFrom file 0 n)) (h .counts .variables))

@@ -56,7 +56,7 @@ module _ (file : List ℕ) (p k i : ℕ) (buffer : List ℤ) where
   encode-refused r e z = exits (refused (r .number) (r .place)) (gate-refuses file p k asked r e z)
 
   module _ (h : Accepted file) where
-    module _ (a : p ≤ lastProperty) (b : k ≤ maxBound) where
+    module _ (a : p ≤ lastProperty file) (b : k ≤ maxBound) where
       here : wordsToWrite file p k i (length buffer) ≡ asked (read file h .tree) (propertyOf (read file h .tree) p)
       unfolding wordsToWrite
       here = in-range file p k asked h a b

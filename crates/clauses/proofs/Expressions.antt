@@ -2,7 +2,7 @@
 -- state that the assignment gives the literals.
 use mathlib.Core.Path.{_≡_, refl, sym, ap, ap₂, _∙_}
 use mathlib.Core.Bool.{Bool, true, false, not, _&&_, _||_}
-use mathlib.Core.List.{List, [], _∷_, map}
+use mathlib.Core.List.{List, [], _∷_, _++_, map, map-append}
 use Prim.Native.Nat.{ℕ, zero, suc, _+_, _-_, _*_, _/_, _^_, _%_, _<_, _≤_}
 use native.Mathlib.Nat.{pow-suc}
 use native.Mathlib.Omega.{arith}
@@ -101,6 +101,24 @@ pub record Fits (ws : List ℕ) (n : ℕ) (s : Slots) : Type 0 where
 pub fits-up : {ws : List ℕ} {n k : ℕ} {s : Slots} → n ≤ k → Fits ws n s → Fits ws k s
 fits-up {s = s} h f = record { narrow = f .narrow; known = omega (arith, f .known); below = slots-up h s (f .below); wide = f .wide }
 
+-- two states in literals, one behind the other
+narrow-append : (ws us : List ℕ) → Narrow ws → Narrow us → Narrow (ws ++ us)
+narrow-append [] us p q = q
+narrow-append (w ∷ ws) us p q = (p .0, narrow-append ws us (p .1) q)
+
+slots-append : (n : ℕ) (s u : Slots) → SlotsBelow n s → SlotsBelow n u → SlotsBelow n (s ++ u)
+slots-append n [] u p q = q
+slots-append n (g ∷ gs) u p q = (p .0, slots-append n gs u (p .1) q)
+
+pub fits-append : {ws us : List ℕ} {n : ℕ} {s u : Slots} → Fits ws n s → Fits us n u → Fits (ws ++ us) n (s ++ u)
+fits-append {ws = ws} {us = us} {n = n} {s = s} {u = u} f g =
+    record {
+      narrow = narrow-append ws us (f .narrow) (g .narrow);
+      known = f .known;
+      below = slots-append n s u (f .below) (g .below);
+      wide = map-append length s u ∙ ap₂ _++_ (f .wide) (g .wide);
+    }
+
 width-at : (ws : List ℕ) (n : ℕ) (s : Slots) (v : ℕ) → Fits ws n s → length (getD s v []) ≡ getD ws v 0
 width-at ws n s v f = sym (List·getD-map length s v []) ∙ ap (λ l. getD l v 0) (f .wide)
 
@@ -169,7 +187,7 @@ module _ (ws : List ℕ) (l : Layout) (s : Slots) where
       → Correct n (bool! l s e n) LiteralBelow (λ ρ r. literalTrue ρ r ≡ evalBool l (stateOf ρ s) e)
   unfolding bool! evalBool
   bool-correct (constantB b) n f k = correct-give _ (literalOf-below n b (f .known)) λ ρ one. literalOf-true ρ one b
-  bool-correct (variableB v) n f k = correct-give _ (boolean-below v f) λ ρ one. boolean-value ws n s v f (k .width) ρ
+  bool-correct (variableB v) n f k = correct-give _ (boolean-below v f) λ ρ one. boolean-value ws n s v f k ρ
   bool-correct (notB a) n f k =
       correct-bind _ _ (bool-correct a n f k) λ x n₁ l₁ bx.
       correct-give _ (negate-below n₁ x bx) λ ρ one ex. negate-true ρ x ∙ ap not ex

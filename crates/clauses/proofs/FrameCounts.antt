@@ -14,12 +14,12 @@ use Rattle.design.specs.Sections.{Parts}
 use Rattle.design.specs.declared.shape.Shape.{Shape}
 use Rattle.design.proofs.Sections.{whole}
 use Rattle.design.proofs.Places.{read}
-use Rattle.step.specs.Property.{propertyOf}
+use Rattle.step.specs.Property.{Property, invariant, noInvalidCell, constraint, propertyOf}
 use Rattle.design.specs.Places.{externalsFrom}
 use Rattle.design.proofs.Externals.{raises, mover-count}
 use Rattle.clauses.specs.Formula.{S, w}
-use Rattle.clauses.specs.Cost.{Cost, cost, addCosts, boolCost, statusAndEventCost, enableCost, effectCost, moverCost, moversCost, invalidCost, propertyCost, stepCost}
-use Rattle.clauses.specs.FrameSizes.{entriesCost, HasGates, frameSizes, SmallFrame}
+use Rattle.clauses.specs.Cost.{Cost, cost, addCosts, boolCost, statusAndEventCost, enableCost, effectCost, moverCost, moversCost, invalidCost, propertyCost, stepPropertyCost, stepCost}
+use Rattle.clauses.specs.FrameSizes.{entriesCost, HasGates, lastFrames, frameSizes, SmallFrame}
 use Rattle.clauses.specs.Limits.{mostGates}
 use Rattle.clauses.specs.declared.cost.GatesAt.{GatesAt}
 use Rattle.clauses.specs.declared.frame.FrameSizes.{FrameSizes}
@@ -80,20 +80,21 @@ module _ (file : List ℕ) (d : Design) (w : Parts file d) (bits : ℕ) (b : bit
   raises-are : moversCost (S d) (externals 0 (d .variables)) ≡ moversCost bits (map raise raised)
   raises-are = ap (moversCost (S d)) (raises file d w) ∙ ap (λ (k : ℕ). moversCost k (map raise raised)) (sym b)
 
-  pub step-ands : stepCost d .ands ≡ cellsCost .ands
+  pub step-ands : (p : Property) → stepCost d p .ands ≡ cellsCost .ands + stepPropertyCost p .ands
   unfolding stepCost movers
-  step-ands =
+  step-ands p =
       omega (arith, movers-ands (S d) (map cell (d .cells)) (externals 0 (d .variables)), ap (λ (x : Cost). x .ands) cells-are, ap (λ (x : Cost). x .ands) raises-are, raises-ands bits raised)
 
-  pub step-wides : stepCost d .wides ≡ cellsCost .wides + length raised * bits
+  pub step-wides : (p : Property) → stepCost d p .wides ≡ cellsCost .wides + length raised * bits + stepPropertyCost p .wides
   unfolding stepCost movers
-  step-wides =
+  step-wides p =
       omega (arith, movers-wides (S d) (map cell (d .cells)) (externals 0 (d .variables)), ap (λ (x : Cost). x .wides) cells-are, ap (λ (x : Cost). x .wides) raises-are, raises-wides bits raised)
 
-  pub property-cells : (p : ℕ) → (p ≡ 0 → ⊥) → propertyCost d (propertyOf d p) ≡ entriesCost bits true (w .entries)
+  pub property-cells : (p : ℕ) → p ≡ 1 → propertyCost d (propertyOf d p) ≡ entriesCost bits true (w .entries)
   unfolding propertyCost propertyOf
-  property-cells zero z = absurd (z refl)
-  property-cells (suc p) z = ap invalidCost (w .invalid) ∙ sym (entries-invalid bits (w .entries))
+  property-cells zero z = absurd (omega arith)
+  property-cells (suc zero) z = ap invalidCost (w .invalid) ∙ sym (entries-invalid bits (w .entries))
+  property-cells (suc (suc p)) z = absurd (omega arith)
 
   pub property-invariant : (p : ℕ) → p ≡ 0 → propertyCost d (propertyOf d p) ≡ boolCost (d .invariant)
   unfolding propertyCost propertyOf
@@ -102,27 +103,67 @@ module _ (file : List ℕ) (d : Design) (w : Parts file d) (bits : ℕ) (b : bit
 
   pub entries-few : Bounded d → (t : Bool) → (entriesCost bits t (w .entries) .ands ≤ mostGates) × (entriesCost bits t (w .entries) .wides ≤ mostGates)
   entries-few k false =
-      (omega (arith, step-ands, k .gates 0), omega (arith, step-wides, k .gates 0))
+      let e = propertyOf d 0 in
+      (omega (arith, step-ands e, k .gates 0), omega (arith, step-wides e, k .gates 0))
   entries-few k true =
-      let e = property-cells 1 (λ z. omega arith) in
+      let e = property-cells 1 refl in
       (omega (arith, ap (λ (x : Cost). x .ands) e, k .gates 1), omega (arith, ap (λ (x : Cost). x .wides) e, k .gates 1))
+
+-- which properties have gates in a frame's state, and in the step out of it, and whether the last clause takes the last frame
+module _ (d : Design) where
+  pub property-none : (p : ℕ) → (p ≡ 0 → ⊥) → (p ≡ 1 → ⊥) → propertyCost d (propertyOf d p) ≡ cost 0 0
+  unfolding propertyCost propertyOf
+  property-none zero h z = absurd (h refl)
+  property-none (suc zero) h z = absurd (z refl)
+  property-none (suc (suc p)) h z = refl
+
+  pub step-property-none : (p : ℕ) → p < 2 → stepPropertyCost (propertyOf d p) ≡ cost 0 0
+  unfolding stepPropertyCost propertyOf
+  step-property-none zero h = refl
+  step-property-none (suc zero) h = refl
+  step-property-none (suc (suc p)) h = absurd (omega arith)
+
+  pub step-property-cost : (p : ℕ) → 2 ≤ p → stepPropertyCost (propertyOf d p) ≡ boolCost (d .constraint)
+  unfolding stepPropertyCost propertyOf
+  step-property-cost zero h = absurd (omega arith)
+  step-property-cost (suc zero) h = absurd (omega arith)
+  step-property-cost (suc (suc p)) h = refl
+
+  pub last-one : (p : ℕ) → p < 2 → 1 ≡ lastFrames (propertyOf d p)
+  unfolding propertyOf
+  last-one zero h = refl
+  last-one (suc zero) h = refl
+  last-one (suc (suc p)) h = absurd (omega arith)
+
+  pub last-none : (p : ℕ) → 2 ≤ p → 0 ≡ lastFrames (propertyOf d p)
+  unfolding propertyOf
+  last-none zero h = absurd (omega arith)
+  last-none (suc zero) h = absurd (omega arith)
+  last-none (suc (suc p)) h = refl
+
+last-few : (p : Property) → lastFrames p ≤ 1
+last-few (invariant e) = omega arith
+last-few noInvalidCell = omega arith
+last-few (constraint e) = omega arith
 
 frame-bound : (d : Design) (prop : ℕ) → Bounded d → SmallFrame (frameSizes d (propertyOf d prop))
 unfolding frameSizes
-frame-bound d prop k = record { bits = k .bits; movers = k .movers; gates = k .gates prop }
+frame-bound d prop k = record { bits = k .bits; movers = k .movers; gates = k .gates prop; last = last-few (propertyOf d prop) }
 
 -- the sizes of a frame, from what the loops answer
-abbrev frameOf : ℕ → ℕ → ℕ → ℕ → ℕ → ℕ → FrameSizes
-frameOf bits m a b x y = record { bits = bits; movers = m; property = record { ands = a; wides = b }; step = record { ands = x; wides = y } }
+abbrev frameOf : ℕ → ℕ → ℕ → ℕ → ℕ → ℕ → ℕ → FrameSizes
+frameOf bits m a b x y l = record { bits = bits; movers = m; property = record { ands = a; wides = b }; step = record { ands = x; wides = y }; last = l }
 
-frame-same : {bits bits′ m m′ a a′ b b′ x x′ y y′ : ℕ} → bits ≡ bits′ → m ≡ m′ → a ≡ a′ → b ≡ b′ → x ≡ x′ → y ≡ y′ → frameOf bits m a b x y ≡ frameOf bits′ m′ a′ b′ x′ y′
-frame-same {bits} {bits′} {m} {m′} {a} {a′} {b} {b′} {x} {x′} {y} {y′} e₁ e₂ e₃ e₄ e₅ e₆ =
-    ap₂ (λ (i j : ℕ). frameOf i j a b x y) e₁ e₂ ∙ ap₂ (λ (i j : ℕ). frameOf bits′ m′ i j x y) e₃ e₄ ∙ ap₂ (λ (i j : ℕ). frameOf bits′ m′ a′ b′ i j) e₅ e₆
+frame-same : {bits bits′ m m′ a a′ b b′ x x′ y y′ l l′ : ℕ} → bits ≡ bits′ → m ≡ m′ → a ≡ a′ → b ≡ b′ → x ≡ x′ → y ≡ y′ → l ≡ l′ → frameOf bits m a b x y l ≡ frameOf bits′ m′ a′ b′ x′ y′ l′
+frame-same {bits} {bits′} {m} {m′} {a} {a′} {b} {b′} {x} {x′} {y} {y′} {l} {l′} e₁ e₂ e₃ e₄ e₅ e₆ e₇ =
+    ap₂ (λ (i j : ℕ). frameOf i j a b x y l) e₁ e₂ ∙ ap₂ (λ (i j : ℕ). frameOf bits′ m′ i j x y l) e₃ e₄ ∙ ap₂ (λ (i j : ℕ). frameOf bits′ m′ a′ b′ i j l) e₅ e₆
+    ∙ ap (frameOf bits′ m′ a′ b′ x′ y′) e₇
 
-module _ (file : List ℕ) (h : Accepted file) (H : Shape) (normals : ℕ) (m : Measured file normals H) (p s : GatesAt) (t prop : ℕ) (cs : List ℕ) (c : CellsIndexed file cs normals)
-    (hp : (d : Design) → Parts file d → HasGates p (propertyCost d (propertyOf d prop))) (hs : (d : Design) (w : Parts file d) → HasGates s (entriesCost (H .bits) false (w .entries))) (ht : t ≡ H .externals * H .bits) where
+module _ (file : List ℕ) (h : Accepted file) (H : Shape) (normals : ℕ) (m : Measured file normals H) (p s q : GatesAt) (t prop last : ℕ) (cs : List ℕ) (c : CellsIndexed file cs normals)
+    (hp : (d : Design) → Parts file d → HasGates p (propertyCost d (propertyOf d prop))) (hs : (d : Design) (w : Parts file d) → HasGates s (entriesCost (H .bits) false (w .entries))) (hq : (d : Design) → Parts file d → HasGates q (stepPropertyCost (propertyOf d prop)))
+    (ht : t ≡ H .externals * H .bits) (hl : (d : Design) → last ≡ lastFrames (propertyOf d prop)) where
   abbrev made : FrameSizes
-  made = frameOf (H .bits) (H .normals + H .externals) (p .ands) (p .wides) (s .ands) (s .wides + t)
+  made = frameOf (H .bits) (H .normals + H .externals) (p .ands) (p .wides) (s .ands + q .ands) (s .wides + t + q .wides) last
 
   raised-is : H .externals ≡ length (externalsFrom file 0 (variableCount file))
   raised-is = m .externals ∙ ap (λ (k : ℕ). length (externalsFrom file 0 k)) (m .shaped .variables)
@@ -134,11 +175,12 @@ module _ (file : List ℕ) (h : Accepted file) (H : Shape) (normals : ℕ) (m : 
       let b = m .bits .state d w in
       let g = hp d w in
       let i = hs d w in
-      let q : H .normals + H .externals ≡ length (movers d) = omega (arith, mover-count file d w, m .normals, c .count, raised-is) in
+      let j = hq d w in
+      let n : H .normals + H .externals ≡ length (movers d) = omega (arith, mover-count file d w, m .normals, c .count, raised-is) in
       let z : H .externals * H .bits ≡ length (externalsFrom file 0 (variableCount file)) * H .bits = ap (λ (k : ℕ). k * H .bits) raised-is in
-      let x : s .ands ≡ stepCost d .ands = i .ands ∙ sym (step-ands file d w (H .bits) b) in
-      let y : s .wides + t ≡ stepCost d .wides = omega (arith, i .wides, step-wides file d w (H .bits) b) in
-      frame-same b q (g .ands) (g .wides) x y
+      let x : s .ands + q .ands ≡ stepCost d (propertyOf d prop) .ands = omega (arith, i .ands, j .ands, step-ands file d w (H .bits) b (propertyOf d prop)) in
+      let y : s .wides + t + q .wides ≡ stepCost d (propertyOf d prop) .wides = omega (arith, i .wides, j .wides, step-wides file d w (H .bits) b (propertyOf d prop)) in
+      frame-same b n (g .ands) (g .wides) x y (hl d)
 
   pub frame-small : ((i : ℕ) → getD file i 0 < 256) → SmallFrame made
   frame-small bytes =

@@ -3,19 +3,21 @@ use mathlib.Core.Path.{_≡_, refl, sym, ap, ap₂, _∙_}
 use Prim.Native.Nat.{ℕ, zero, suc, _+_, _*_, _-_, _/_, _≤_, _<_}
 use native.Mathlib.Omega.{arith}
 use native.Mathlib.Nat.{mul-le-mul}
+use mathlib.Core.Bool.{cond}
+use lib.Dec.{leb, ltb}
 use lib.ListN.{length}
 use borrow.Author.Tests.{le-leb, lt-leb, le-ltb, lt-ltb}
 use Rattle.design.specs.Tree.{Design}
 use Rattle.design.specs.WellFormed.{WellFormed}
-use Rattle.step.specs.Property.{Property}
+use Rattle.step.specs.Property.{Property, invariant, noInvalidCell, constraint}
 use Rattle.design.specs.Limits.{maxMovers, maxBits}
 use Rattle.clauses.specs.Words.{words}
 use Rattle.clauses.specs.Writing.{variableLimit}
 use Rattle.step.specs.Limits.{maxBound}
 use Rattle.clauses.specs.Limits.{frameLimit, countLimit, sizeLimit}
-use Rattle.clauses.specs.Formula.{S, w, F, n, part}
-use Rattle.clauses.specs.Cost.{gatesIn, clausesIn, wordsIn, pairCount, firstWords, stepWordCount, partWordCount}
-use Rattle.clauses.specs.FrameSizes.{costIn, frameSizes, SmallFrame, frameLength, stepClausesOf, stepWordsOf, partWordsOf, variablesOf, formulaSizes}
+use Rattle.clauses.specs.Formula.{S, w, F, n, part, framesTaken}
+use Rattle.clauses.specs.Cost.{gatesIn, clausesIn, wordsIn, pairCount, propertyCost, firstWords, stepWordCount, partWordCount}
+use Rattle.clauses.specs.FrameSizes.{costIn, lastFrames, frameSizes, SmallFrame, frameLength, stepClausesOf, stepWordsOf, partWordsOf, variablesOf, formulaSizes}
 use Rattle.clauses.specs.declared.frame.FrameSizes.{FrameSizes}
 use Rattle.clauses.specs.declared.frame.FormulaSizes.{FormulaSizes}
 use Rattle.clauses.proofs.Frames.{P-is, G-is}
@@ -52,7 +54,7 @@ module _ (s : FrameSizes) (k : ℕ) where
   part-first zero e = refl
   part-first (suc j) e = absurd (omega arith)
 
-  pub part-last : (i : ℕ) → k + 1 < i → k + 2 ≡ partWordsOf s k i
+  pub part-last : (i : ℕ) → k + 1 < i → k + s .last + 1 ≡ partWordsOf s k i
   part-last zero l = absurd (omega arith)
   part-last (suc j) l = rw (lt-leb j k (let z : k < j = omega arith in z))
 
@@ -92,8 +94,14 @@ module _ (s : FrameSizes) (k t u x : ℕ) (q : u ≡ k * x) where
   pub clauses-sum : t ≡ (1 + k) * clausesIn (costIn (s .property)) → x ≡ stepClausesOf s → 1 + s .bits + t + u + 1 ≡ formulaSizes s k .clauses
   clauses-sum p r = ap₂ (λ (y z : ℕ). 1 + s .bits + y + z + 1) p (q ∙ ap (λ (y : ℕ). k * y) r)
 
-  pub words-sum : t ≡ (1 + k) * wordsIn (costIn (s .property)) → x ≡ stepWordsOf s → 2 + 2 * s .bits + t + u + (k + 2) ≡ formulaSizes s k .words
-  words-sum p r = ap₂ (λ (y z : ℕ). 2 + 2 * s .bits + y + z + (k + 2)) p (q ∙ ap (λ (y : ℕ). k * y) r)
+  pub words-sum : t ≡ (1 + k) * wordsIn (costIn (s .property)) → x ≡ stepWordsOf s → 2 + 2 * s .bits + t + u + (k + s .last + 1) ≡ formulaSizes s k .words
+  words-sum p r = ap₂ (λ (y z : ℕ). 2 + 2 * s .bits + y + z + (k + s .last + 1)) p (q ∙ ap (λ (y : ℕ). k * y) r)
+
+-- the frames in which a property counts, and one more
+pub frames-are : (k : ℕ) (p : Property) → k + lastFrames p + 1 ≡ suc (framesTaken p k)
+frames-are k (invariant e) = omega arith
+frames-are k noInvalidCell = omega arith
+frames-are k (constraint e) = omega arith
 
 -- the formula's numbers, from the sizes of a frame of its design
 module _ (d : Design) (wf : WellFormed d) (p : Property) where
@@ -111,4 +119,4 @@ module _ (d : Design) (wf : WellFormed d) (p : Property) where
     where
       go : (i : ℕ) → partWordsOf (frameSizes d p) k i ≡ partWordCount d p k i
       go zero = refl
-      go (suc j) = refl
+      go (suc j) = ap (cond (leb j k) (wordsIn (propertyCost d p) + cond (ltb j k) (stepWordCount d p) 0)) (frames-are k p)

@@ -14,7 +14,7 @@ use Rattle.design.specs.Reading.{Read, got, bad, bind}
 use Rattle.design.specs.Expression.{Names, intExpr, boolExpr}
 use Rattle.step.specs.Accepted.{isRead, past}
 use Rattle.step.proofs.Accepted.{two, three}
-use Rattle.step.proofs.Values.{arithmeticOf, logicOf, compareOf, int-forward, bool-forward, i-two, b-one, b-logic, b-compare, int-constant, int-variable, int-status, bool-constant, bool-variable, int-second, logic-second, compare-second}
+use Rattle.step.proofs.Values.{arithmeticOf, logicOf, compareOf, integerByte, statusByte, booleanByte, int-forward, bool-forward, i-two, b-one, b-logic, b-compare, int-constant, int-variable, int-status, bool-constant, bool-variable, int-second, logic-second, compare-second}
 use Rattle.clauses.specs.Cost.{Cost, cost, addCosts, intCost, boolCost}
 use Rattle.clauses.specs.FrameSizes.{gatesAt, both}
 use Rattle.clauses.specs.declared.cost.GatesAt.{GatesAt}
@@ -96,6 +96,10 @@ compare-cost false u v e a b = ap (addCosts (addCosts (intCost a) (intCost b))) 
 one-of-two : (b k : ℕ) → k ≤ b → b < k + 2 → (b ≡ k) ⊎ (b ≡ k + 1)
 one-of-two b k p q = ⊎-elim (λ e. inl (sym e)) (λ l. inr (omega arith)) (eq-or-lt-of-le p)
 
+status-byte : (next : Bool) → integerByte next + 1 ≡ statusByte next
+status-byte true = refl
+status-byte false = refl
+
 module _ (text : List ℕ) (N : Names) (end d at : ℕ) where
   abbrev I : ℕ → ℕ → Read IntExpr
   I k p = intExpr text N end k p
@@ -121,13 +125,14 @@ module _ (text : List ℕ) (N : Names) (end d at : ℕ) where
     unfolding intCost
     int-number e = let k = int-constant text N end d at h e in (omega (arith, k .0), no-gates intCost (I d at) _ _ (at + 3) (k .1) refl (omega arith))
 
-    pub int-name : 0x02 ≤ op → op < 0x04 → IntLeaf (at + 2)
+    -- an integer or a status, of the state or of the next one
+    pub int-name : (next : Bool) → integerByte next ≤ op → op < integerByte next + 2 → IntLeaf (at + 2)
     unfolding intCost
-    int-name p q =
+    int-name next p q =
         ⊎-elim
-        (λ e. let k = int-variable text N end d at h e in (omega (arith, k .0), no-gates intCost (I d at) _ _ (at + 2) (k .2) refl (omega arith)))
-        (λ e. let k = int-status text N end d at h e in (omega (arith, k .0), no-gates intCost (I d at) _ _ (at + 2) (k .2) refl (omega arith)))
-        (one-of-two op 0x02 p q)
+        (λ e. let k = int-variable text N end d at h next e in (omega (arith, k .0), no-gates intCost (I d at) _ _ (at + 2) (k .2) refl (omega arith)))
+        (λ e. let k = int-status text N end d at h next (e ∙ status-byte next) in (omega (arith, k .0), no-gates intCost (I d at) _ _ (at + 2) (k .2) refl (omega arith)))
+        (one-of-two op (integerByte next) p q)
 
     pub int-then : (lo : 0x04 ≤ op) (hi : op < 0x06) (r : GatesAt) → r ≡ gatesAt intCost (I (d - 1) (at + 1)) → isRead (I (d - 1) (r .next)) ≡ true
     int-then lo hi r e = int-second text N end d at h lo hi (r .next) (gates-past intCost (I (d - 1) (at + 1)) r e)
@@ -141,12 +146,17 @@ module _ (text : List ℕ) (N : Names) (end d at : ℕ) where
     pub bool-next : (r : GatesAt) → r ≡ gatesAt boolCost (B d at) → at ≤ r .next
     bool-next r e = bool-forward text N end d at (r .next) h (gates-past boolCost (B d at) r e)
 
+    -- a Boolean, of the state or of the next one
+    pub bool-slot : (next : Bool) → op ≡ booleanByte next → BoolLeaf (at + 2)
+    unfolding boolCost
+    bool-slot next e = let k = bool-variable text N end d at h next e in (omega (arith, k .0), no-gates boolCost (B d at) _ _ (at + 2) (k .2) refl (omega arith))
+
     pub bool-name : 0x10 ≤ op → op < 0x12 → BoolLeaf (at + 2)
     unfolding boolCost
     bool-name p q =
         ⊎-elim
         (λ e. let k = bool-constant text N end d at h e in (omega (arith, k .0), no-gates boolCost (B d at) _ _ (at + 2) (k .1) refl (omega arith)))
-        (λ e. let k = bool-variable text N end d at h e in (omega (arith, k .0), no-gates boolCost (B d at) _ _ (at + 2) (k .2) refl (omega arith)))
+        (bool-slot false)
         (one-of-two op 0x10 p q)
 
     pub bool-negated : op ≡ 0x12 → (r : GatesAt) → r ≡ gatesAt boolCost (B (d - 1) (at + 1)) → r ≡ gatesAt boolCost (B d at)

@@ -8,6 +8,7 @@ pub mod Actions
 -- models and runs match one to one
 pub mod Definitions
 pub mod StateBits
+pub mod Alike
 pub mod Flags
 pub mod Frames
 pub mod Runs
@@ -25,8 +26,9 @@ pub mod Bytes
 pub mod Bounds
 pub mod Limits
 pub mod Results
--- Design A
+-- given designs
 pub mod DesignA
+pub mod Constrained
 -- the code of SIZE
 pub mod TextGates
 pub mod GateCounts

@@ -13,9 +13,9 @@ use Rattle.design.specs.Check.{Checked, check}
 use Rattle.design.specs.Limits.{maxMovers, maxBits}
 use Rattle.design.specs.WellFormed.{WellFormed}
 use Rattle.design.proofs.WellFormed.{well-formed}
-use Rattle.step.specs.Property.{Property, propertyOf}
+use Rattle.step.specs.Property.{Property, invariant, noInvalidCell, constraint, propertyOf}
 use Rattle.clauses.specs.Words.{words}
-use Rattle.clauses.specs.Formula.{S, w, F, n, part, formula}
+use Rattle.clauses.specs.Formula.{framesTaken, S, w, F, n, part, formula}
 use Rattle.clauses.specs.Cost.{gatesIn, clausesIn, wordsIn, pairCount, propertyCost, stepCost, firstClauses, firstWords, stepClauseCount, stepWordCount, clauseCount, wordCount, partWordCount}
 use Rattle.clauses.specs.Size.{sizesOf}
 use Rattle.step.specs.Limits.{maxBound}
@@ -29,7 +29,7 @@ pub sizes-computed : (d : Design) → WellFormed d → (p : Property) (k : ℕ) 
   stateBits = S d;
   propertyGates = gatesIn (propertyCost d p);
   movers = w d;
-  stepGates = gatesIn (stepCost d);
+  stepGates = gatesIn (stepCost d p);
   variables = n d p k;
   clauses = clauseCount d p k;
   words = wordCount d p k;
@@ -51,6 +51,12 @@ pairs-twice (suc m) = let q : suc m - 1 ≡ m = omega arith in rw q (omega (arit
 pair-bound : (m : ℕ) → m ≤ maxMovers → pairCount m ≤ maxMovers * m
 pair-bound zero h = omega arith
 pair-bound (suc m) h = let k = pair-bound m (omega arith) in omega arith
+
+-- the last clause has at most a word for each frame
+few-taken : (p : Property) (k : ℕ) → framesTaken p k ≤ suc k
+few-taken (invariant e) k = omega arith
+few-taken noInvalidCell k = omega arith
+few-taken (constraint e) k = omega arith
 
 -- what is bounded: the variables, the clauses and words of the formula, and the words of a part
 pub record Small (d : Design) (p : Property) (k : ℕ) : Type 0 where
@@ -81,11 +87,11 @@ module _ (d : Design) (wf : WellFormed d) (b : Bounded d) (number k : ℕ) (few 
   abbrev besideClauses : ℕ
   besideClauses = 1 + maxMovers * maxMovers + 2 * (maxMovers * maxBits)
 
-  step-words : stepWordCount d ≤ 16 * gatesIn (stepCost d) + besideWords
+  step-words : stepWordCount d p ≤ 16 * gatesIn (stepCost d p) + besideWords
   unfolding stepWordCount
   step-words = omega (arith, ties-bound, pair-bound (w d) (b .movers), b .movers)
 
-  step-clauses : stepClauseCount d ≤ 4 * gatesIn (stepCost d) + besideClauses
+  step-clauses : stepClauseCount d p ≤ 4 * gatesIn (stepCost d p) + besideClauses
   unfolding stepClauseCount
   step-clauses = omega (arith, ties-bound, pair-bound (w d) (b .movers), b .movers)
 
@@ -93,14 +99,14 @@ module _ (d : Design) (wf : WellFormed d) (b : Bounded d) (number k : ℕ) (few 
   unfolding wordCount firstWords
   words-bound =
       let x : (1 + k) * wordsIn (propertyCost d p) ≤ (1 + maxBound) * wordsIn (propertyCost d p) = mul-le-mul (let q : 1 + k ≤ 1 + maxBound = omega arith in q) (le-refl (wordsIn (propertyCost d p))) in
-      let y : k * stepWordCount d ≤ maxBound * (16 * gatesIn (stepCost d) + besideWords) = mul-le-mul few step-words in
-      omega (arith, b .gates number, b .bits)
+      let y : k * stepWordCount d p ≤ maxBound * (16 * gatesIn (stepCost d p) + besideWords) = mul-le-mul few step-words in
+      omega (arith, b .gates number, b .bits, few-taken p k)
 
   clauses-bound : clauseCount d p k < 2 ^ 35
   unfolding clauseCount firstClauses
   clauses-bound =
       let x : (1 + k) * clausesIn (propertyCost d p) ≤ (1 + maxBound) * clausesIn (propertyCost d p) = mul-le-mul (let q : 1 + k ≤ 1 + maxBound = omega arith in q) (le-refl (clausesIn (propertyCost d p))) in
-      let y : k * stepClauseCount d ≤ maxBound * (4 * gatesIn (stepCost d) + besideClauses) = mul-le-mul few step-clauses in
+      let y : k * stepClauseCount d p ≤ maxBound * (4 * gatesIn (stepCost d p) + besideClauses) = mul-le-mul few step-clauses in
       omega (arith, b .gates number, b .bits)
 
   part-bound : (i : ℕ) → partWordCount d p k i < 2 ^ 28
@@ -108,10 +114,10 @@ module _ (d : Design) (wf : WellFormed d) (b : Bounded d) (number k : ℕ) (few 
   part-bound zero = omega (arith, b .bits)
   part-bound (suc j) = go (leb j k) (ltb j k)
     where
-      go : (t u : Bool) → cond t (wordsIn (propertyCost d p) + cond u (stepWordCount d) 0) (k + 2) < 2 ^ 28
+      go : (t u : Bool) → cond t (wordsIn (propertyCost d p) + cond u (stepWordCount d p) 0) (suc (framesTaken p k)) < 2 ^ 28
       go true true = omega (arith, b .gates number, step-words)
       go true false = omega (arith, b .gates number)
-      go false u = omega arith
+      go false u = omega (arith, few-taken p k)
 
   pub small : Small d p k
   small =

@@ -2,6 +2,7 @@
 use mathlib.Core.Path.{_≡_, refl}
 use mathlib.Core.Bool.{Bool, true, false, not, _||_}
 use mathlib.Core.List.{List, [], _∷_, _++_}
+use mathlib.Core.Option.{Option, none, some}
 use Prim.Native.Nat.{ℕ, zero, suc, _<_}
 use native.Mathlib.Omega.{arith}
 use lib.ListN.{length, replicate}
@@ -9,7 +10,7 @@ use Rattle.design.specs.Tree.{Design, movers}
 use Rattle.design.specs.State.{State, start}
 use Rattle.design.specs.WellFormed.{WellFormed}
 use Rattle.step.specs.Property.{Property}
-use Rattle.step.specs.OneStep.{holds, step, breaksFrom, breaks}
+use Rattle.step.specs.OneStep.{step, trueAt, breaksFrom, breaks}
 use Rattle.step.specs.Breaking.{AllBelow}
 
 or-left : (a b : Bool) → a ≡ true → a || b ≡ true
@@ -21,20 +22,21 @@ or-map true b c f e = refl
 or-map false b c f e = f e
 
 module _ (d : Design) (p : Property) where
-  breaks-now : (s : State) (xs : List ℕ) → not (holds d p s) ≡ true → breaksFrom d p s xs ≡ true
+  breaks-now : (before : Option State) (s : State) (xs : List ℕ) → not (trueAt d p before s) ≡ true → breaksFrom d p before s xs ≡ true
   unfolding breaksFrom
-  breaks-now s [] e = e
-  breaks-now s (x ∷ xs) e = or-left (not (holds d p s)) (breaksFrom d p (step d s x) xs) e
+  breaks-now before s [] e = e
+  breaks-now before s (x ∷ xs) e = or-left (not (trueAt d p before s)) (breaksFrom d p (some s) (step d s x) xs) e
 
-  breaks-on : (s : State) (cs xs : List ℕ) → breaksFrom d p s cs ≡ true → breaksFrom d p s (cs ++ xs) ≡ true
+  breaks-on : (before : Option State) (s : State) (cs xs : List ℕ) → breaksFrom d p before s cs ≡ true → breaksFrom d p before s (cs ++ xs) ≡ true
   unfolding breaksFrom
-  breaks-on s [] xs e = breaks-now s xs e
-  breaks-on s (c ∷ cs) xs e =
-      or-map (not (holds d p s)) (breaksFrom d p (step d s c) cs) (breaksFrom d p (step d s c) (cs ++ xs)) (λ h. breaks-on (step d s c) cs xs h) e
+  breaks-on before s [] xs e = breaks-now before s xs e
+  breaks-on before s (c ∷ cs) xs e =
+      or-map (not (trueAt d p before s)) (breaksFrom d p (some s) (step d s c) cs) (breaksFrom d p (some s) (step d s c) (cs ++ xs))
+      (λ h. breaks-on (some s) (step d s c) cs xs h) e
 
   pub breaks-append : (cs xs : List ℕ) → breaks d p cs ≡ true → breaks d p (cs ++ xs) ≡ true
   unfolding breaks
-  breaks-append cs xs e = breaks-on (start d) cs xs e
+  breaks-append cs xs e = breaks-on none (start d) cs xs e
 
 pub below-append : (m : ℕ) (xs ys : List ℕ) → AllBelow m xs → AllBelow m ys → AllBelow m (xs ++ ys)
 below-append m [] ys p q = q

@@ -3,6 +3,7 @@
 use mathlib.Core.Path.{_≡_, refl, sym, ap, ap₂, _∙_}
 use mathlib.Core.Bool.{true, false, _||_}
 use mathlib.Core.List.{List, [], _∷_, _++_, append-nil, append-assoc}
+use mathlib.Core.Option.{none}
 use Prim.Native.Nat.{ℕ, zero, suc, _+_, _<_, _≤_}
 use native.Mathlib.Nat.{le-refl}
 use native.Mathlib.Omega.{arith}
@@ -22,7 +23,7 @@ use Rattle.clauses.proofs.Gates.{all-apart, all-joined, both, both-l}
 use Rattle.clauses.proofs.Expressions.{stateOf, SlotsBelow, constant-word}
 use Rattle.clauses.proofs.Definitions.{Same, Definition, Ordered, Obeys, obeys-unique, define, define-same, define-obeys}
 use Rattle.clauses.proofs.StateBits.{bitsOf, state-bits, flat-below, length-flat, constantSlots, constants-state, constants-wide, initialUnits-to, initialUnits-from}
-use Rattle.clauses.proofs.Frames.{or-false, framesFrom, state-wide, negated-is}
+use Rattle.clauses.proofs.Frames.{or-false, framesFrom, state-wide, last-is}
 use Rattle.clauses.proofs.Runs.{S-is, run, run-ordered, run-to, run-from, choices-below}
 
 -- The parts joined: the first, those of the frames, and the last.
@@ -127,8 +128,8 @@ module _ (d : Design) (wf : WellFormed d) (p : Property) (ok : PropertyOk d p) (
 
   negated-breaks : (ρ : Assignment) → ρ 1 ≡ true → bitsOf ρ (flat (stateAt d (frame d p 0))) ≡ bitsOf ρ firstBits → satisfies ρ (framesFrom d p k 0) ≡ true
       → clauseTrue ρ (lastClause d p k) ≡ breaks d p (choices d p ρ k)
-  unfolding breaks lastClause choices
-  negated-breaks ρ one e s = negated-is d wf p ok ρ one k 0 s ∙ ap (λ x. breaksFrom d p x (choicesFrom d p ρ k 0)) (begins ρ one e)
+  unfolding breaks choices
+  negated-breaks ρ one e s = last-is d wf p ok ρ one k s ∙ ap (λ x. breaksFrom d p none x (choicesFrom d p ρ k 0)) (begins ρ one e)
 
   -- a satisfying assignment decodes to k choices that break the property
   pub decodes-long : (ρ : Assignment) → length (choices d p ρ k) ≡ k

@@ -1,12 +1,13 @@
 -- The frames of a given list of choices are definitions, each variable by smaller ones: state bits as the literals that the step before
--- left, gates, flags as the choice has them.
+-- left, gates, flags as the choice has them. The gates of property 2 read the next frame's bits, which come after them: they are defined over the chosen
+-- mover's result instead, and say the same.
 use mathlib.Core.Path.{_≡_, refl, sym, ap, ap₂, _∙_, subst}
 use mathlib.Core.Bool.{Bool, true, false}
 use mathlib.Core.List.{List, [], _∷_, _++_, map}
 use Prim.Native.Nat.{ℕ, zero, suc, _+_, _<_}
 use native.Mathlib.Nat.{le-refl}
 use native.Mathlib.Omega.{arith}
-use lib.ListN.{length, getD, replicate}
+use lib.ListN.{length, replicate}
 use Rattle.design.specs.Tree.{Design}
 use Rattle.design.specs.State.{widths}
 use Rattle.design.specs.WellFormed.{WellFormed}
@@ -16,12 +17,13 @@ use Rattle.clauses.specs.Meaning.{Assignment, satisfies}
 use Rattle.clauses.specs.Circuit.{Bits}
 use Rattle.clauses.specs.Formula.{total, variablesFrom, flat, firstTrue, S, w, stateAt, propertyAt, flagsAt, stepAt, P, frame, choicesFrom}
 use Rattle.step.specs.Breaking.{AllBelow}
-use Rattle.clauses.proofs.Arithmetic.{BitsBelow}
+use Rattle.clauses.proofs.Arithmetic.{BitsBelow, bits-up}
 use Rattle.clauses.proofs.Expressions.{literalOf-true, literalOf-below}
 use Rattle.clauses.proofs.Definitions.{Definition, Ordered, Obeys, ordered-append, obeys-split, obeys-join, ofGate, gates-ordered, facts-obey, obeys-facts, copies, copies-ordered, copies-say, say-copies}
 use Rattle.clauses.proofs.StateBits.{bitsOf, flat-slots, flat-below, length-flat, length-variables}
+use Rattle.clauses.proofs.Alike.{facts-alike}
 use Rattle.clauses.proofs.Flags.{oneHot, OneHot, one-flags}
-use Rattle.clauses.proofs.Frames.{framesFrom, property-at, step-at, frame-big, property-next, frame-next, flags-wide, Frame, frame-to, frame-from, results, frames-apart, frames-joined, last-to, last-from}
+use Rattle.clauses.proofs.Frames.{framesFrom, property-at, step-at, frame-big, property-next, step-property-at, step-ends, step-le, flags-wide, resultOf, chosenProperty, chosen-alike, Frame, frame-to, frame-from, results, frames-apart, frames-joined, last-to, last-from}
 
 -- the flags of a choice, in constants
 abbrev flagsOf : ℕ → ℕ → Bits
@@ -96,20 +98,23 @@ module _ (d : Design) (wf : WellFormed d) (p : Property) where
   abbrev stepIs : ℕ → List Definition
   stepIs j = map ofGate ((stepAt d p (frame d p j)) .gates)
 
+  abbrev stepPropertyIs : ℕ → ℕ → List Definition
+  stepPropertyIs j c = map ofGate ((chosenProperty d p j c) .gates)
+
   abbrev result : ℕ → ℕ → Bits
-  result j c = flat (getD ((stepAt d p (frame d p j)) .out) c [])
+  result j c = flat (resultOf d p j c)
 
   -- all variables from frame j on
   unfoldable pub run : ℕ → Bits → List ℕ → List Definition
   run j ls [] = stateIs j ls ++ propertyIs j
-  run j ls (c ∷ cs) = stateIs j ls ++ (propertyIs j ++ (choiceIs j c ++ (stepIs j ++ run (suc j) (result j c) cs)))
+  run j ls (c ∷ cs) = stateIs j ls ++ (propertyIs j ++ (choiceIs j c ++ (stepIs j ++ (stepPropertyIs j c ++ run (suc j) (result j c) cs))))
 
   result-wide : (j c : ℕ) → c < w d → length (result j c) ≡ S d
-  result-wide j c h = length-flat (getD ((stepAt d p (frame d p j)) .out) c []) ∙ ap total (results d wf p j c h .wide) ∙ S-is d
+  result-wide j c h = length-flat (resultOf d p j c) ∙ ap total (results d wf p j c h .wide) ∙ S-is d
 
   result-below : (j c : ℕ) → c < w d → BitsBelow (frame d p (suc j)) (result j c)
   result-below j c h =
-      rw (frame-next d wf p j) at (flat-below ((stepAt d p (frame d p j)) .next) (getD ((stepAt d p (frame d p j)) .out) c []) (results d wf p j c h .below))
+      bits-up (step-le d wf p j) (result j c) (flat-below ((stepAt d p (frame d p j)) .next) (resultOf d p j c) (results d wf p j c h .below))
 
   pub run-ordered : PropertyOk d p → (cs : List ℕ) (j : ℕ) (ls : Bits) (m : ℕ) → length ls ≡ S d → BitsBelow (frame d p j) ls → AllBelow (w d) cs
       → m ≡ frame d p (j + length cs) + S d + P d p → Ordered (frame d p j) (run j ls cs) m
@@ -128,8 +133,10 @@ module _ (d : Design) (wf : WellFormed d) (p : Property) where
       ordered-append (copies-ordered ls v v (v + S d) (omega arith) (le-refl v) b)
       (ordered-append (gates-ordered (property-at d wf p ok v h .chain))
       (ordered-append (copies-ordered (flagsOf (w d) c) 2 x (x + w d) (omega (arith, length-flags (w d) c)) (omega (arith, property-next d p v)) (literals-below 2 (le-refl 2) (oneHot (w d) c)))
-      (ordered-append (subst (λ y. Ordered (x + w d) (stepIs j) y) (frame-next d wf p j) (gates-ordered (step-at d wf p v h .chain)))
-      (run-ordered ok cs (suc j) (result j c) m (result-wide j c (lo .0)) (result-below j c (lo .0)) (lo .1) (rw q at e)))))
+      (ordered-append (gates-ordered (step-at d wf p v h .chain))
+      (ordered-append (subst (λ y. Ordered ((stepAt d p v) .next) (stepPropertyIs j c) y) (step-ends d wf p j (resultOf d p j c))
+      (gates-ordered (step-property-at d wf p ok v h (resultOf d p j c) (results d wf p j c (lo .0)) .chain)))
+      (run-ordered ok cs (suc j) (result j c) m (result-wide j c (lo .0)) (result-below j c (lo .0)) (lo .1) (rw q at e))))))
 
   pub record Told (ρ : Assignment) (j : ℕ) (ls : Bits) (cs : List ℕ) : Type 0 where
     pub state : bitsOf ρ (flat (stateAt d (frame d p j))) ≡ bitsOf ρ ls
@@ -145,18 +152,22 @@ module _ (d : Design) (wf : WellFormed d) (p : Property) where
       record { state = state-to d ρ v ls l (r .0); sat = last-from d wf p ρ j (obeys-facts ρ ((propertyAt d p v) .gates) (r .1)); choice = refl }
   run-to ρ one (c ∷ cs) j ls l lo f =
       let v = frame d p j in
-      let r₄ = run (suc j) (result j c) cs in
+      let r₅ = run (suc j) (result j c) cs in
+      let r₄ = stepPropertyIs j c ++ r₅ in
       let r₃ = stepIs j ++ r₄ in
       let r₂ = choiceIs j c ++ r₃ in
       let f₁ = obeys-split ρ (stateIs j ls) (propertyIs j ++ r₂) f in
       let f₂ = obeys-split ρ (propertyIs j) r₂ (f₁ .1) in
       let f₃ = obeys-split ρ (choiceIs j c) r₃ (f₂ .1) in
       let f₄ = obeys-split ρ (stepIs j) r₄ (f₃ .1) in
-      let t = run-to ρ one cs (suc j) (result j c) (result-wide j c (lo .0)) (lo .1) (f₄ .1) in
+      let f₅ = obeys-split ρ (stepPropertyIs j c) r₅ (f₄ .1) in
+      let t = run-to ρ one cs (suc j) (result j c) (result-wide j c (lo .0)) (lo .1) (f₅ .1) in
+      let alike = chosen-alike d wf p ρ j c (lo .0) (sym (t .state)) in
       let fr : Frame d wf p ρ j c = record {
         property = obeys-facts ρ ((propertyAt d p v) .gates) (f₂ .0);
         flags = flags-to d p ρ one v c (lo .0) (f₃ .0);
         steps = obeys-facts ρ ((stepAt d p v) .gates) (f₄ .0);
+        stepProperty = facts-alike ρ (alike .gates) .0 (obeys-facts ρ ((chosenProperty d p j c) .gates) (f₅ .0));
         after = sym (t .state);
       } in
       record {
@@ -178,14 +189,17 @@ module _ (d : Design) (wf : WellFormed d) (p : Property) where
       let a = frames-apart d wf p ρ m j s in
       let fr = frame-to d wf p ρ j (a .0) in
       let lo : c < w d = omega (arith, fr .flags .low, flags-wide d p v) in
-      let r₄ = run (suc j) (result j c) (choicesFrom d p ρ m (suc j)) in
+      let alike = chosen-alike d wf p ρ j c lo (fr .after) in
+      let r₅ = run (suc j) (result j c) (choicesFrom d p ρ m (suc j)) in
+      let r₄ = stepPropertyIs j c ++ r₅ in
       let r₃ = stepIs j ++ r₄ in
       let r₂ = choiceIs j c ++ r₃ in
       obeys-join ρ (stateIs j ls) (propertyIs j ++ r₂) (state-from d ρ v ls l b)
       (obeys-join ρ (propertyIs j) r₂ (facts-obey ρ ((propertyAt d p v) .gates) (fr .property))
       (obeys-join ρ (choiceIs j c) r₃ (flags-from d p ρ one v c (fr .flags))
       (obeys-join ρ (stepIs j) r₄ (facts-obey ρ ((stepAt d p v) .gates) (fr .steps))
-      (run-from ρ one m (suc j) (result j c) (result-wide j c lo) (sym (fr .after)) (a .1)))))
+      (obeys-join ρ (stepPropertyIs j c) r₅ (facts-obey ρ ((chosenProperty d p j c) .gates) (facts-alike ρ (alike .gates) .1 (fr .stepProperty)))
+      (run-from ρ one m (suc j) (result j c) (result-wide j c lo) (sym (fr .after)) (a .1))))))
 
   pub choices-below : (ρ : Assignment) (m j : ℕ) → satisfies ρ (framesFrom d p m j) ≡ true → AllBelow (w d) (choicesFrom d p ρ m j)
   unfolding choicesFrom

@@ -1,7 +1,7 @@
 -- SIZE's answers.
-use mathlib.Core.Path.{_≡_, sym, ap, _∙_}
+use mathlib.Core.Path.{_≡_, sym, ap, ap₂, _∙_}
 use mathlib.Core.List.{List}
-use Prim.Native.Nat.{ℕ, _≤_, _<_}
+use Prim.Native.Nat.{ℕ, _+_, _*_, _≤_, _<_}
 use lib.ListN.{getD}
 use Rattle.design.specs.Tree.{Design}
 use Rattle.design.specs.Check.{Checked, check}
@@ -15,7 +15,7 @@ use Rattle.step.specs.Property.{Property, propertyOf}
 use Rattle.step.specs.Gate.{gateRefusal}
 use Rattle.step.proofs.Gates.{in-range, gate-refuses}
 use Rattle.clauses.specs.Formula.{S, w, n}
-use Rattle.clauses.specs.Cost.{gatesIn, propertyCost, stepCost, firstClauses, firstWords, stepClauseCount, stepWordCount, clauseCount, wordCount}
+use Rattle.clauses.specs.Cost.{gatesIn, wordsIn, propertyCost, stepCost, firstClauses, firstWords, stepClauseCount, stepWordCount, clauseCount, wordCount}
 use Rattle.clauses.specs.Size.{sizesOf, size}
 use Rattle.clauses.specs.FrameSizes.{frameSizes, formulaSizes}
 use Rattle.clauses.specs.Replies.{sevenOf, sizeReply}
@@ -23,7 +23,7 @@ use Rattle.clauses.specs.declared.frame.FrameSizes.{FrameSizes}
 use Rattle.clauses.specs.declared.frame.FormulaSizes.{FormulaSizes}
 use Rattle.clauses.specs.declared.size.SizeReply.the-variants.{Refused, Sized}
 use Rattle.clauses.proofs.Limits.{sizes-computed}
-use Rattle.clauses.proofs.FrameNumbers.{variables-are}
+use Rattle.clauses.proofs.FrameNumbers.{variables-are, frames-are}
 
 -- SIZE's numbers, from the sizes of a frame of the design
 module _ (d : Design) (wf : WellFormed d) (p : Property) where
@@ -35,27 +35,27 @@ module _ (d : Design) (wf : WellFormed d) (p : Property) where
         stateBits = S d;
         propertyGates = gatesIn (propertyCost d p);
         movers = w d;
-        stepGates = gatesIn (stepCost d);
+        stepGates = gatesIn (stepCost d p);
         variables = n d p k;
         clauses = clauseCount d p k;
         words = wordCount d p k;
       })
-      with-n = ap (λ (v : ℕ). record {
+      with-n = ap₂ (λ (v m : ℕ). record {
         bits = S d;
         property = gatesIn (propertyCost d p);
         movers = w d;
-        step = gatesIn (stepCost d);
+        step = gatesIn (stepCost d p);
         variables = v;
         clauses = clauseCount d p k;
-        words = wordCount d p k;
-      }) (variables-are d wf p k)
+        words = firstWords d + (1 + k) * wordsIn (propertyCost d p) + k * stepWordCount d p + m;
+      }) (variables-are d wf p k) (frames-are k p)
 
 module _ (file : List ℕ) (p k : ℕ) where
   pub size-refused : (r : Refusal) → r ≡ gateRefusal file p k → (r .number ≡ 0 → ⊥) → Refused (r .number) (r .place) ≡ sizeReply (size file p k)
   unfolding size
   size-refused r e z = sym (ap sizeReply (gate-refuses file p k _ r e z))
 
-  pub size-answer : Accepted file → p ≤ lastProperty → k ≤ maxBound → ((i : ℕ) → getD file i 0 < 256) → (s : FrameSizes)
+  pub size-answer : Accepted file → p ≤ lastProperty file → k ≤ maxBound → ((i : ℕ) → getD file i 0 < 256) → (s : FrameSizes)
       → ((d : Design) → check file ≡ Checked.accepted d → s ≡ frameSizes d (propertyOf d p)) → (r : FormulaSizes) → r ≡ formulaSizes s k
       → Sized r ≡ sizeReply (size file p k)
   unfolding size

@@ -16,12 +16,12 @@ use Rattle.clauses.specs.Words.{clauseWords, words}
 use Rattle.clauses.specs.Gate.{Gate, gatesClauses}
 use Rattle.clauses.specs.Circuit.{Bits}
 use Rattle.clauses.specs.Expression.{Slots}
-use Rattle.clauses.specs.Formula.{total, flat, unitsOf, initialUnits, against, pairs, ties, allTies, S, w, stateAt, propertyAt, flagsAt, stepAt, frame, firstPart, propertyClauses, stepClauses, framePart, negatedFrom, lastClause, part, formula}
-use Rattle.clauses.specs.Cost.{clausesIn, wordsIn, pairCount, propertyCost, firstClauses, firstWords, stepClauseCount, stepWordCount, clauseCount, wordCount, partWordCount}
+use Rattle.clauses.specs.Formula.{total, flat, unitsOf, initialUnits, against, pairs, ties, allTies, framesTaken, S, w, stateAt, propertyAt, flagsAt, stepAt, frame, firstPart, propertyClauses, stepPropertyIn, stepClauses, framePart, negatedFrom, lastClause, part, formula}
+use Rattle.clauses.specs.Cost.{clausesIn, wordsIn, pairCount, propertyCost, firstClauses, firstWords, stepCost, stepClauseCount, stepWordCount, clauseCount, wordCount, partWordCount}
 use Rattle.clauses.proofs.Actions.{AllFit}
 use Rattle.clauses.proofs.Costs.{costOf, clauses-counted, words-counted}
 use Rattle.clauses.proofs.StateBits.{length-flat}
-use Rattle.clauses.proofs.Frames.{framesFrom, state-wide, property-costs-at, step-costs-at, step-at, frame-big, flags-wide}
+use Rattle.clauses.proofs.Frames.{framesFrom, state-wide, property-costs-at, step-costs-at, step-property-costs-at, step-at, frame-big, flags-wide}
 use Rattle.clauses.proofs.Runs.{S-is}
 use Rattle.clauses.proofs.Models.{formula-is}
 
@@ -112,9 +112,9 @@ unfolding negatedFrom
 negated-long d p zero j = refl
 negated-long d p (suc m) j = ap suc (negated-long d p m (suc j))
 
-pub last-counts : (d : Design) (p : Property) (k : ℕ) → Counts (lastClause d p k ∷ []) 1 (k + 2)
+pub last-counts : (d : Design) (p : Property) (k : ℕ) → Counts (lastClause d p k ∷ []) 1 (suc (framesTaken p k))
 unfolding lastClause
-last-counts d p k = counts-same refl (omega (arith, negated-long d p (suc k) 0)) (counts-cons (negatedFrom d p (suc k) 0) counts-none)
+last-counts d p k = counts-same refl (omega (arith, negated-long d p (framesTaken p k) 0)) (counts-cons (negatedFrom d p (framesTaken p k) 0) counts-none)
 
 pub property-counts : (d : Design) (p : Property) (j : ℕ) → Counts (propertyClauses d p j) (clausesIn (propertyCost d p)) (wordsIn (propertyCost d p))
 unfolding propertyClauses
@@ -135,24 +135,26 @@ module _ (d : Design) (wf : WellFormed d) (p : Property) where
       (allTies-counts (widths d) ((stepAt d p v) .next) (flagsAt d p v) ((stepAt d p v) .out) (flat (stateAt d (frame d p (suc j)))) (g .shape .1 ∙ sym (flags-wide d p v)) (g .shape .0)
       (length-flat (stateAt d (frame d p (suc j))) ∙ ap total (state-wide d (frame d p (suc j)))))
 
-  pub step-counts : (j : ℕ) → Counts (stepClauses d p j) (stepClauseCount d) (stepWordCount d)
-  unfolding stepClauses stepClauseCount stepWordCount
+  pub step-counts : (j : ℕ) → Counts (stepClauses d p j) (stepClauseCount d p) (stepWordCount d p)
+  unfolding stepClauses stepPropertyIn stepClauseCount stepWordCount stepCost
   step-counts j =
       let v = frame d p j in
       let c = step-costs-at d wf p v in
+      let e = step-property-costs-at d p v (stateAt d (frame d p (suc j))) in
       let l = flags-wide d p v in
-      counts-same (omega (arith, c .ands, c .wides, ap pairCount l)) (omega (arith, c .ands, c .wides, l, ap pairCount l))
-      (counts-append (counts-cons (flagsAt d p v) (pairs-counts (flagsAt d p v))) (counts-append (gates-counts ((stepAt d p v) .gates)) (ties-all j)))
+      counts-same (omega (arith, c .ands, c .wides, e .ands, e .wides, ap pairCount l)) (omega (arith, c .ands, c .wides, e .ands, e .wides, l, ap pairCount l))
+      (counts-append (counts-cons (flagsAt d p v) (pairs-counts (flagsAt d p v)))
+      (counts-append (gates-counts ((stepAt d p v) .gates)) (counts-append (gates-counts ((stepPropertyIn d p j) .gates)) (ties-all j))))
 
   frames-counts : (m j : ℕ) → Counts (framesFrom d p m j)
-      ((1 + m) * clausesIn (propertyCost d p) + m * stepClauseCount d) ((1 + m) * wordsIn (propertyCost d p) + m * stepWordCount d)
+      ((1 + m) * clausesIn (propertyCost d p) + m * stepClauseCount d p) ((1 + m) * wordsIn (propertyCost d p) + m * stepWordCount d p)
   unfolding framesFrom
   frames-counts zero j = counts-same (omega arith) (omega arith) (property-counts d p j)
   frames-counts (suc m) j =
       let a = suc-mul (1 + m) (clausesIn (propertyCost d p)) in
-      let b = suc-mul m (stepClauseCount d) in
+      let b = suc-mul m (stepClauseCount d p) in
       let a′ = suc-mul (1 + m) (wordsIn (propertyCost d p)) in
-      let b′ = suc-mul m (stepWordCount d) in
+      let b′ = suc-mul m (stepWordCount d p) in
       counts-same (omega arith) (omega arith)
       (counts-append (counts-append (property-counts d p j) (step-counts j)) (frames-counts m (suc j)))
 
@@ -163,7 +165,7 @@ module _ (d : Design) (wf : WellFormed d) (p : Property) where
       (counts-same (omega arith) (omega arith) (counts-append first-counts (counts-append (frames-counts k 0) (last-counts d p k))))
 
   -- the words of each part
-  tail-words : (b : Bool) (j : ℕ) → length (words (cond b (stepClauses d p j) [])) ≡ cond b (stepWordCount d) 0
+  tail-words : (b : Bool) (j : ℕ) → length (words (cond b (stepClauses d p j) [])) ≡ cond b (stepWordCount d p) 0
   tail-words true j = step-counts j .words
   tail-words false j = refl
 
@@ -173,6 +175,6 @@ module _ (d : Design) (wf : WellFormed d) (p : Property) where
   part-words k (suc j) = go (leb j k)
     where
       go : (b : Bool) → length (words (cond b (propertyClauses d p j ++ cond (ltb j k) (stepClauses d p j) []) (lastClause d p k ∷ [])))
-          ≡ cond b (wordsIn (propertyCost d p) + cond (ltb j k) (stepWordCount d) 0) (k + 2)
+          ≡ cond b (wordsIn (propertyCost d p) + cond (ltb j k) (stepWordCount d p) 0) (suc (framesTaken p k))
       go true = words-append (propertyClauses d p j) (cond (ltb j k) (stepClauses d p j) []) ∙ ap₂ _+_ (property-counts d p j .words) (tail-words (ltb j k) j)
       go false = last-counts d p k .words

@@ -9,7 +9,7 @@ use borrow.Author.Tests.{ltb-true, leb-true}
 use Rattle.design.specs.Tree.{IntExpr, BoolExpr, Stmt, Stmts, variableB}
 use Rattle.design.specs.Limits.{maxBytes, maxDepth, maxBits}
 use Rattle.design.specs.Reading.{Read, got, bad, Reader, provided}
-use Rattle.design.specs.Expression.{Names, IntOp, BoolOp, intOp, boolOp, byte, word, intOf, boolOf, intExpr, boolExpr}
+use Rattle.design.specs.Expression.{Names, IntOp, BoolOp, intOp, boolOp, byte, word, legal, numbered, intOf, boolOf, intExpr, boolExpr}
 use Rattle.design.specs.Action.{StmtOp, stmtOp, value, assignment, statements, listOf, conditional, stmtOf, statement, list}
 use Rattle.clauses.specs.Cost.{Cost, gatesIn, intCost, boolCost, statementCost, statementsCost}
 use Rattle.clauses.specs.Limits.{gatesOfActionByte, textGates}
@@ -33,11 +33,12 @@ module _ (text : List ℕ) (names : Names) (end : ℕ) where
 
   intOf-ends : (operand : Reader IntExpr) → ((at : ℕ) → Ends (operand at)) → (o : IntOp) (at : ℕ) → Ends (intOf text names end operand o at)
   intOf-ends operand h IntOp.op-constant at = reads-bind (word text names end at) _ (word-ends at) λ c m q. reads-got _ _ q
-  intOf-ends operand h IntOp.op-variable at =
+  intOf-ends operand h (IntOp.op-variable next) at =
       reads-bind (byte text names end at) _ (byte-ends at) λ v m q.
-      reads-provided (ltb v (names .variables)) _ (reads-provided (eqb (names .kindOf v) 1) _ (reads-got _ _ q))
-  intOf-ends operand h IntOp.op-status at =
-      reads-bind (byte text names end at) _ (byte-ends at) λ v m q. reads-provided (ltb v (names .matrices)) _ (reads-got _ _ q)
+      reads-provided (legal text names end next) _ (reads-provided (ltb v (names .variables)) _ (reads-provided (eqb (names .kindOf v) 1) _ (reads-got _ _ q)))
+  intOf-ends operand h (IntOp.op-status next) at =
+      reads-bind (byte text names end at) _ (byte-ends at) λ v m q.
+      reads-provided (legal text names end next) _ (reads-provided (ltb v (names .matrices)) _ (reads-got _ _ q))
   intOf-ends operand h IntOp.op-unknown at = reads-bad
   intOf-ends operand h (IntOp.op-ints f) at =
       reads-bind (operand at) _ (h at) λ a m q.
@@ -54,9 +55,10 @@ module _ (text : List ℕ) (names : Names) (end : ℕ) where
       → (o : BoolOp) (at : ℕ) → Ends (boolOf text names end int operand o at)
   boolOf-ends int i operand h BoolOp.op-constant at =
       reads-bind (byte text names end at) _ (byte-ends at) λ v m q. reads-provided (leb v 1) _ (reads-got _ _ q)
-  boolOf-ends int i operand h BoolOp.op-variable at =
+  boolOf-ends int i operand h (BoolOp.op-variable next) at =
       reads-bind (byte text names end at) _ (byte-ends at) λ v m q.
-      reads-provided (ltb v (names .variables)) _ (reads-provided (not (eqb (names .kindOf v) 1)) _ (reads-got (variableB v) _ q))
+      reads-provided (legal text names end next) _ (reads-provided (ltb v (names .variables)) _ (reads-provided (not (eqb (names .kindOf v) 1)) _
+      (reads-got (variableB (numbered text names end next v)) _ q)))
   boolOf-ends int i operand h BoolOp.op-not at = reads-bind (operand at) _ (h at) λ a m q. reads-got _ _ q
   boolOf-ends int i operand h BoolOp.op-unknown at = reads-bad
   boolOf-ends int i operand h (BoolOp.op-bools f) at =

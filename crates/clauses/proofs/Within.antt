@@ -1,22 +1,22 @@
 -- The formula for bound k names only the variables 1..n, so its truth depends on these alone, and its words read back as its clauses.
-use mathlib.Core.Path.{_≡_, refl, ap, ap₂, _∙_}
+use mathlib.Core.Path.{_≡_, refl, sym, ap, ap₂, _∙_}
 use mathlib.Core.Bool.{Bool, true, false, cond, _&&_, _||_}
 use mathlib.Core.List.{List, [], _∷_, _++_}
-use Prim.Native.Nat.{ℕ, zero, suc, _+_, _/_, _%_, _<_, _≤_}
+use Prim.Native.Nat.{ℕ, zero, suc, _+_, _-_, _/_, _%_, _<_, _≤_}
 use native.Mathlib.Nat.{le-refl}
 use native.Mathlib.Omega.{arith}
 use lib.IntN.{ℤ}
 use Rattle.design.specs.Tree.{Design, truth}
 use Rattle.design.specs.State.{State, widths, start}
 use Rattle.design.specs.WellFormed.{WellFormed}
-use Rattle.step.specs.Property.{Property, PropertyOk}
+use Rattle.step.specs.Property.{Property, invariant, noInvalidCell, constraint, PropertyOk}
 use Rattle.clauses.specs.Literal.{Literal, positive, negative, negate, Clause}
 use Rattle.clauses.specs.Meaning.{Assignment, clauseTrue, satisfies, ClauseWithin, Within}
 use Rattle.clauses.specs.Words.{clauseWords, words, clausesOf}
 use Rattle.clauses.specs.Gate.{Gate, and, xor, mux, gateClauses, gatesClauses}
 use Rattle.clauses.specs.Circuit.{Bits}
 use Rattle.clauses.specs.Expression.{Slots}
-use Rattle.clauses.specs.Formula.{flat, unitsOf, initialUnits, against, pairs, ties, allTies, S, w, stateAt, propertyAt, flagsAt, stepAt, P, G, F, frame, n, firstPart, propertyClauses, stepClauses, negatedFrom, lastClause, formula}
+use Rattle.clauses.specs.Formula.{flat, unitsOf, initialUnits, against, pairs, ties, allTies, propertyLiteral, framesTaken, S, w, stateAt, propertyAt, flagsAt, stepAt, stepPropertyAt, P, G, F, frame, n, firstPart, propertyClauses, stepPropertyIn, stepClauses, propertyLiteralIn, negatedFrom, lastClause, formula}
 use Rattle.clauses.proofs.Gates.{gateVariable}
 use Rattle.clauses.proofs.Correct.{LiteralBelow, GateBelow, Chain, end, link, chain-le, negate-below}
 use Rattle.clauses.proofs.Arithmetic.{BitsBelow, bits-up}
@@ -24,7 +24,8 @@ use Rattle.clauses.proofs.Expressions.{SlotsBelow, slots-up, fits-up}
 use Rattle.clauses.proofs.Actions.{AllFit}
 use Rattle.clauses.proofs.Definitions.{Same, literal-same}
 use Rattle.clauses.proofs.StateBits.{variables-below, flat-below}
-use Rattle.clauses.proofs.Frames.{framesFrom, state-fits, property-at, step-at, frame-big, property-next, frame-next}
+use Rattle.clauses.proofs.Alike.{GatesAlike, no-gates, and-alike, xor-alike, stepProperty-alike, BelowToo, below-kept, slots-below-too}
+use Rattle.clauses.proofs.Frames.{framesFrom, state-wide, state-fits, property-at, step-at, step-property-at, frame-big, property-next, step-ends, step-le}
 use Rattle.clauses.proofs.Models.{formula-is}
 
 -- every literal names one of the variables 1, 2, .., m - 1
@@ -59,6 +60,22 @@ gates-below : {m k : ℕ} {gs : List Gate} → 0 < m → Chain m gs k → Clause
 gates-below q end = tt
 gates-below {k = k} q (link {n = n} {g = g} {gs = gs} e b c) =
     clauses-append k (gateClauses g) (gatesClauses gs) (clauses-up (chain-le c) (gateClauses g) (gate-below n g q e b)) (gates-below (omega arith) c)
+
+-- gates alike to gates that name only variables below m
+alike-below : (m : ℕ) {gs hs : List Gate} → GatesAlike (BelowToo m) gs hs → ClausesBelow m (gatesClauses gs) → ClausesBelow m (gatesClauses hs)
+alike-below m no-gates h = tt
+alike-below m (and-alike {c = c} {d = d} p q r) h =
+    let g = h .0 .0 in
+    let a = p (h .0 .1 .0) in
+    let b = q (h .1 .0 .1 .0) in
+    ((g, (a, tt)), ((g, (b, tt)), ((g, (negate-below m c a, (negate-below m d b, tt))), alike-below m r (h .1 .1 .1))))
+alike-below m (xor-alike {c = c} {d = d} p q r) h =
+    let g = h .0 .0 in
+    let a = p (h .0 .1 .0) in
+    let b = q (h .0 .1 .1 .0) in
+    let na = negate-below m c a in
+    let nb = negate-below m d b in
+    ((g, (a, (b, tt))), ((g, (na, (nb, tt))), ((g, (na, (b, tt))), ((g, (a, (nb, tt))), alike-below m r (h .1 .1 .1 .1)))))
 
 cond-below : (m : ℕ) (b : Bool) (x y : Literal) → LiteralBelow m x → LiteralBelow m y → LiteralBelow m (cond b x y)
 cond-below m true x y p q = p
@@ -99,6 +116,12 @@ allfit-up : (ws : List ℕ) {m k : ℕ} → m ≤ k → (ss : List Slots) → Al
 allfit-up ws h [] f = tt
 allfit-up ws h (s ∷ ss) f = (fits-up h (f .0), allfit-up ws h ss (f .1))
 
+-- of two literals the one that counts, where the one is below m in the frames 0 to k and the other in the frames before k
+taken-below : (p : Property) (k i m : ℕ) (state step : Literal) → i < framesTaken p k → (i ≤ k → LiteralBelow m state) → (i < k → LiteralBelow m step) → LiteralBelow m (propertyLiteral p state step)
+taken-below (invariant e) k i m state step h f g = f (omega arith)
+taken-below noInvalidCell k i m state step h f g = f (omega arith)
+taken-below (constraint e) k i m state step h f g = g h
+
 within : (m : ℕ) (cs : List Clause) → ClausesBelow (suc m) cs → Within m cs
 within m [] b = tt
 within m (c ∷ cs) b = (clause m c (b .0), within m cs (b .1))
@@ -119,6 +142,9 @@ module _ (d : Design) (p : Property) where
   pub past-le : (j m : ℕ) → past j ≤ past (j + m)
   past-le j zero = let q : j + 0 ≡ j = omega arith in rw q (le-refl (past j))
   past-le j (suc m) = let q : j + suc m ≡ suc j + m = omega arith in rw q (omega (arith, past-le (suc j) m, frame-suc j))
+
+  past-up : (j k : ℕ) → j ≤ k → past j ≤ past k
+  past-up j k h = let q : j + (k - j) ≡ k = omega arith in rw q at (past-le j (k - j))
 
   pub last-past : (k : ℕ) → past k ≤ suc (n d p k)
   unfolding n frame
@@ -141,6 +167,29 @@ module _ (d : Design) (wf : WellFormed d) (p : Property) (ok : PropertyOk d p) w
       let v = frame d p j in
       variables-below ((propertyAt d p v) .next) (w d) m (omega (arith, property-next d p v, frame-big d p j)) (omega (arith, property-next d p v, frame-suc d p j))
 
+  record StepProperty (j m : ℕ) : Type 0 where
+    clauses : ClausesBelow m (gatesClauses ((stepPropertyIn d p j) .gates))
+    out : LiteralBelow m ((stepPropertyIn d p j) .out)
+
+  -- property 2 over the frame's own state is below the next frame; over the next frame's it is alike
+  step-property-below : (j m : ℕ) → past d p (suc j) ≤ m → StepProperty j m
+  unfolding stepPropertyIn stepPropertyAt
+  step-property-below j m h =
+      let v = frame d p j in
+      let big = frame-big d p j in
+      let s = stateAt d v in
+      let u = stateAt d (frame d p (suc j)) in
+      let le : v + S d ≤ (stepAt d p v) .next = omega (arith, property-next d p v, chain-le (step-at d wf p v big .chain)) in
+      let own = step-property-at d wf p ok v big s (fits-up le (state-fits d wf p v big)) in
+      let out = own .shape in
+      let up : (stepPropertyAt d p v s) .next ≤ m = omega (arith, step-ends d wf p j s) in
+      let a = stepProperty-alike (BelowToo m) (below-kept m) d p s ((stepAt d p v) .next)
+      (slots-below-too m s u (state-wide d v ∙ sym (state-wide d (frame d p (suc j)))) (state-below (suc j) m h)) in
+      record {
+        clauses = alike-below m (a .gates) (clauses-up up (gatesClauses ((stepPropertyAt d p v s) .gates)) (gates-below (omega arith) (own .chain)));
+        out = a .out (omega arith);
+      }
+
   step-below : (j m : ℕ) → past d p (suc j) ≤ m → ClausesBelow m (stepClauses d p j)
   unfolding stepClauses
   step-below j m h =
@@ -149,12 +198,14 @@ module _ (d : Design) (wf : WellFormed d) (p : Property) (ok : PropertyOk d p) w
       let bs = flat (stateAt d (frame d p (suc j))) in
       let g = step-at d wf p v (frame-big d p j) in
       let bf = flags-below j m h in
-      let up : (stepAt d p v) .next ≤ m = omega (arith, frame-next d wf p j) in
-      clauses-append m (fs ∷ pairs fs) (gatesClauses ((stepAt d p v) .gates) ++ allTies fs ((stepAt d p v) .out) bs)
-      (bf, pairs-below m fs bf)
-      (clauses-append m (gatesClauses ((stepAt d p v) .gates)) (allTies fs ((stepAt d p v) .out) bs)
-      (clauses-up up (gatesClauses ((stepAt d p v) .gates)) (gates-below (omega (arith, frame-big d p j, property-next d p v)) (g .chain)))
-      (allTies-below m (widths d) fs ((stepAt d p v) .out) bs bf (allfit-up (widths d) up ((stepAt d p v) .out) (g .shape .0)) (flat-below m (stateAt d (frame d p (suc j))) (state-below (suc j) m h))))
+      let up : (stepAt d p v) .next ≤ m = omega (arith, step-le d wf p j) in
+      let B = gatesClauses ((stepAt d p v) .gates) in
+      let C = gatesClauses ((stepPropertyIn d p j) .gates) in
+      let D = allTies fs ((stepAt d p v) .out) bs in
+      clauses-append m (fs ∷ pairs fs) (B ++ (C ++ D)) (bf, pairs-below m fs bf)
+      (clauses-append m B (C ++ D) (clauses-up up B (gates-below (omega (arith, frame-big d p j, property-next d p v)) (g .chain)))
+      (clauses-append m C D (step-property-below j m h .clauses)
+      (allTies-below m (widths d) fs ((stepAt d p v) .out) bs bf (allfit-up (widths d) up ((stepAt d p v) .out) (g .shape .0)) (flat-below m (stateAt d (frame d p (suc j))) (state-below (suc j) m h)))))
 
   frames-below : (r j m : ℕ) → past d p (j + r) ≤ m → ClausesBelow m (framesFrom d p r j)
   unfolding framesFrom
@@ -167,18 +218,19 @@ module _ (d : Design) (wf : WellFormed d) (p : Property) (ok : PropertyOk d p) w
       (clauses-append m (propertyClauses d p j) (stepClauses d p j) (property-below j m (omega (arith, frame-suc d p j))) (step-below j m l))
       (frames-below r (suc j) m h′)
 
-  out-below : (j m : ℕ) → past d p j ≤ m → LiteralBelow m (negate ((propertyAt d p (frame d p j)) .out))
-  out-below j m h =
-      let v = frame d p j in
-      let b = negate-below ((propertyAt d p v) .next) ((propertyAt d p v) .out) (property-at d wf p ok v (frame-big d p j) .shape) in
-      omega (arith, property-next d p v)
+  out-below : (j m : ℕ) → past d p j ≤ m → LiteralBelow m ((propertyAt d p (frame d p j)) .out)
+  out-below j m h = let b = property-at d wf p ok (frame d p j) (frame-big d p j) .shape in omega (arith, property-next d p (frame d p j))
 
-  negated-below : (r j m : ℕ) → past d p (j + r) ≤ m → BitsBelow m (negatedFrom d p (suc r) j)
+  counted-below : (k i m : ℕ) → past d p k ≤ m → i < framesTaken p k → LiteralBelow m (propertyLiteralIn d p i)
+  unfolding propertyLiteralIn
+  counted-below k i m h l =
+      taken-below p k i m ((propertyAt d p (frame d p i)) .out) ((stepPropertyIn d p i) .out) l
+      (λ e. out-below i m (omega (arith, past-up d p i k e))) (λ e. step-property-below i m (omega (arith, past-up d p (suc i) k e)) .out)
+
+  negated-below : (r j m : ℕ) → ((i : ℕ) → i < j + r → LiteralBelow m (propertyLiteralIn d p i)) → BitsBelow m (negatedFrom d p r j)
   unfolding negatedFrom
-  negated-below zero j m h = (out-below j m (let q : j + 0 ≡ j = omega arith in rw q at h), tt)
-  negated-below (suc r) j m h =
-      let q : j + suc r ≡ suc j + r = omega arith in
-      (out-below j m (omega (arith, past-le d p j (suc r))), negated-below r (suc j) m (rw q at h))
+  negated-below zero j m f = tt
+  negated-below (suc r) j m f = (negate-below m (propertyLiteralIn d p j) (f j (omega arith)), negated-below r (suc j) m (λ i h. f i (omega arith)))
 
   first-below : (m : ℕ) → past d p 0 ≤ m → ClausesBelow m (firstPart d p)
   unfolding firstPart
@@ -191,7 +243,8 @@ module _ (d : Design) (wf : WellFormed d) (p : Property) (ok : PropertyOk d p) w
       let h′ : past d p (0 + k) ≤ m = rw q h in
       rw (formula-is d p k)
       (clauses-append m (firstPart d p) (framesFrom d p k 0 ++ (lastClause d p k ∷ [])) (first-below m (omega (arith, past-le d p 0 k)))
-      (clauses-append m (framesFrom d p k 0) (lastClause d p k ∷ []) (frames-below k 0 m h′) (negated-below k 0 m h′, tt)))
+      (clauses-append m (framesFrom d p k 0) (lastClause d p k ∷ []) (frames-below k 0 m h′)
+      (negated-below (framesTaken p k) 0 m (λ i l. counted-below k i m h (omega arith)), tt)))
 
   pub formula-within : (k : ℕ) → Within (n d p k) (formula d p k)
   formula-within k = within (n d p k) (formula d p k) (formula-below k (suc (n d p k)) (last-past d p k))

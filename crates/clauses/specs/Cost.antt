@@ -5,8 +5,8 @@ use mathlib.Core.List.{List, [], _∷_}
 use Prim.Native.Nat.{ℕ, zero, suc, _+_, _*_}
 use lib.Dec.{leb, ltb}
 use Rattle.design.specs.Tree.{IntExpr, BoolExpr, Stmt, Stmts, constant, variable, status, sum, difference, constantB, variableB, notB, andB, orB, equal, less, assign, assignB, ifElse, done, then, InvalidCell, Design, Mover, cell, raise, movers}
-use Rattle.step.specs.Property.{Property, invariant, noInvalidCell}
-use Rattle.clauses.specs.Formula.{S, w}
+use Rattle.step.specs.Property.{Property, invariant, noInvalidCell, constraint}
+use Rattle.clauses.specs.Formula.{S, w, framesTaken}
 
 -- `wides` are xors and muxes
 pub record Cost : Type 0 where
@@ -90,14 +90,21 @@ abbrev pub pairCount : ℕ → ℕ
 pairCount zero = 0
 pairCount (suc n) = n + pairCount n
 
+unfoldable pub stepPropertyCost : Property → Cost
+stepPropertyCost (invariant e) = cost 0 0
+stepPropertyCost noInvalidCell = cost 0 0
+stepPropertyCost (constraint e) = boolCost e
+
 module _ (d : Design) where
   -- P gates, and G gates
   unfoldable pub propertyCost : Property → Cost
   propertyCost (invariant e) = boolCost e
   propertyCost noInvalidCell = invalidCost (d .invalid)
+  propertyCost (constraint e) = cost 0 0
 
-  unfoldable pub stepCost : Cost
-  stepCost = moversCost (S d) (movers d)
+  -- the movers' gates, and behind them those of property 2
+  unfoldable pub stepCost : Property → Cost
+  stepCost p = addCosts (moversCost (S d) (movers d)) (stepPropertyCost p)
 
   -- clauses and words of part 0
   unfoldable pub firstClauses : ℕ
@@ -107,20 +114,20 @@ module _ (d : Design) where
   firstWords = 2 + 2 * S d
 
   -- of the step out of a frame: the clause of all flags, their pairs, the gates, the ties
-  unfoldable pub stepClauseCount : ℕ
-  stepClauseCount = 1 + pairCount (w d) + clausesIn stepCost + 2 * (w d * S d)
+  unfoldable pub stepClauseCount : Property → ℕ
+  stepClauseCount p = 1 + pairCount (w d) + clausesIn (stepCost p) + 2 * (w d * S d)
 
-  unfoldable pub stepWordCount : ℕ
-  stepWordCount = 1 + w d + 3 * pairCount (w d) + wordsIn stepCost + 8 * (w d * S d)
+  unfoldable pub stepWordCount : Property → ℕ
+  stepWordCount p = 1 + w d + 3 * pairCount (w d) + wordsIn (stepCost p) + 8 * (w d * S d)
 
   -- of the whole formula
   unfoldable pub clauseCount : Property → ℕ → ℕ
-  clauseCount p k = firstClauses + (1 + k) * clausesIn (propertyCost p) + k * stepClauseCount + 1
+  clauseCount p k = firstClauses + (1 + k) * clausesIn (propertyCost p) + k * stepClauseCount p + 1
 
   unfoldable pub wordCount : Property → ℕ → ℕ
-  wordCount p k = firstWords + (1 + k) * wordsIn (propertyCost p) + k * stepWordCount + (k + 2)
+  wordCount p k = firstWords + (1 + k) * wordsIn (propertyCost p) + k * stepWordCount p + suc (framesTaken p k)
 
   -- of part i of the formula for bound k, for i up to k + 2
   unfoldable pub partWordCount : Property → ℕ → ℕ → ℕ
   partWordCount p k zero = firstWords
-  partWordCount p k (suc j) = cond (leb j k) (wordsIn (propertyCost p) + cond (ltb j k) stepWordCount 0) (k + 2)
+  partWordCount p k (suc j) = cond (leb j k) (wordsIn (propertyCost p) + cond (ltb j k) (stepWordCount p) 0) (suc (framesTaken p k))

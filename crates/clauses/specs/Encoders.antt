@@ -1,12 +1,13 @@
 -- What the encoders of trees are given and promise: where the reader accepts, the gates of what it reads are written at the cursor.
 use Prim.Native.Nat.{ℕ, _≤_}
 use mathlib.Core.Path.{_≡_}
+use mathlib.Core.Bool.{Bool}
 use mathlib.Core.List.{List}
 use lib.ListN.{length}
 use lib.IntN.{ℤ}
 use Rattle.design.specs.Tree.{IntExpr, BoolExpr, Stmt, Stmts}
 use Rattle.design.specs.Reading.{Reader, got}
-use Rattle.design.specs.Expression.{intExpr, boolExpr}
+use Rattle.design.specs.Expression.{withLater, intExpr, boolExpr}
 use Rattle.design.specs.Action.{assignment, statement, list}
 use Rattle.design.specs.Check.{namesOf}
 use Rattle.design.specs.declared.shape.Shape.{Shape}
@@ -17,7 +18,7 @@ use Rattle.clauses.specs.Action.{muxes!, statement!, statements! }
 use Rattle.clauses.specs.Formula.{total}
 use Rattle.clauses.specs.Writing.{fromCode, fromCodes, Emits}
 use Rattle.clauses.specs.Piece.{SumBit}
-use Rattle.clauses.specs.FlatState.{widthsIn, slotsOf, layoutOf, Reads}
+use Rattle.clauses.specs.FlatState.{widthsIn, slotsOf, readSlots, layoutOf, Reads}
 use Rattle.clauses.specs.declared.gate.Cursor.{Cursor}
 use Rattle.clauses.specs.declared.gate.Out.{Out}
 use Rattle.clauses.specs.declared.circuit.Bit.{Bit}
@@ -57,11 +58,12 @@ pub record Encodes {A B : Type 0} (text : List ℕ) (reader : ℕ → ℕ → Re
   pub encodes : (end levels : ℕ) (t : A) (n : ℕ) → end ≤ length text → reader end levels at ≡ got t n → Writes pen (build t) xs ys out after × (next ≡ n)
 
 module _ (text file : List ℕ) (shape : Shape) where
-  abbrev pub intsAt : ℕ → ℕ → Reader IntExpr
-  intsAt end levels = intExpr text (namesOf file shape) end levels
+  -- `later` says whether the next state may be read too
+  abbrev pub intsAt : Bool → ℕ → ℕ → Reader IntExpr
+  intsAt later end levels = intExpr text (withLater later (namesOf file shape)) end levels
 
-  abbrev pub boolsAt : ℕ → ℕ → Reader BoolExpr
-  boolsAt end levels = boolExpr text (namesOf file shape) end levels
+  abbrev pub boolsAt : Bool → ℕ → ℕ → Reader BoolExpr
+  boolsAt later end levels = boolExpr text (withLater later (namesOf file shape)) end levels
 
   abbrev pub assignsAt : ℕ → ℕ → Reader Stmt
   assignsAt end levels = assignment text (namesOf file shape) end
@@ -72,17 +74,19 @@ module _ (text file : List ℕ) (shape : Shape) where
   abbrev pub listsAt : ℕ → ℕ → Reader Stmts
   listsAt end levels = list text (namesOf file shape) end levels
 
-  abbrev pub IntHere : ℕ → Type 0
-  IntHere at = Here text intsAt at
+  abbrev pub IntHere : Bool → ℕ → Type 0
+  IntHere later at = Here text (intsAt later) at
 
-  abbrev pub BoolHere : ℕ → Type 0
-  BoolHere at = Here text boolsAt at
+  abbrev pub BoolHere : Bool → ℕ → Type 0
+  BoolHere later at = Here text (boolsAt later) at
 
-  abbrev pub IntEncoded : List ℕ → ℕ → Cursor → List ℤ → List ℤ → IntOut → Type 0
-  IntEncoded codes at pen xs ys r = Encodes text intsAt (int! (layoutOf shape) (slotsOf file shape codes)) at pen xs ys (fromCodes (r .lits)) (r .pen) (r .next)
+  abbrev pub IntEncoded : Bool → List ℕ → ℕ → Cursor → List ℤ → List ℤ → IntOut → Type 0
+  IntEncoded later codes at pen xs ys r =
+      Encodes text (intsAt later) (int! (layoutOf shape) (readSlots later file shape codes)) at pen xs ys (fromCodes (r .lits)) (r .pen) (r .next)
 
-  abbrev pub BoolEncoded : List ℕ → ℕ → Cursor → List ℤ → List ℤ → BoolOut → Type 0
-  BoolEncoded codes at pen xs ys r = Encodes text boolsAt (bool! (layoutOf shape) (slotsOf file shape codes)) at pen xs ys (fromCode (r .lit)) (r .pen) (r .next)
+  abbrev pub BoolEncoded : Bool → List ℕ → ℕ → Cursor → List ℤ → List ℤ → BoolOut → Type 0
+  BoolEncoded later codes at pen xs ys r =
+      Encodes text (boolsAt later) (bool! (layoutOf shape) (readSlots later file shape codes)) at pen xs ys (fromCode (r .lit)) (r .pen) (r .next)
 
 -- statements stand in the file itself; the state's literals go in and come out
 module _ (file : List ℕ) (shape : Shape) where

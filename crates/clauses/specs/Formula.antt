@@ -6,7 +6,7 @@ use lib.Dec.{ltb, leb}
 use lib.ListN.{length}
 use Rattle.design.specs.Tree.{Design, movers, truth}
 use Rattle.design.specs.State.{State, layout, widths, start}
-use Rattle.step.specs.Property.{Property, invariant, noInvalidCell, propertyOf}
+use Rattle.step.specs.Property.{Property, invariant, noInvalidCell, constraint, propertyOf}
 unfoldable pub use Rattle.design.specs.Tree.{w}
 pub use Rattle.design.specs.State.{total}
 unfoldable pub use Rattle.design.specs.State.{S}
@@ -66,11 +66,29 @@ abbrev pub firstTrue : Assignment → Bits → ℕ
 firstTrue ρ [] = 0
 firstTrue ρ (f ∷ fs) = cond (literalTrue ρ f) 0 (suc (firstTrue ρ fs))
 
+-- of a property's literals in a frame's state and in the step out of it, the one that counts; and in how many frames it counts, where the last one is frame k
+abbrev pub propertyLiteral : Property → Literal → Literal → Literal
+propertyLiteral (invariant e) state step = state
+propertyLiteral noInvalidCell state step = state
+propertyLiteral (constraint e) state step = step
+
+abbrev pub framesTaken : Property → ℕ → ℕ
+framesTaken (invariant e) k = suc k
+framesTaken noInvalidCell k = suc k
+framesTaken (constraint e) k = k
+
 module _ (d : Design) where
-  -- the invariant's circuit; "Property 1 and-chains from true"
+  -- the invariant's circuit; "Property 1 and-chains from true"; of property 2 "P is 0"
   unfoldable pub property! : Property → Slots → Build Literal
   property! (invariant e) s = bool! (layout d) s e
   property! noInvalidCell s = noInvalid! (layout d) s trueLiteral (d .invalid)
+  property! (constraint e) s = give trueLiteral
+
+  -- "Property 2's gates stand among the step gates, after the last mover" (document 02, R-1): of a frame's state and the next frame's. Other properties have none there.
+  unfoldable pub stepProperty! : Property → Slots → Slots → Build Literal
+  stepProperty! (invariant e) s next = give trueLiteral
+  stepProperty! noInvalidCell s next = give trueLiteral
+  stepProperty! (constraint e) s next = bool! (layout d) (s ++ next) e
 
   -- the results of all movers
   unfoldable pub step! : Slots → Build (List Slots)
@@ -90,11 +108,16 @@ module _ (d : Design) where
     unfoldable pub stepAt : ℕ → Built (List Slots)
     stepAt v = step! (stateAt v) ((propertyAt v) .next + w d)
 
+    -- behind the movers' gates; `next` is the next frame's state
+    unfoldable pub stepPropertyAt : ℕ → Slots → Built Literal
+    stepPropertyAt v next = stepProperty! p (stateAt v) next ((stepAt v) .next)
+
     unfoldable pub P : ℕ
     P = length ((propertyAt 2) .gates)
 
+    -- which variables the next frame has does not change the number of gates
     unfoldable pub G : ℕ
-    G = length ((stepAt 2) .gates)
+    G = length ((stepAt 2) .gates) + length ((stepPropertyAt 2 (stateAt 2)) .gates)
 
     -- "so F=S+P+w+G"
     unfoldable pub F : ℕ
@@ -116,25 +139,34 @@ module _ (d : Design) where
     unfoldable pub propertyClauses : ℕ → List Clause
     propertyClauses j = gatesClauses ((propertyAt (frame j)) .gates)
 
+    -- property 2 in the step out of frame j
+    unfoldable pub stepPropertyIn : ℕ → Built Literal
+    stepPropertyIn j = stepPropertyAt (frame j) (stateAt (frame (suc j)))
+
     -- "the clause of all flags, (-f -h) for each flag pair in order, step gates, and for each mover and bit (-f -r b)(-f r -b)"
     unfoldable pub stepClauses : ℕ → List Clause
     stepClauses j =
         (flagsAt (frame j) ∷ pairs (flagsAt (frame j)))
         ++ (gatesClauses ((stepAt (frame j)) .gates)
-        ++ allTies (flagsAt (frame j)) ((stepAt (frame j)) .out) (flat (stateAt (frame (suc j)))))
+        ++ (gatesClauses ((stepPropertyIn j) .gates)
+        ++ allTies (flagsAt (frame j)) ((stepAt (frame j)) .out) (flat (stateAt (frame (suc j))))))
 
     -- "Part j+1 is frame j: property gates; for j<k also .."
     unfoldable pub framePart : ℕ → ℕ → List Clause
     framePart k j = propertyClauses j ++ cond (ltb j k) (stepClauses j) []
 
+    -- the property's literal in frame j: of property 2, in the step out of it
+    unfoldable pub propertyLiteralIn : ℕ → Literal
+    propertyLiteralIn j = propertyLiteral p ((propertyAt (frame j)) .out) ((stepPropertyIn j) .out)
+
     -- "the negated property of frames" j, j + 1, .., so many of them
     unfoldable pub negatedFrom : ℕ → ℕ → Clause
     negatedFrom zero j = []
-    negatedFrom (suc m) j = negate ((propertyAt (frame j)) .out) ∷ negatedFrom m (suc j)
+    negatedFrom (suc m) j = negate (propertyLiteralIn j) ∷ negatedFrom m (suc j)
 
-    -- "Part k+2 is one clause: the negated property of frames 0..k."
+    -- "Part k+2 is one clause: the negated property of frames 0..k."; of property 2, "the last clause takes frames 0 to k-1", and "at bound 0 the last clause is empty"
     unfoldable pub lastClause : ℕ → Clause
-    lastClause k = negatedFrom (suc k) 0
+    lastClause k = negatedFrom (framesTaken p k) 0
 
     -- part i of the formula for bound k, for i up to k + 2
     unfoldable pub part : ℕ → ℕ → List Clause
@@ -161,6 +193,6 @@ module _ (d : Design) where
 -- Not part of the formula: to unfold this is to unfold all of it, for facts about given designs.
 unfoldable pub encoding : ℕ
 unfolding give _>>=_ and! xor! mux! or! sum! difference! less! xors! chain! equal! int! bool! muxBits! muxes! statement! statements! statusAndEvent!
-    enable! effect! mover! movers! noInvalid! movers layout widths start S w propertyOf property! step! stateAt propertyAt flagsAt stepAt P G F frame
-    n firstPart propertyClauses stepClauses framePart negatedFrom lastClause part partsFrom formula choicesFrom choices
+    enable! effect! mover! movers! noInvalid! movers layout widths start S w propertyOf property! stepProperty! step! stateAt propertyAt flagsAt stepAt
+    stepPropertyAt P G F frame n firstPart propertyClauses stepPropertyIn stepClauses framePart propertyLiteralIn negatedFrom lastClause part partsFrom formula choicesFrom choices
 encoding = 0

@@ -11,7 +11,7 @@ use Rattle.design.specs.DesignFile.{Entry, normal, invalid, c-matrix, c-event}
 use Rattle.design.specs.Limits.{maxMovers, maxBits}
 use Rattle.design.specs.Check.{eventIn}
 use Rattle.design.specs.Sections.{Parts, Standing}
-use Rattle.step.specs.Property.{Property}
+use Rattle.step.specs.Property.{Property, invariant, noInvalidCell, constraint}
 use Rattle.clauses.specs.Formula.{S, w}
 use Rattle.clauses.specs.Cost.{Cost, cost, addCosts, gatesIn, clausesIn, wordsIn, pairCount, statementCost, statementsCost, statusAndEventCost, moverCost, propertyCost, stepCost}
 use Rattle.clauses.specs.Limits.{mostGates}
@@ -82,14 +82,21 @@ gatesOf c = record { ands = c .ands; wides = c .wides }
 abbrev pub costIn : Gates → Cost
 costIn g = cost (g .ands) (g .wides)
 
+-- 1 where the last clause takes the last frame too, else 0
+abbrev pub lastFrames : Property → ℕ
+lastFrames (invariant e) = 1
+lastFrames noInvalidCell = 1
+lastFrames (constraint e) = 0
+
 unfoldable pub frameSizes : Design → Property → FrameSizes
-frameSizes d p = record { bits = S d; movers = w d; property = gatesOf (propertyCost d p); step = gatesOf (stepCost d) }
+frameSizes d p = record { bits = S d; movers = w d; property = gatesOf (propertyCost d p); step = gatesOf (stepCost d p); last = lastFrames p }
 
 -- small enough for the formula of any bound
 pub record SmallFrame (s : FrameSizes) : Type 0 where
   pub bits : s .bits ≤ maxBits
   pub movers : s .movers ≤ maxMovers
   pub gates : gatesIn (costIn (s .property)) + gatesIn (costIn (s .step)) ≤ mostGates
+  pub last : s .last ≤ 1
 
 -- The numbers of Cost.antt's last part, from the sizes of a frame.
 module _ (s : FrameSizes) where
@@ -104,7 +111,7 @@ module _ (s : FrameSizes) where
 
   abbrev pub partWordsOf : ℕ → ℕ → ℕ
   partWordsOf k zero = 2 + 2 * s .bits
-  partWordsOf k (suc j) = cond (leb j k) (wordsIn (costIn (s .property)) + cond (ltb j k) stepWordsOf 0) (k + 2)
+  partWordsOf k (suc j) = cond (leb j k) (wordsIn (costIn (s .property)) + cond (ltb j k) stepWordsOf 0) (k + s .last + 1)
 
   -- n, and SIZE's answer
   abbrev pub variablesOf : ℕ → ℕ
@@ -118,5 +125,5 @@ module _ (s : FrameSizes) where
     step = gatesIn (costIn (s .step));
     variables = variablesOf k;
     clauses = 1 + s .bits + (1 + k) * clausesIn (costIn (s .property)) + k * stepClausesOf + 1;
-    words = 2 + 2 * s .bits + (1 + k) * wordsIn (costIn (s .property)) + k * stepWordsOf + (k + 2);
+    words = 2 + 2 * s .bits + (1 + k) * wordsIn (costIn (s .property)) + k * stepWordsOf + (k + s .last + 1);
   }

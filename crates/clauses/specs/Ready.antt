@@ -11,10 +11,10 @@ use Rattle.design.specs.Check.{Checked, check}
 use Rattle.design.specs.Places.{Accepted, Shaped, StateBits, EventsIndexed, CellsIndexed, externalsFrom}
 use Rattle.design.specs.Sections.{Parts}
 use Rattle.design.specs.declared.shape.Shape.{Shape}
-use Rattle.step.specs.Property.{Property, propertyOf}
-use Rattle.clauses.specs.Literal.{positive, trueLiteral}
+use Rattle.step.specs.Property.{Property, invariant, noInvalidCell, constraint, propertyOf}
+use Rattle.clauses.specs.Literal.{Literal, positive, trueLiteral}
 use Rattle.clauses.specs.Words.{words}
-use Rattle.clauses.specs.Formula.{total, variablesFrom, slotsFrom, flat, initialUnits, ties, allTies, property!, F, n, frame, stepClauses, framePart, lastClause, part, formula}
+use Rattle.clauses.specs.Formula.{total, variablesFrom, slotsFrom, flat, initialUnits, ties, allTies, property!, stepProperty!, stateAt, propertyAt, stepPropertyAt, propertyLiteral, S, P, F, n, frame, stepClauses, framePart, lastClause, part, formula}
 use Rattle.clauses.specs.Expression.{Slots, bool! }
 use Rattle.clauses.specs.Action.{statusAndEvent!, enable!, mover!, movers!, noInvalid! }
 use Rattle.clauses.specs.Limits.{frameLimit}
@@ -64,7 +64,7 @@ module _ (file : List ℕ) (shape : Shape) (codes : List ℕ) where
   AllMove pen xs ys r =
       (d : Design) (parts : Parts file d) → Writes pen (movers! (layoutOf shape) (slotsOf file shape codes) (movers d)) xs ys (map (resultFrom file shape) (take (shape .normals + shape .externals) (r .firsts))) (r .pen)
 
-  -- a cell's link of property 1's chain, the chain, and either property
+  -- a cell's link of property 1's chain, the chain, and a property
   abbrev pub LinkGates : ℕ → (ℕ → ℕ → BoolExpr) → Out → List ℤ → List ℤ → Out → Type 0
   LinkGates p f chain xs ys r =
       Gives (record { cur = chain .cur; var = chain .var })
@@ -75,6 +75,20 @@ module _ (file : List ℕ) (shape : Shape) (codes : List ℕ) where
 
   abbrev pub PropertyGates : Design → ℕ → Cursor → List ℤ → List ℤ → Out → Type 0
   PropertyGates d p pen xs ys r = Gives pen (property! d (propertyOf d p) (slotsOf file shape codes)) xs ys r
+
+-- property 2 in a step, of the state whose first variable is v and the next one's, which starts at `after`
+abbrev pub StepPropertyGates : Design → ℕ → ℕ → ℕ → Cursor → List ℤ → List ℤ → Out → Type 0
+StepPropertyGates d p v after pen xs ys r =
+    v + S d ≤ variableLimit → after + S d ≤ variableLimit → Gives pen (stepProperty! d (propertyOf d p) (stateAt d v) (stateAt d after)) xs ys r
+
+-- the property's literal in the frame whose first variable is v (`propertyLiteralIn`), and that its variables are within the limit
+abbrev pub propertyLiteralAt : Design → Property → ℕ → Literal
+propertyLiteralAt d q v = propertyLiteral q ((propertyAt d q v) .out) ((stepPropertyAt d q v (stateAt d (v + F d q))) .out)
+
+abbrev pub PropertyLiteralFits : Design → Property → ℕ → Type 0
+PropertyLiteralFits d (invariant e) v = v + S d + P d (invariant e) ≤ variableLimit
+PropertyLiteralFits d noInvalidCell v = v + S d + P d noInvalidCell ≤ variableLimit
+PropertyLiteralFits d (constraint e) v = v + F d (constraint e) + S d ≤ variableLimit
 
 -- The ties of one mover, whose flag is f, and of all: results from r on, or from the variable that `firsts` has, and n bits from b on.
 module _ (n b : ℕ) (xs ys : List ℤ) (cur cur′ : ℕ) where
@@ -93,13 +107,13 @@ module _ (file : List ℕ) (xs ys : List ℤ) (cur cur′ : ℕ) where
   ValuesPut =
       (d : Design) (parts : Parts file d) → Puts (words (initialUnits (slotsFrom 2 (map (λ (x : Variable). width (x .kind)) (d .variables))) (map (λ (x : Variable). x .initial) (d .variables)))) xs ys cur cur′
 
-  abbrev pub StepPut : FrameSizes → ℕ → Type 0
-  StepPut s v =
-      (d : Design) (p j : ℕ) → check file ≡ Checked.accepted d → s ≡ frameSizes d (propertyOf d p) → j < maxBound → v ≡ frame d (propertyOf d p) j
+  abbrev pub StepPut : FrameSizes → ℕ → ℕ → Type 0
+  StepPut s p v =
+      (d : Design) (j : ℕ) → check file ≡ Checked.accepted d → s ≡ frameSizes d (propertyOf d p) → j < maxBound → v ≡ frame d (propertyOf d p) j
       → Puts (words (stepClauses d (propertyOf d p) j)) xs ys cur cur′
 
-  abbrev pub LastPut : ℕ → ℕ → ℕ → Type 0
-  LastPut p k stride = (d : Design) (parts : Parts file d) → stride ≡ F d (propertyOf d p) → n d (propertyOf d p) k < variableLimit → Puts (words (lastClause d (propertyOf d p) k ∷ [])) xs ys cur cur′
+  abbrev pub LastPut : ℕ → ℕ → FrameSizes → Type 0
+  LastPut p k s = (d : Design) → check file ≡ Checked.accepted d → s ≡ frameSizes d (propertyOf d p) → n d (propertyOf d p) k < variableLimit → Puts (words (lastClause d (propertyOf d p) k ∷ [])) xs ys cur cur′
 
   -- a frame's part, any part, and all, of the formula that is written
   abbrev pub FramePut : Instance → ℕ → Type 0
@@ -127,7 +141,7 @@ pub record FrameReady (file events cells : List ℕ) (shape : Shape) (s : FrameS
 pub record Writable (file : List ℕ) (p k : ℕ) (buffer : List ℤ) : Type 0 where
   pub design : Design
   pub accepted : check file ≡ Checked.accepted design
-  pub property : p ≤ lastProperty
+  pub property : p ≤ lastProperty file
   pub bound : k ≤ maxBound
   pub room : length (words (formula design (propertyOf design p) k)) ≤ length buffer
 

@@ -30,7 +30,7 @@ sizesOf d q k = record {
   words = length (words (formula d q k));
 }
 
--- "SIZE: 13; 14 bound over 100." 13 is "property over 1". "Places not named are 0."
+-- "SIZE: 13; 14 bound over 100." 13 is "property over 1", with a constraint over 2. "Places not named are 0."
 unfoldable pub size : List ℕ → ℕ → ℕ → Answer Sizes
 size file p k =
     gate file p k λ d q.

@@ -1,6 +1,7 @@
 // The gates of statements and lists of them: the statement walker and the list walker call each other, with the bytes left falling.
 // The state's literals stand in an array that is lent and changed in place; an if saves a copy.
 ghost use mathlib.Core.Path.{_≡_};
+ghost use mathlib.Core.Bool.{false};
 ghost use Prim.Native.Nat.{_+_, _*_, _≤_};
 ghost use lib.ListN.{length, take};
 ghost use Rattle.design.specs.Limits.{maxBits};
@@ -69,7 +70,7 @@ pub fn encode_assign(
     buf: &mut [i32],
     pen: Cursor,
 ) -> Done
-    requires { ⌜ Slotted (now file) shape (now state) × (length (now state) ≡ maxBits) × Here (now file) (assignsAt (now file) (now file) shape) at ⌝ }
+    requires { ⌜ Slotted false (now file) shape (now state) × (length (now state) ≡ maxBits) × Here (now file) (assignsAt (now file) (now file) shape) at ⌝ }
     ensures { λ r. ⌜ AssignEncoded (now (file .entry)) shape (now (state .entry)) (now (state .exit)) at pen (now (buf .entry)) (now (buf .exit)) r × (length (now (state .exit)) ≡ maxBits) ⌝ }
 {
     let v = wide(file[at]);
@@ -104,7 +105,7 @@ pub fn encode_stmt(
     buf: &mut [i32],
     pen: Cursor,
 ) -> Done
-    requires { ⌜ Slotted (now file) shape (now state) × (length (now state) ≡ maxBits) × Here (now file) (stmtsAt (now file) (now file) shape) at ⌝ }
+    requires { ⌜ Slotted false (now file) shape (now state) × (length (now state) ≡ maxBits) × Here (now file) (stmtsAt (now file) (now file) shape) at ⌝ }
     ensures { λ r. ⌜ StmtEncoded (now (file .entry)) shape (now (state .entry)) (now (state .exit)) at pen (now (buf .entry)) (now (buf .exit)) r × (length (now (state .exit)) ≡ maxBits) ⌝ }
 {
     let op = file[at];
@@ -131,7 +132,7 @@ pub fn encode_list(
     buf: &mut [i32],
     pen: Cursor,
 ) -> Done
-    requires { ⌜ Slotted (now file) shape (now state) × (length (now state) ≡ maxBits) × Here (now file) (listsAt (now file) (now file) shape) at ⌝ }
+    requires { ⌜ Slotted false (now file) shape (now state) × (length (now state) ≡ maxBits) × Here (now file) (listsAt (now file) (now file) shape) at ⌝ }
     ensures { λ r. ⌜ ListEncoded (now (file .entry)) shape (now (state .entry)) (now (state .exit)) at pen (now (buf .entry)) (now (buf .exit)) r × (length (now (state .exit)) ≡ maxBits) ⌝ }
 {
     let mut left = wide(file[at]);

@@ -2,6 +2,7 @@
 // number name them.
 ghost use mathlib.Core.Path.{_≡_};
 ghost use mathlib.Core.Bool.{cond};
+ghost use mathlib.Core.List.{_++_};
 ghost use Prim.Native.Nat.{_+_, _*_, _≤_, _<_};
 ghost use lib.ListN.{length, take};
 ghost use Rattle.design.specs.Limits.{maxMatrices, maxMovers, maxBits};
@@ -21,6 +22,7 @@ use super::literal::put_end;
 use super::literal::put_literal;
 use design::limits::MAX_BITS;
 use design::limits::MAX_MOVERS;
+use design::limits::PAIR_BITS;
 
 // The literals of n variables from v on.
 pub fn variables(v: u32, n: usize) -> [u32; MAX_BITS]
@@ -33,6 +35,25 @@ pub fn variables(v: u32, n: usize) -> [u32; MAX_BITS]
     while i < n {
         out[i] = positive(x);
         x = next(x);
+        i = i + 1;
+    }
+    out
+}
+
+// The literals of two states of n variables each, from v and from w on.
+pub fn two_states(v: u32, w: u32, n: usize) -> [u32; PAIR_BITS]
+    requires { ⌜ n ≤ maxBits ⌝ }
+    ensures { λ r. ⌜ (v + n ≤ variableLimit → w + n ≤ variableLimit → take (n + n) (fromCodes r) ≡ variablesFrom v n ++ variablesFrom w n) ⌝ }
+{
+    let mut out = [0u32; PAIR_BITS];
+    let mut x = v;
+    let mut y = w;
+    let mut i: usize = 0;
+    while i < n {
+        out[i] = positive(x);
+        out[n + i] = positive(y);
+        x = next(x);
+        y = next(y);
         i = i + 1;
     }
     out

@@ -2,12 +2,12 @@
 // In every function: what is read starts at `at`, does not pass `end`, and the reader accepts it. An expression stands in `text`; the reader has
 // seen its variables' kinds, in whatever file they stand, and its depth: neither is needed again. A statement stands in the file that has the kinds.
 ghost use mathlib.Core.Path.{_≡_};
-ghost use mathlib.Core.Bool.{true};
+ghost use mathlib.Core.Bool.{Bool, true};
 ghost use mathlib.Core.List.{List};
 ghost use Prim.Native.Nat.{ℕ, _+_, _*_, _≤_, _<_};
 ghost use lib.ListN.{length};
 ghost use Rattle.design.specs.Limits.{maxBytes, maxBits};
-ghost use Rattle.design.specs.Expression.{intExpr, boolExpr};
+ghost use Rattle.design.specs.Expression.{withLater, intExpr, boolExpr};
 ghost use Rattle.design.specs.Action.{assignment, statement, list};
 ghost use Rattle.design.specs.Check.{namesOf};
 ghost use Rattle.step.specs.Accepted.{isRead};
@@ -48,9 +48,10 @@ pub fn join(a: GatesAt, b: GatesAt, ands: u64, wides: u64) -> GatesAt
 
 // The integer expression at `at`.
 pub fn size_int(text: &[u8], at: usize, end: usize, shape: Shape) -> GatesAt
-    requires { ⌜ ((file : List ℕ) × (depth : ℕ) × (isRead (intExpr (now text) (namesOf file shape) end depth at) ≡ true)) × (end ≤ length (now text)) × (end ≤ maxBytes) ⌝ }
-    ensures { λ r. ⌜ ((file : List ℕ) (depth : ℕ) → isRead (intExpr (now (text .entry)) (namesOf file shape) end depth at) ≡ true
-        → r ≡ gatesAt intCost (intExpr (now (text .entry)) (namesOf file shape) end depth at)) ⌝ }
+    requires { ⌜ ((file : List ℕ) × (depth : ℕ) × (later : Bool) × (isRead (intExpr (now text) (withLater later (namesOf file shape)) end depth at) ≡ true))
+        × (end ≤ length (now text)) × (end ≤ maxBytes) ⌝ }
+    ensures { λ r. ⌜ ((file : List ℕ) (depth : ℕ) (later : Bool) → isRead (intExpr (now (text .entry)) (withLater later (namesOf file shape)) end depth at) ≡ true
+        → r ≡ gatesAt intCost (intExpr (now (text .entry)) (withLater later (namesOf file shape)) end depth at)) ⌝ }
 {
     let op = text[at];
     match op {
@@ -61,15 +62,17 @@ pub fn size_int(text: &[u8], at: usize, end: usize, shape: Shape) -> GatesAt
             let b = size_int(text, a.next, end, shape);
             join(a, b, 48, 32)
         }
+        0x06..=0x07 => no_gates(at + 2),
         _ => no_gates(at),
     }
 }
 
 // The Boolean expression at `at`.
 pub fn size_bool(text: &[u8], at: usize, end: usize, shape: Shape) -> GatesAt
-    requires { ⌜ ((file : List ℕ) × (depth : ℕ) × (isRead (boolExpr (now text) (namesOf file shape) end depth at) ≡ true)) × (end ≤ length (now text)) × (end ≤ maxBytes) ⌝ }
-    ensures { λ r. ⌜ ((file : List ℕ) (depth : ℕ) → isRead (boolExpr (now (text .entry)) (namesOf file shape) end depth at) ≡ true
-        → r ≡ gatesAt boolCost (boolExpr (now (text .entry)) (namesOf file shape) end depth at)) ⌝ }
+    requires { ⌜ ((file : List ℕ) × (depth : ℕ) × (later : Bool) × (isRead (boolExpr (now text) (withLater later (namesOf file shape)) end depth at) ≡ true))
+        × (end ≤ length (now text)) × (end ≤ maxBytes) ⌝ }
+    ensures { λ r. ⌜ ((file : List ℕ) (depth : ℕ) (later : Bool) → isRead (boolExpr (now (text .entry)) (withLater later (namesOf file shape)) end depth at) ≡ true
+        → r ≡ gatesAt boolCost (boolExpr (now (text .entry)) (withLater later (namesOf file shape)) end depth at)) ⌝ }
 {
     let op = text[at];
     match op {
@@ -89,6 +92,7 @@ pub fn size_bool(text: &[u8], at: usize, end: usize, shape: Shape) -> GatesAt
                 join(a, b, 48, 32)
             }
         }
+        0x17 => no_gates(at + 2),
         _ => no_gates(at),
     }
 }

@@ -112,7 +112,7 @@ pub fn decode_accepted(
     values: &[u8],
     choices: &mut [u8],
 ) -> DecodeReply
-    requires { ⌜ Accepted (now file) × (property ≤ lastProperty) × (bound ≤ maxBound) ⌝ }
+    requires { ⌜ Accepted (now file) × (property ≤ lastProperty (now file)) × (bound ≤ maxBound) ⌝ }
     ensures { λ r. ⌜ record { reply = r; choices = now (choices .exit) } ≡ DECODE (now (file .entry)) property bound (now (values .entry)) (now (choices .entry)) ⌝ }
 {
     let s = sizes(file, property);

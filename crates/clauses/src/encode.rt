@@ -40,7 +40,7 @@ pub fn encode_accepted(
     part: u64,
     buffer: &mut [i32],
 ) -> EncodeReply
-    requires { ⌜ Accepted (now file) × (property ≤ lastProperty) × (bound ≤ maxBound) × (part ≤ bound + 2) ⌝ }
+    requires { ⌜ Accepted (now file) × (property ≤ lastProperty (now file)) × (bound ≤ maxBound) × (part ≤ bound + 2) ⌝ }
     ensures { λ r. ⌜ record { reply = r; buffer = now (buffer .exit) } ≡ ENCODE (now (file .entry)) property bound part (now (buffer .entry)) ⌝ }
 {
     let s = sizes(file, property);

@@ -1,19 +1,21 @@
 // The gates of expressions over the bytes of a design file. `text` holds the expression, `file` the variables' kinds; `bits` are the
-// state's literals, as many as `shape` says.
+// state's literals, as many as `shape` says, and behind them the next state's where the expression may read it.
 ghost use mathlib.Core.Path.{_≡_};
 ghost use Prim.Native.Nat.{_+_, _*_, _≤_, _<_};
-ghost use mathlib.Core.Bool.{cond};
+ghost use mathlib.Core.Bool.{Bool, true, cond, not, _||_};
+ghost use mathlib.Core.Logic.{_⊎_};
 ghost use mathlib.Core.List.{List};
 ghost use lib.Dec.{eqb};
 ghost use lib.ListN.{length, getD, take, drop};
 ghost use lib.IntN.{ℤ};
 ghost use Rattle.design.specs.Tree.{truth};
+ghost use Rattle.design.specs.State.{layoutOf, numberIn};
 ghost use Rattle.clauses.specs.Literal.{literalOf};
 ghost use Rattle.clauses.specs.Expression.{constantBits, pad, integerAt, booleanAt};
 ghost use Rattle.clauses.specs.Formula.{total};
 ghost use Rattle.clauses.specs.Writing.{fromCode, fromCodes};
 ghost use Rattle.clauses.specs.Piece.{arithmetic!, logic!, compare! };
-ghost use Rattle.clauses.specs.FlatState.{widthsFrom, slotsOf, Slotted};
+ghost use Rattle.clauses.specs.FlatState.{readSlots, Slotted};
 ghost use Rattle.clauses.specs.Encoders.{Writes, IntHere, BoolHere, IntEncoded, BoolEncoded};
 use super::circuit::difference;
 use super::circuit::equal;
@@ -158,60 +160,65 @@ fn compare(op: u8, a: [u32; 16], b: IntOut, buf: &mut [i32]) -> BoolOut
     }
 }
 
-// The literals of the integer variable v.
-pub fn load_variable(file: &[u8], v: usize, shape: Shape, bits: &[u32]) -> [u32; 16]
-    requires { ⌜ Slotted (now file) shape (now bits) × (v < shape .variables) × (getD (now file) (3 * v) 0 ≡ 1) ⌝ }
-    ensures { λ r. ⌜ fromCodes r ≡ integerAt (slotsOf (now (file .entry)) shape (now (bits .entry))) v ⌝ }
+// Where the bits of the state begin, or of the next one.
+pub fn first_bit(shape: Shape, next: bool) -> usize
+    ensures { λ r. ⌜ r ≡ cond next (shape .bits) 0 ⌝ }
 {
-    let o = offset(file, v);
+    if next { shape.bits } else { 0 }
+}
+
+// The literals of the integer variable v, of the state or of the next one.
+pub fn load_variable(file: &[u8], v: usize, next: bool, shape: Shape, bits: &[u32]) -> [u32; 16]
+    requires { ⌜ Slotted next (now file) shape (now bits) × (v < shape .variables) × (getD (now file) (3 * v) 0 ≡ 1) ⌝ }
+    ensures { λ r. ⌜ ((later : Bool) → (not next || later) ≡ true
+        → fromCodes r ≡ integerAt (readSlots later (now (file .entry)) shape (now (bits .entry))) (numberIn (layoutOf shape) next v)) ⌝ }
+{
+    let o = first_bit(shape, next) + offset(file, v);
     load(bits, o, 16)
 }
 
-// The literals of the status of matrix m.
-pub fn load_status(file: &[u8], m: usize, shape: Shape, bits: &[u32]) -> [u32; 16]
-    requires { ⌜ Slotted (now file) shape (now bits) × (m < shape .matrices) ⌝ }
-    ensures { λ r. ⌜ fromCodes r ≡ integerAt (slotsOf (now (file .entry)) shape (now (bits .entry))) (shape .variables + m) ⌝ }
+// The literals of the status of matrix m, likewise.
+pub fn load_status(file: &[u8], m: usize, next: bool, shape: Shape, bits: &[u32]) -> [u32; 16]
+    requires { ⌜ Slotted next (now file) shape (now bits) × (m < shape .matrices) ⌝ }
+    ensures { λ r. ⌜ ((later : Bool) → (not next || later) ≡ true
+        → fromCodes r ≡ integerAt (readSlots later (now (file .entry)) shape (now (bits .entry))) (shape .variables + numberIn (layoutOf shape) next m)) ⌝ }
 {
-    let o = offset(file, shape.variables) + 4 * m;
+    let o = first_bit(shape, next) + (offset(file, shape.variables) + 4 * m);
     load(bits, o, 4)
 }
 
-// The literal of the Boolean or external variable v.
-pub fn load_flag(file: &[u8], v: usize, shape: Shape, bits: &[u32]) -> u32
-    requires { ⌜ Slotted (now file) shape (now bits) × (v < shape .variables) × (getD (now file) (3 * v) 0 ≡ 1 → ⊥) ⌝ }
-    ensures { λ r. ⌜ fromCode r ≡ booleanAt (slotsOf (now (file .entry)) shape (now (bits .entry))) v ⌝ }
+// The literal of the Boolean or external variable v, likewise.
+pub fn load_flag(file: &[u8], v: usize, next: bool, shape: Shape, bits: &[u32]) -> u32
+    requires { ⌜ Slotted next (now file) shape (now bits) × (v < shape .variables) × (getD (now file) (3 * v) 0 ≡ 1 → ⊥) ⌝ }
+    ensures { λ r. ⌜ ((later : Bool) → (not next || later) ≡ true
+        → fromCode r ≡ booleanAt (readSlots later (now (file .entry)) shape (now (bits .entry))) (numberIn (layoutOf shape) next v)) ⌝ }
 {
-    let o = offset(file, v);
+    let o = first_bit(shape, next) + offset(file, v);
     bits[o]
+}
+
+fn int_out(lits: [u32; 16], pen: Cursor, next: usize) -> IntOut
+    ensures { λ r. ⌜ (r .lits ≡ lits) × (r .pen ≡ pen) × (r .next ≡ next) ⌝ }
+{
+    IntOut { lits, pen, next }
 }
 
 // The constant, variable or status at `at`: no gates.
 fn int_leaf(text: &[u8], file: &[u8], at: usize, shape: Shape, bits: &[u32], pen: Cursor) -> IntOut
-    requires { ⌜ Slotted (now file) shape (now bits) × IntHere (now text) (now file) shape at × (getD (now text) at 0 < 0x04) ⌝ }
-    ensures { λ r. ⌜ ((xs : List ℤ) → IntEncoded (now (text .entry)) (now (file .entry)) shape (now (bits .entry)) at pen xs xs r) ⌝ }
+    requires { ⌜ ((later : Bool) × Slotted later (now file) shape (now bits) × IntHere (now text) (now file) shape later at)
+        × ((getD (now text) at 0 < 0x04) ⊎ (0x05 < getD (now text) at 0)) ⌝ }
+    ensures { λ r. ⌜ ((later : Bool) (xs : List ℤ) → IntEncoded (now (text .entry)) (now (file .entry)) shape later (now (bits .entry)) at pen xs xs r) ⌝ }
 {
     let op = text[at];
     if op == 0x01 {
-        let w = constant(word(text, at + 1) as u16);
-        return IntOut {
-            lits: w,
-            pen: pen,
-            next: at + 3,
-        };
+        return int_out(constant(word(text, at + 1) as u16), pen, at + 3);
     }
-    if op == 0x02 {
-        let w = load_variable(file, wide(text[at + 1]), shape, bits);
-        return IntOut {
-            lits: w,
-            pen: pen,
-            next: at + 2,
-        };
-    }
-    let w = load_status(file, wide(text[at + 1]), shape, bits);
-    IntOut {
-        lits: w,
-        pen: pen,
-        next: at + 2,
+    let i = wide(text[at + 1]);
+    match op {
+        0x02 => int_out(load_variable(file, i, false, shape, bits), pen, at + 2),
+        0x03 => int_out(load_status(file, i, false, shape, bits), pen, at + 2),
+        0x06 => int_out(load_variable(file, i, true, shape, bits), pen, at + 2),
+        _ => int_out(load_status(file, i, true, shape, bits), pen, at + 2),
     }
 }
 
@@ -225,11 +232,15 @@ pub fn encode_int(
     buf: &mut [i32],
     pen: Cursor,
 ) -> IntOut
-    requires { ⌜ Slotted (now file) shape (now bits) × IntHere (now text) (now file) shape at ⌝ }
-    ensures { λ r. ⌜ IntEncoded (now (text .entry)) (now (file .entry)) shape (now (bits .entry)) at pen (now (buf .entry)) (now (buf .exit)) r ⌝ }
+    requires { ⌜ ((later : Bool) × Slotted later (now file) shape (now bits) × IntHere (now text) (now file) shape later at) ⌝ }
+    ensures { λ r. ⌜ ((later : Bool)
+        → IntEncoded (now (text .entry)) (now (file .entry)) shape later (now (bits .entry)) at pen (now (buf .entry)) (now (buf .exit)) r) ⌝ }
 {
     let op = text[at];
     if op < 0x04 {
+        return int_leaf(text, file, at, shape, bits, pen);
+    }
+    if 0x05 < op {
         return int_leaf(text, file, at, shape, bits, pen);
     }
     let a = encode_int(text, file, at + 1, shape, bits, buf, pen);
@@ -247,8 +258,9 @@ fn bool_leaf(
     bits: &[u32],
     pen: Cursor,
 ) -> BoolOut
-    requires { ⌜ Slotted (now file) shape (now bits) × BoolHere (now text) (now file) shape at × (getD (now text) at 0 < 0x12) ⌝ }
-    ensures { λ r. ⌜ ((xs : List ℤ) → BoolEncoded (now (text .entry)) (now (file .entry)) shape (now (bits .entry)) at pen xs xs r) ⌝ }
+    requires { ⌜ ((later : Bool) × Slotted later (now file) shape (now bits) × BoolHere (now text) (now file) shape later at)
+        × ((getD (now text) at 0 < 0x12) ⊎ (0x16 < getD (now text) at 0)) ⌝ }
+    ensures { λ r. ⌜ ((later : Bool) (xs : List ℤ) → BoolEncoded (now (text .entry)) (now (file .entry)) shape later (now (bits .entry)) at pen xs xs r) ⌝ }
 {
     let op = text[at];
     if op == 0x10 {
@@ -259,7 +271,7 @@ fn bool_leaf(
             next: at + 2,
         };
     }
-    let l = load_flag(file, wide(text[at + 1]), shape, bits);
+    let l = load_flag(file, wide(text[at + 1]), 0x16 < op, shape, bits);
     BoolOut {
         lit: l,
         pen: pen,
@@ -277,8 +289,10 @@ fn encode_compare(
     buf: &mut [i32],
     pen: Cursor,
 ) -> BoolOut
-    requires { ⌜ Slotted (now file) shape (now bits) × BoolHere (now text) (now file) shape at × (0x15 ≤ getD (now text) at 0) ⌝ }
-    ensures { λ r. ⌜ BoolEncoded (now (text .entry)) (now (file .entry)) shape (now (bits .entry)) at pen (now (buf .entry)) (now (buf .exit)) r ⌝ }
+    requires { ⌜ ((later : Bool) × Slotted later (now file) shape (now bits) × BoolHere (now text) (now file) shape later at)
+        × (0x15 ≤ getD (now text) at 0) × (getD (now text) at 0 ≤ 0x16) ⌝ }
+    ensures { λ r. ⌜ ((later : Bool)
+        → BoolEncoded (now (text .entry)) (now (file .entry)) shape later (now (bits .entry)) at pen (now (buf .entry)) (now (buf .exit)) r) ⌝ }
 {
     let a = encode_int(text, file, at + 1, shape, bits, buf, pen);
     let b = encode_int(text, file, a.next, shape, bits, buf, a.pen);
@@ -296,11 +310,15 @@ pub fn encode_bool(
     buf: &mut [i32],
     pen: Cursor,
 ) -> BoolOut
-    requires { ⌜ Slotted (now file) shape (now bits) × BoolHere (now text) (now file) shape at ⌝ }
-    ensures { λ r. ⌜ BoolEncoded (now (text .entry)) (now (file .entry)) shape (now (bits .entry)) at pen (now (buf .entry)) (now (buf .exit)) r ⌝ }
+    requires { ⌜ ((later : Bool) × Slotted later (now file) shape (now bits) × BoolHere (now text) (now file) shape later at) ⌝ }
+    ensures { λ r. ⌜ ((later : Bool)
+        → BoolEncoded (now (text .entry)) (now (file .entry)) shape later (now (bits .entry)) at pen (now (buf .entry)) (now (buf .exit)) r) ⌝ }
 {
     let op = text[at];
     if op < 0x12 {
+        return bool_leaf(text, file, at, shape, bits, pen);
+    }
+    if 0x16 < op {
         return bool_leaf(text, file, at, shape, bits, pen);
     }
     if op == 0x12 {

@@ -10,12 +10,15 @@ ghost use Rattle.step.specs.Limits.{maxBound};
 ghost use Rattle.step.specs.Property.{propertyOf};
 ghost use Rattle.clauses.specs.Writing.{variableLimit};
 ghost use Rattle.clauses.specs.Limits.{mostGates, frameLimit, countLimit, sizeLimit};
-ghost use Rattle.clauses.specs.Cost.{pairCount, propertyCost};
+ghost use Rattle.clauses.specs.Cost.{pairCount, propertyCost, stepPropertyCost};
 ghost use Rattle.clauses.specs.FrameSizes.{HasGates, FewGates, frameSizes, SmallFrame, frameLength, stepClausesOf, stepWordsOf, partWordsOf, variablesOf, formulaSizes};
-ghost use Rattle.clauses.specs.Ready.{Ready};
+ghost use Rattle.clauses.specs.Ready.{ShapedFile, Ready};
 use super::cells::size_cells;
 use super::cost::GatesAt;
+use super::cost::no_gates;
 use super::cost::size_bool;
+use design::index::constraint;
+use design::index::has_constraint;
 use design::index::index_cells;
 use design::index::index_events;
 use design::index::invariant;
@@ -23,6 +26,7 @@ use design::index::shape;
 use design::limits::EVENT_PLACES;
 use design::limits::MAX_MOVERS;
 use design::shape::Shape;
+use step::limits::CONSTRAINT;
 
 // Gates by kind; `wides` are xors and muxes.
 pub struct Gates {
@@ -30,12 +34,13 @@ pub struct Gates {
     pub wides: u64,
 }
 
-// State bits, property gates, flags and gates of the step.
+// State bits, property gates, flags and gates of the step. `last` is 1 where the last clause takes the last frame too, else 0.
 pub struct FrameSizes {
     pub bits: u64,
     pub movers: u64,
     pub property: Gates,
     pub step: Gates,
+    pub last: u64,
 }
 
 // SIZE's numbers: S, P, w, G, n, and the whole formula's clauses and words.
@@ -61,10 +66,27 @@ pub fn size_property(
 {
     if property == 0 {
         let stands = invariant(file);
-        size_bool(file, stands.at, stands.end, shape)
-    } else {
-        size_cells(file, events, shape, true)
+        return size_bool(file, stands.at, stands.end, shape);
     }
+    if property == 1 {
+        return size_cells(file, events, shape, true);
+    }
+    no_gates(0)
+}
+
+// The gates of property 2 among those of the step; other properties have none there.
+pub fn size_step_property(file: &[u8], shape: Shape, property: u64) -> GatesAt
+    requires { ⌜ ShapedFile (now file) shape ⌝ }
+    ensures { λ r. ⌜ FewGates mostGates r × ((d : Design) → Parts (now (file .entry)) d → HasGates r (stepPropertyCost (propertyOf d property))) ⌝ }
+{
+    if property < CONSTRAINT {
+        return no_gates(0);
+    }
+    if !has_constraint(file) {
+        return no_gates(0);
+    }
+    let stands = constraint(file);
+    size_bool(file, stands.at, stands.end, shape)
 }
 
 // The sizes of a frame of an accepted file.
@@ -78,6 +100,7 @@ pub fn sizes(file: &[u8], property: u64) -> FrameSizes
     let shape = shape(file, index_cells(file, &mut cells));
     let p = size_property(file, &events, shape, property);
     let s = size_cells(file, &events, shape, false);
+    let c = size_step_property(file, shape, property);
     let bits = shape.bits as u64;
     FrameSizes {
         bits: bits,
@@ -87,9 +110,10 @@ pub fn sizes(file: &[u8], property: u64) -> FrameSizes
             wides: p.wides,
         },
         step: Gates {
-            ands: s.ands,
-            wides: s.wides + times(shape.externals as u64, bits),
+            ands: s.ands + c.ands,
+            wides: s.wides + times(shape.externals as u64, bits) + c.wides,
         },
+        last: if property < CONSTRAINT { 1 } else { 0 },
     }
 }
 
@@ -139,7 +163,7 @@ pub fn part_words(s: FrameSizes, k: u64, i: u64) -> u64
         return 2 + 2 * s.bits;
     }
     if k + 1 < i {
-        return k + 2;
+        return k + s.last + 1;
     }
     let words = 10 * s.property.ands + 16 * s.property.wides;
     if k + 1 == i {
@@ -181,6 +205,6 @@ pub fn formula(s: FrameSizes, k: u64) -> FormulaSizes
         step: step,
         variables: variables(s, k),
         clauses: 1 + s.bits + times(1 + k, clauses) + times(k, step_clauses(s)) + 1,
-        words: 2 + 2 * s.bits + times(1 + k, words) + times(k, step_words(s)) + (k + 2),
+        words: 2 + 2 * s.bits + times(1 + k, words) + times(k, step_words(s)) + (k + s.last + 1),
     }
 }

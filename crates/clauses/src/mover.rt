@@ -52,7 +52,7 @@ pub fn status_and_event(
         → CellGates (now (file .entry)) shape (now (bits .entry)) p (eventIn (parts .rows)) pen (now (buf .entry)) (now (buf .exit)) r) ⌝ }
 {
     let m = wide(file[p]);
-    let x = load_status(file, m, shape, bits);
+    let x = load_status(file, m, false, shape, bits);
     let k = constant(wide(file[p + 1]) as u16);
     let q = equal(x, k, buf, pen.cur, pen.var);
     let e = wide(file[p + 2]);
@@ -171,7 +171,7 @@ pub fn encode_external(
     requires { ⌜ ShapedFile (now file) shape × (length (now bits) ≡ maxBits) × (v < shape .variables) × (getD (now file) (3 * v) 0 ≡ 2) ⌝ }
     ensures { λ r. ⌜ Moves (now (file .entry)) shape (now (bits .entry)) (raise v) pen (now (buf .entry)) (now (buf .exit)) r ⌝ }
 {
-    let e = negate(load_flag(file, v, shape, bits));
+    let e = negate(load_flag(file, v, false, shape, bits));
     let mut state = *bits;
     let o = offset(file, v);
     state[o] = TRUE;

@@ -17,6 +17,7 @@ use super::instance::Instance;
 use super::last::put_last;
 use super::movers::encode_step;
 use super::property::encode_property;
+use super::property::encode_step_property;
 use design::limits::EVENT_PLACES;
 use design::limits::MAX_MOVERS;
 
@@ -28,7 +29,7 @@ pub fn frame_start(s: FrameSizes, j: u64) -> u32
     (2 + times(j, frame_length(s))) as u32
 }
 
-// The step out of the frame at v: the clause of all flags, their pairs, the gates, the ties.
+// The step out of the frame at v: the clause of all flags, their pairs, the gates with those of property 2, the ties.
 pub fn put_step(
     file: &[u8],
     events: &[u16; EVENT_PLACES],
@@ -39,7 +40,7 @@ pub fn put_step(
     cur: usize,
 ) -> usize
     requires { ⌜ FrameReady (now file) (now events) (now cells) (inst .shape) (inst .sizes) × (v ≤ startLimit) ⌝ }
-    ensures { λ r. ⌜ StepPut (now (file .entry)) (now (buf .entry)) (now (buf .exit)) cur r (inst .sizes) v ⌝ }
+    ensures { λ r. ⌜ StepPut (now (file .entry)) (now (buf .entry)) (now (buf .exit)) cur r (inst .sizes) (inst .property) v ⌝ }
 {
     let shape = inst.shape;
     let s = inst.sizes;
@@ -56,7 +57,8 @@ pub fn put_step(
     };
     let g = encode_step(file, events, cells, shape, &bits, buf, pen);
     let firsts = g.firsts;
-    put_all_ties(buf, g.pen.cur, flags, all, &firsts, after, n)
+    let x = encode_step_property(file, shape, inst.property, v, after, buf, g.pen);
+    put_all_ties(buf, x.cur, flags, all, &firsts, after, n)
 }
 
 // Frame j: the property's gates, and the step out of it if it is not the last.

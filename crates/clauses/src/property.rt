@@ -1,11 +1,14 @@
-// The gates of a property: the invariant, or the chain over the invalid cells.
+// The gates of a property: the invariant, the chain over the invalid cells, or the constraint.
 ghost use mathlib.Core.Path.{_≡_};
 ghost use lib.ListN.{length};
 ghost use Rattle.design.specs.Limits.{maxBits};
 ghost use Rattle.design.specs.Tree.{Design};
 ghost use Rattle.design.specs.Check.{eventIn};
 ghost use Rattle.design.specs.Sections.{Parts, CellFields};
-ghost use Rattle.clauses.specs.Ready.{Ready, LinkGates, InvalidGates, PropertyGates};
+ghost use Rattle.clauses.specs.Literal.{trueLiteral};
+ghost use Rattle.clauses.specs.Writing.{fromCode};
+ghost use Rattle.clauses.specs.Ready.{ShapedFile, Ready, LinkGates, InvalidGates, PropertyGates, StepPropertyGates};
+use super::clause::two_states;
 use super::expression::encode_bool;
 use super::gate::Cursor;
 use super::gate::Out;
@@ -17,11 +20,14 @@ use design::bytes::wide;
 use design::bytes::word;
 use design::index::CELLS;
 use design::index::CELLS_AT;
+use design::index::constraint;
+use design::index::has_constraint;
 use design::index::invariant;
 use design::index::trailer_word;
 use design::limits::EVENT_PLACES;
 use design::limits::MAX_BITS;
 use design::shape::Shape;
+use step::limits::CONSTRAINT;
 
 // The chain's gate for the cell at p, after those so far; a normal cell adds nothing.
 pub fn encode_link(
@@ -103,12 +109,54 @@ pub fn encode_property(
     if property == 0 {
         let stands = invariant(file);
         let x = encode_bool(file, file, stands.at, shape, bits, buf, pen);
-        Out {
+        return Out {
             lit: x.lit,
             cur: x.pen.cur,
             var: x.pen.var,
-        }
-    } else {
-        encode_invalid(file, events, shape, bits, buf, pen)
+        };
+    }
+    if property == 1 {
+        return encode_invalid(file, events, shape, bits, buf, pen);
+    }
+    no_property(pen)
+}
+
+// True, and no gates: where a property has none.
+pub fn no_property(pen: Cursor) -> Out
+    ensures { λ r. ⌜ (fromCode (r .lit) ≡ trueLiteral) × (r .cur ≡ pen .cur) × (r .var ≡ pen .var) ⌝ }
+{
+    Out {
+        lit: TRUE,
+        cur: pen.cur,
+        var: pen.var,
+    }
+}
+
+// Property 2 in the step out of the state whose first variable is v; the next state's is `after`. Other properties have no gates there.
+pub fn encode_step_property(
+    file: &[u8],
+    shape: Shape,
+    property: u64,
+    v: u32,
+    after: u32,
+    buf: &mut [i32],
+    pen: Cursor,
+) -> Out
+    requires { ⌜ ShapedFile (now file) shape ⌝ }
+    ensures { λ r. ⌜ ((d : Design) (parts : Parts (now (file .entry)) d) → StepPropertyGates d property v after pen (now (buf .entry)) (now (buf .exit)) r) ⌝ }
+{
+    if property < CONSTRAINT {
+        return no_property(pen);
+    }
+    if !has_constraint(file) {
+        return no_property(pen);
+    }
+    let stands = constraint(file);
+    let both = two_states(v, after, shape.bits);
+    let x = encode_bool(file, file, stands.at, shape, &both, buf, pen);
+    Out {
+        lit: x.lit,
+        cur: x.pen.cur,
+        var: x.pen.var,
     }
 }

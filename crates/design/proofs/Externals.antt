@@ -11,7 +11,7 @@ use lib.Dec.{eqb}
 use borrow.Author.Tests.{eq-eqb, ne-eqb}
 use Rattle.design.specs.Tree.{Kind, Variable, Cell, Design, Mover, cell, raise, ifExternal, externals, movers}
 use Rattle.design.specs.DesignFile.{kind, at8, variableAt}
-use Rattle.design.specs.Check.{trailer, variableCount}
+use Rattle.design.specs.Check.{itemsEnd, variableCount}
 use Rattle.design.specs.Places.{normalPlaces, externalsFrom}
 use Rattle.design.specs.Sections.{Run, Parts}
 use Rattle.design.proofs.Places.{normal-stands}
@@ -19,7 +19,7 @@ use Rattle.design.proofs.Widths.{variable-is}
 
 module _ (file : List ℕ) where
   E : ℕ
-  E = trailer file
+  E = itemsEnd file
 
   if-kind : {A : Type 0} (k : ℕ) → k ≤ 2 → (a b : A) → ifExternal (kind k) a b ≡ cond (eqb k 2) a b
   if-kind zero h a b = refl
@@ -50,7 +50,7 @@ module _ (file : List ℕ) where
     vs = externalsFrom file 0 (variableCount file)
 
     pub raises : externals 0 (d .variables) ≡ map raise vs
-    raises = externals-are (trailer file) 0 0 _ (d .variables) refl (w .variable-run) ∙ ap (λ (n : ℕ). map raise (externalsFrom file 0 n)) (w .variable-count)
+    raises = externals-are (itemsEnd file) 0 0 _ (d .variables) refl (w .variable-run) ∙ ap (λ (n : ℕ). map raise (externalsFrom file 0 n)) (w .variable-count)
 
     movers-are : movers d ≡ map cell (d .cells) ++ map raise vs
     unfolding movers

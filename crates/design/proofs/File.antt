@@ -1,6 +1,6 @@
 -- Laws of all sections together, and of the whole file, that the code's proofs cite. Assumes nothing.
 use Prim.Native.Nat.{ℕ, zero, suc, _+_, _-_, _*_, _<_, _≤_}
-use mathlib.Core.Path.{_≡_, refl, sym, ap, ap₂, _∙_}
+use mathlib.Core.Path.{_≡_, refl, sym, ap, ap₂, subst, _∙_}
 use mathlib.Core.Bool.{Bool, true, false, cond}
 use mathlib.Core.List.{List, [], _∷_, map}
 use native.Mathlib.Omega.{arith}
@@ -9,19 +9,19 @@ use lib.ListN.{length, length-append, length-map}
 use lib.Dec.{leb, eqb}
 use borrow.Author.Tests.{leb-true, le-leb, lt-leb, eq-eqb, ne-eqb}
 use Rattle.design.specs.Tree.{BoolExpr, Variable, Kind, boolean, integer, external, ifExternal, externals, Design, cell, raise, movers}
-use Rattle.design.specs.Limits.{maxBytes, trailerBytes, maxVariables, maxMatrices, maxCells, maxMovers, lengthRight, countsRight, moversRight}
+use Rattle.design.specs.Limits.{maxBytes, trailerBytes, lastVersion, constrained, offsetBytes, tailBytes, maxVariables, maxMatrices, maxCells, maxMovers, lengthRight, versionRight, countsRight, moversRight}
 use Rattle.design.specs.Expression.{Names}
-use Rattle.design.specs.DesignFile.{Item, item, refused, Walk, need, after, items, offset, Matrix, Entry, normal, invalid, variableAt, matrixAt, eventAt, events, eventsFrom, cellAt, cellsFrom, invariantAt}
-use Rattle.design.specs.Check.{eventIn, normals, invalids, sections, trailer, version, variableCount, matricesOffset, matrixCount, eventsOffset, cellsOffset, cellCount, invariantOffset, body, last, check, refusal, namesOf, namesBy, trailerCounts, trailerOffsets}
+use Rattle.design.specs.DesignFile.{Item, item, refused, Walk, need, after, items, offset, at16, Matrix, Entry, normal, invalid, variableAt, matrixAt, eventAt, events, eventsFrom, cellAt, cellsFrom, invariantAt, constraintAt}
+use Rattle.design.specs.Check.{eventIn, normals, invalids, sections, trailer, version, hasConstraint, itemsEnd, constraintOffset, variableCount, matrixCount, cellCount, body, last, check, refusal, namesOf, namesBy, trailerCounts, trailerOffsets}
 use Rattle.design.specs.declared.shape.Shape.{Shape}
 use Rattle.design.specs.declared.shape.Counts.{Counts}
 use Rattle.design.specs.declared.shape.Offsets.{Offsets}
-use Rattle.design.specs.Answers.{walked, sumOf, counted, raises, moves, bodied, VariablesRight, MatricesRight, EventsRight, shapeOf}
+use Rattle.design.specs.Answers.{walked, expressionsAt, sumOf, counted, raises, moves, bodied, VariablesRight, MatricesRight, EventsRight, shapeOf}
 use Rattle.design.specs.declared.item.Walked.{Walked}
 use Rattle.design.specs.declared.item.Walked.the-variants.{Past, Refused}
 use Rattle.design.specs.declared.item.Counted.{Counted}
 use Rattle.design.specs.declared.item.Counted.the-variants.{Passed, Stopped}
-use Rattle.design.proofs.Sections.{after-inv, and-inv, item-past, item-same, items-run}
+use Rattle.design.proofs.Sections.{after-inv, and-inv, item-past, item-same, items-run, tail-least}
 use Rattle.design.proofs.Items.{passed, stopped, met, unmet, items-end, event-ends, variable-ends, matrix-ends, counted-passed, counted-stopped}
 
 -- a section that ends where the next one stands
@@ -74,6 +74,33 @@ externals-length (x ∷ xs) v = go (x .kind) (externals-length xs (suc v))
     go integer h = omega arith
     go external h = omega arith
 
+-- two walks, one after the other, and what is made of both
+both : {A B C : Type 0} (x : Item A) (y : A → ℕ → Item B) (k : A × B → ℕ → Item C) → after x (λ i p. after (y i p) (λ c q. k (i, c) q)) ≡ after (after x (λ i p. after (y i p) (λ c q. item (i, c) q))) k
+both {A} {B} {C} (item a n) y k = go (y a n)
+  where
+    go : (z : Item B) → after z (λ c q. k (a, c) q) ≡ after (after z (λ c q. item (a, c) q)) k
+    go (item b m) = refl
+    go (refused i p) = refl
+both (refused i p) y k = refl
+
+-- the invariant, and the constraint behind it
+module _ (file : List ℕ) (end : ℕ) (N : Names) (os : Offsets) (at : ℕ) where
+  abbrev IA : Item BoolExpr
+  IA = invariantAt file end N (os .constraint) at
+
+  abbrev XA : BoolExpr → ℕ → Item (BoolExpr × BoolExpr)
+  XA i p = after (constraintAt file end N (os .constrained) p) (λ c q. item (i, c) q)
+
+  pub expressions-stop : (i p : ℕ) → Refused i p ≡ walked IA → Refused i p ≡ walked (expressionsAt file end N os at)
+  expressions-stop i p e = sym (ap (λ (x : Item BoolExpr). walked (after x XA)) (stopped IA i p e))
+
+  pub expressions-go : (m : ℕ) (r : Walked) → Past m ≡ walked IA → r ≡ walked (constraintAt file end N (os .constrained) m) → r ≡ walked (expressionsAt file end N os at)
+  expressions-go m r e h = let (x, q) = passed IA m e in h ∙ go x (constraintAt file end N (os .constrained) m) ∙ sym (ap (λ (y : Item BoolExpr). walked (after y XA)) q)
+    where
+      go : (x : BoolExpr) (z : Item BoolExpr) → walked z ≡ walked {A = BoolExpr × BoolExpr} (after z (λ c q. item (x, c) q))
+      go x (item c q) = refl
+      go x (refused i p) = refl
+
 module _ (file : List ℕ) (end : ℕ) (cs : Counts) (os : Offsets) where
   abbrev nv : ℕ
   nv = cs .variables
@@ -109,8 +136,12 @@ module _ (file : List ℕ) (end : ℕ) (cs : Counts) (os : Offsets) where
   pub cells-of : (s : Shape) → s ≡ shapeOf cs → (r : Counted) (f : ℕ → ℕ → BoolExpr) → r ≡ counted moves 0 (cellsFrom file end (namesOf file s) mo f nc co co) → r ≡ counted moves 0 (cellsFrom file end N mo f nc co co)
   cells-of s e r f h = h ∙ ap (λ (x : Shape). counted moves 0 (cellsFrom file end (namesOf file x) mo f nc co co)) e
 
-  pub invariant-of : (s : Shape) → s ≡ shapeOf cs → (r : Walked) → r ≡ walked (invariantAt file end (namesOf file s) io) → r ≡ walked (invariantAt file end N io)
-  invariant-of s e r h = h ∙ ap (λ (x : Shape). walked (invariantAt file end (namesOf file x) io)) e
+  -- the invariant, and the constraint behind it
+  abbrev EX : Item (BoolExpr × BoolExpr)
+  EX = expressionsAt file end N os io
+
+  pub expressions-of : (s : Shape) → s ≡ shapeOf cs → (r : Walked) → r ≡ walked (expressionsAt file end (namesOf file s) os io) → r ≡ walked EX
+  expressions-of s e r h = h ∙ ap (λ (x : Shape). walked (expressionsAt file end (namesOf file x) os io)) e
 
   abbrev VA : Walk Variable
   VA = variableAt file end
@@ -157,14 +188,17 @@ module _ (file : List ℕ) (end : ℕ) (cs : Counts) (os : Offsets) where
       omega arith
 
   -- what is left after each section
-  abbrev tree : List Variable → List Matrix → List Entry → BoolExpr → Design
-  tree vs ms es inv = record { variables = vs; statuses = map (λ (m : Matrix). m .statuses) ms; cells = normals es; invalid = invalids es; invariant = inv }
+  abbrev tree : List Variable → List Matrix → List Entry → BoolExpr × BoolExpr → Design
+  tree vs ms es x = record { variables = vs; statuses = map (λ (m : Matrix). m .statuses) ms; cells = normals es; invalid = invalids es; invariant = x .0; constraint = x .1 }
 
-  abbrev W6 : List Variable → List Matrix → List Entry → BoolExpr → Walk Design
-  W6 vs ms es inv p = item (tree vs ms es inv) p
+  abbrev W7 : List Variable → List Matrix → List Entry → BoolExpr × BoolExpr → Walk Design
+  W7 vs ms es x p = item (tree vs ms es x) p
+
+  abbrev W6 : List Variable → List Matrix → List Entry → Walk Design
+  W6 vs ms es at = after (invariantAt file end N (os .constraint) at) (λ i p. after (constraintAt file end N (os .constrained) p) (λ c q. W7 vs ms es (i, c) q))
 
   abbrev W5 : List Variable → List Matrix → List Entry → Walk Design
-  W5 vs ms es at = after (offset io at) (λ a n. after (invariantAt file end N n) (W6 vs ms es))
+  W5 vs ms es at = after (offset io at) (λ a n. W6 vs ms es n)
 
   abbrev W4 : List Variable → List Matrix → List (List BoolExpr) → Walk Design
   W4 vs ms rows at = after (offset co at) (λ a n. after (cellsFrom file end N mo (eventIn rows) nc n n) (W5 vs ms))
@@ -265,7 +299,7 @@ module _ (file : List ℕ) (end : ℕ) (cs : Counts) (os : Offsets) where
             let (es, r, c) = counted-passed moves 0 (CF (eventIn (s3 .rows))) t w (e₄ (eventIn (s3 .rows))) in
             sym (ap bodied (s3 .is ∙ ap (λ (x : Item (List Entry)). after x (W5 (s3 .vs) (s3 .ms))) r ∙ wrong io t _ h))
 
-        -- the invariant
+        -- the invariant and the constraint
         module _ (w : ℕ) (e₄ : (f : ℕ → ℕ → BoolExpr) → Passed io w ≡ counted moves 0 (CF f)) where
           pub few-movers : w + ext ≤ nc + nv
           few-movers = let a = before-cells in let b = cells-bound (eventIn (s3 .rows)) io w (e₄ (eventIn (s3 .rows))) in omega arith
@@ -276,27 +310,35 @@ module _ (file : List ℕ) (end : ℕ) (cs : Counts) (os : Offsets) where
             pub es : List Entry
             pub counts : ext ≡ sumOf raises vs
             pub normal : w ≡ sumOf moves es
-            pub is : D ≡ after (invariantAt file end N io) (W6 vs ms es)
+            pub is : D ≡ after EX (W7 vs ms es)
 
           s4 : S4
           s4 =
               let (es, r, c) = counted-passed moves 0 (CF (eventIn (s3 .rows))) io w (e₄ (eventIn (s3 .rows))) in
-              record { vs = s3 .vs; ms = s3 .ms; es = es; counts = s3 .counts; normal = c ∙ (let q : 0 + sumOf moves es ≡ sumOf moves es = omega arith in q); is = s3 .is ∙ ap (λ (x : Item (List Entry)). after x (W5 (s3 .vs) (s3 .ms))) r ∙ go-on io (λ n. after (invariantAt file end N n) (W6 (s3 .vs) (s3 .ms) es)) }
+              record {
+                vs = s3 .vs;
+                ms = s3 .ms;
+                es = es;
+                counts = s3 .counts;
+                normal = c ∙ (let q : 0 + sumOf moves es ≡ sumOf moves es = omega arith in q);
+                is = s3 .is ∙ ap (λ (x : Item (List Entry)). after x (W5 (s3 .vs) (s3 .ms))) r ∙ go-on io (W6 (s3 .vs) (s3 .ms) es)
+                    ∙ both (invariantAt file end N (os .constraint) io) (λ i p. constraintAt file end N (os .constrained) p) (W7 (s3 .vs) (s3 .ms) es);
+              }
 
-          pub x-invariant : (i j : ℕ) → Refused i j ≡ walked (invariantAt file end N io) → Stopped i j ≡ bodied D
-          x-invariant i j r = sym (ap bodied (s4 .is ∙ ap (λ (x : Item BoolExpr). after x (W6 (s4 .vs) (s4 .ms) (s4 .es))) (stopped (invariantAt file end N io) i j r)))
+          pub x-expressions : (i j : ℕ) → Refused i j ≡ walked EX → Stopped i j ≡ bodied D
+          x-expressions i j r = sym (ap bodied (s4 .is ∙ ap (λ (x : Item (BoolExpr × BoolExpr)). after x (W7 (s4 .vs) (s4 .ms) (s4 .es))) (stopped EX i j r)))
 
-          movers-length : (vs : List Variable) (ms : List Matrix) (es : List Entry) (inv : BoolExpr) → length (movers (tree vs ms es inv)) ≡ sumOf moves es + sumOf raises vs
+          movers-length : (vs : List Variable) (ms : List Matrix) (es : List Entry) (x : BoolExpr × BoolExpr) → length (movers (tree vs ms es x)) ≡ sumOf moves es + sumOf raises vs
           unfolding movers
-          movers-length vs ms es inv =
+          movers-length vs ms es x =
               length-append (map cell (normals es)) (externals 0 vs)
               ∙ ap₂ _+_ (length-map (normals es) cell ∙ normals-length es) (externals-length vs 0)
 
-          pub all-passed : (u : ℕ) → Past u ≡ walked (invariantAt file end N io) → Passed u (w + ext) ≡ bodied D
+          pub all-passed : (u : ℕ) → Past u ≡ walked EX → Passed u (w + ext) ≡ bodied D
           all-passed u r =
-              let (inv, q) = passed (invariantAt file end N io) u r in
-              sym (ap bodied (s4 .is ∙ ap (λ (x : Item BoolExpr). after x (W6 (s4 .vs) (s4 .ms) (s4 .es))) q)
-              ∙ ap (Passed u) (movers-length (s4 .vs) (s4 .ms) (s4 .es) inv ∙ sym (ap₂ _+_ (s4 .normal) (s4 .counts))))
+              let (y, q) = passed EX u r in
+              sym (ap bodied (s4 .is ∙ ap (λ (x : Item (BoolExpr × BoolExpr)). after x (W7 (s4 .vs) (s4 .ms) (s4 .es))) q)
+              ∙ ap (Passed u) (movers-length (s4 .vs) (s4 .ms) (s4 .es) y ∙ sym (ap₂ _+_ (s4 .normal) (s4 .counts))))
 
 -- the tests of the limits
 pub length-short : (n : ℕ) → n < trailerBytes → false ≡ lengthRight n
@@ -307,6 +349,42 @@ length-last n h = simp (le-leb trailerBytes n h)
 
 pub length-low : (t : Bool) (n : ℕ) → t ≡ lengthRight n → t ≡ true → trailerBytes ≤ n
 length-low t n e h = leb-true _ _ (and-inv (leb trailerBytes n) (leb n maxBytes) (sym e ∙ h) .0)
+
+pub version-none : (v : ℕ) → v < 1 → false ≡ versionRight v
+version-none v h = simp (lt-leb 1 v h)
+
+pub version-last : (v : ℕ) → 1 ≤ v → leb v lastVersion ≡ versionRight v
+version-last v h = simp (le-leb 1 v h)
+
+-- the bytes behind the items, and where the constraint stands
+pub tail-by : (v : ℕ) (t b : Bool) → t ≡ constrained v → t ≡ b → cond b (offsetBytes + trailerBytes) trailerBytes ≡ tailBytes v
+tail-by v t b e h = ap (λ (x : Bool). cond x (offsetBytes + trailerBytes) trailerBytes) (sym h ∙ e)
+
+module _ (file : List ℕ) where
+  pub version-here : (w : ℕ) → w ≡ at16 file (trailer file + 0) → w ≡ version file
+  version-here w e = e ∙ ap (at16 file) (let z : trailer file + 0 ≡ trailer file = omega arith in z)
+
+  pub long-tail : tailBytes (version file) ≤ length file → trailerBytes ≤ length file
+  long-tail h = let l = tail-least (version file) in omega arith
+
+  pub tail-fits : (v k : ℕ) → v ≡ version file → k ≡ tailBytes v → k ≤ length file → tailBytes (version file) ≤ length file
+  tail-fits v k e q h = subst (λ (j : ℕ). j ≤ length file) (q ∙ ap tailBytes e) h
+
+  pub tail-room : tailBytes (version file) ≤ length file → (end : ℕ) → end ≡ itemsEnd file → end + trailerBytes ≤ length file
+  tail-room h end e = let l = tail-least (version file) in omega arith
+
+  pub items-by : (w k n : ℕ) → w ≡ at16 file (trailer file + 0) → k ≡ tailBytes w → n ≡ length file - k → n ≡ itemsEnd file
+  items-by w k n e q h = h ∙ ap (λ (j : ℕ). length file - j) (q ∙ ap tailBytes (version-here w e))
+
+  module _ (t : Bool) (e : t ≡ hasConstraint file) (end : ℕ) (n : end ≡ itemsEnd file) where
+    pub offset-inside : tailBytes (version file) ≤ length file → t ≡ true → end + 1 < length file
+    offset-inside l h = let q = tail-by (version file) t true e h in omega arith
+
+    pub offset-read : t ≡ true → (w : ℕ) → w ≡ at16 file end → w ≡ constraintOffset file
+    offset-read h w q = q ∙ ap (at16 file) n ∙ ap (λ (x : Bool). cond x (at16 file (itemsEnd file)) (itemsEnd file)) (sym h ∙ e)
+
+    pub offset-none : t ≡ false → end ≡ constraintOffset file
+    offset-none h = n ∙ ap (λ (x : Bool). cond x (at16 file (itemsEnd file)) (itemsEnd file)) (sym h ∙ e)
 
 module _ (v m c : ℕ) where
   pub counts-variables : maxVariables < v → false ≡ countsRight v m c
@@ -336,72 +414,87 @@ module _ (file : List ℕ) where
   R3 = need counts 3 (trailer file) (body file 0)
 
   abbrev pub R2 : Item Design
-  R2 = need (eqb (version file) 1) 2 (trailer file) R3
+  R2 = need (versionRight (version file)) 2 (trailer file) R3
 
-  abbrev R1 : Item Design
-  R1 = need (lengthRight (length file)) 1 (length file) R2
+  abbrev pub R1 : Item Design
+  R1 = need (leb (tailBytes (version file)) (length file)) 1 (length file) R2
+
+  abbrev R0 : Item Design
+  R0 = need (lengthRight (length file)) 1 (length file) R1
 
   abbrev answers : ℕ → ℕ → Type 0
   answers i p = record { number = i; place = p } ≡ refusal (check file)
 
-  refuse : (i p : ℕ) → R1 ≡ refused i p → answers i p
+  refuse : (i p : ℕ) → R0 ≡ refused i p → answers i p
   unfolding check
   refuse i p e = sym (ap (λ (x : Item Design). refusal (last file x)) e)
 
   module _ (t : Bool) (te : t ≡ lengthRight (length file)) where
     pub whole-length : t ≡ false → answers 1 (length file)
-    whole-length h = refuse 1 (length file) (unmet (lengthRight (length file)) 1 (length file) R2 (sym te ∙ h))
+    whole-length h = refuse 1 (length file) (unmet (lengthRight (length file)) 1 (length file) R1 (sym te ∙ h))
 
-    module _ (t1 : t ≡ true) (v : ℕ) (ve : v ≡ version file) where
-      in-length : R1 ≡ R2
-      in-length = met (lengthRight (length file)) 1 (length file) R2 (sym te ∙ t1)
+    module _ (t1 : t ≡ true) (v : ℕ) (ve : v ≡ version file) (k : ℕ) (ke : k ≡ tailBytes v) where
+      in-length : R0 ≡ R1
+      in-length = met (lengthRight (length file)) 1 (length file) R1 (sym te ∙ t1)
 
-      pub whole-version : (v ≡ 1 → ⊥) → answers 2 (trailer file)
-      whole-version h = refuse 2 (trailer file) (in-length ∙ unmet (eqb (version file) 1) 2 (trailer file) R3 (ne-eqb (version file) 1 (λ e. h (ve ∙ e))))
+      pub whole-tail : length file < k → answers 1 (length file)
+      whole-tail h =
+          let l : length file < tailBytes (version file) = subst (λ (j : ℕ). length file < j) (ke ∙ ap tailBytes ve) h in
+          refuse 1 (length file) (in-length ∙ unmet (leb (tailBytes (version file)) (length file)) 1 (length file) R2 (lt-leb _ _ l))
 
-      module _ (v1 : v ≡ 1) (cs : Counts) (cse : cs ≡ trailerCounts file) (u : Bool) (ue : u ≡ countsRight (cs .variables) (cs .matrices) (cs .cells)) where
-        in-version : R1 ≡ R3
-        in-version = in-length ∙ met (eqb (version file) 1) 2 (trailer file) R3 (eq-eqb (version file) 1 (sym ve ∙ v1))
+      module _ (l : k ≤ length file) (vr : Bool) (vre : vr ≡ versionRight v) where
+        in-tail : R0 ≡ R2
+        in-tail = in-length ∙ met (leb (tailBytes (version file)) (length file)) 1 (length file) R2 (le-leb _ _ (tail-fits file v k ve ke l))
 
-        told : u ≡ counts
-        told = ue ∙ ap (λ (x : Counts). countsRight (x .variables) (x .matrices) (x .cells)) cse
+        version-told : vr ≡ versionRight (version file)
+        version-told = vre ∙ ap versionRight ve
 
-        pub whole-counts : u ≡ false → answers 3 (trailer file)
-        whole-counts h = refuse 3 (trailer file) (in-version ∙ unmet counts 3 (trailer file) (body file 0) (sym told ∙ h))
+        pub whole-version : vr ≡ false → answers 2 (trailer file)
+        whole-version h = refuse 2 (trailer file) (in-tail ∙ unmet (versionRight (version file)) 2 (trailer file) R3 (sym version-told ∙ h))
 
-        module _ (u1 : u ≡ true) where
-          whole-body : check file ≡ last file (body file 0)
-          unfolding check
-          whole-body = ap (last file) (in-version ∙ met counts 3 (trailer file) (body file 0) (sym told ∙ u1))
+        module _ (v1 : vr ≡ true) (cs : Counts) (cse : cs ≡ trailerCounts file) (u : Bool) (ue : u ≡ countsRight (cs .variables) (cs .matrices) (cs .cells)) where
+          in-version : R0 ≡ R3
+          in-version = in-tail ∙ met (versionRight (version file)) 2 (trailer file) R3 (sym version-told ∙ v1)
 
-          module _ (os : Offsets) (ose : os ≡ trailerOffsets file) where
-            abbrev D′ : Item Design
-            D′ = sections file (trailer file) cs os 0
+          told : u ≡ counts
+          told = ue ∙ ap (λ (x : Counts). countsRight (x .variables) (x .matrices) (x .cells)) cse
 
-            same-body : D′ ≡ body file 0
-            same-body = cc
+          pub whole-counts : u ≡ false → answers 3 (trailer file)
+          whole-counts h = refuse 3 (trailer file) (in-version ∙ unmet counts 3 (trailer file) (body file 0) (sym told ∙ h))
 
-            whole-is : check file ≡ last file D′
-            whole-is = whole-body ∙ ap (last file) (sym same-body)
+          module _ (u1 : u ≡ true) where
+            whole-body : check file ≡ last file (body file 0)
+            unfolding check
+            whole-body = ap (last file) (in-version ∙ met counts 3 (trailer file) (body file 0) (sym told ∙ u1))
 
-            bodied-stopped : (x : Item Design) (i p : ℕ) → Stopped i p ≡ bodied x → record { number = i; place = p } ≡ refusal (last file x)
-            bodied-stopped (item x n) i p e = let z : _≡_ {A = ℕ} 0 1 = cc in absurd (omega arith)
-            bodied-stopped (refused j q) i p e = let g : i ≡ j = cc in let h : p ≡ q = cc in λ k. record { number = g k; place = h k }
+            module _ (end : ℕ) (ende : end ≡ itemsEnd file) (os : Offsets) (ose : os ≡ trailerOffsets file) where
+              abbrev D′ : Item Design
+              D′ = sections file end cs os 0
 
-            pub whole-stopped : (r : Counted) (i p : ℕ) → r ≡ bodied D′ → r ≡ Stopped i p → answers i p
-            whole-stopped r i p e h = bodied-stopped D′ i p (sym h ∙ e) ∙ sym (ap refusal whole-is)
+              same-body : D′ ≡ body file 0
+              same-body = cc
 
-            bodied-passed : (x : Item Design) (n w : ℕ) → Passed n w ≡ bodied x → (m : Bool) → m ≡ moversRight w → refusal (last file x) ≡ cond m (record { number = 0; place = 0 }) (record { number = 10; place = length file })
-            bodied-passed (item x k) n w e m h = let g : w ≡ length (movers x) = cc in go m (sym (h ∙ ap moversRight g))
-              where
-                go : (m : Bool) → moversRight (length (movers x)) ≡ m → refusal (last file (item x k)) ≡ cond m (record { number = 0; place = 0 }) (record { number = 10; place = length file })
-                go true q = rw q
-                go false q = rw q
-            bodied-passed (refused j q) n w e m h = let z : _≡_ {A = ℕ} 0 1 = cc in absurd (omega arith)
+              whole-is : check file ≡ last file D′
+              whole-is = whole-body ∙ ap (last file) (sym same-body)
 
-            module _ (r : Counted) (n w : ℕ) (e : r ≡ bodied D′) (h : r ≡ Passed n w) (m : Bool) (me : m ≡ moversRight w) where
-              pub whole-movers : m ≡ false → answers 10 (length file)
-              whole-movers l = sym (ap refusal whole-is ∙ bodied-passed D′ n w (sym h ∙ e) false (sym l ∙ me))
+              bodied-stopped : (x : Item Design) (i p : ℕ) → Stopped i p ≡ bodied x → record { number = i; place = p } ≡ refusal (last file x)
+              bodied-stopped (item x n) i p e = let z : _≡_ {A = ℕ} 0 1 = cc in absurd (omega arith)
+              bodied-stopped (refused j q) i p e = let g : i ≡ j = cc in let h : p ≡ q = cc in λ k. record { number = g k; place = h k }
 
-              pub whole-accepted : m ≡ true → answers 0 0
-              whole-accepted l = sym (ap refusal whole-is ∙ bodied-passed D′ n w (sym h ∙ e) true (sym l ∙ me))
+              pub whole-stopped : (r : Counted) (i p : ℕ) → r ≡ bodied D′ → r ≡ Stopped i p → answers i p
+              whole-stopped r i p e h = bodied-stopped D′ i p (sym h ∙ e) ∙ sym (ap refusal whole-is)
+
+              bodied-passed : (x : Item Design) (n w : ℕ) → Passed n w ≡ bodied x → (m : Bool) → m ≡ moversRight w → refusal (last file x) ≡ cond m (record { number = 0; place = 0 }) (record { number = 10; place = length file })
+              bodied-passed (item x k) n w e m h = let g : w ≡ length (movers x) = cc in go m (sym (h ∙ ap moversRight g))
+                where
+                  go : (m : Bool) → moversRight (length (movers x)) ≡ m → refusal (last file (item x k)) ≡ cond m (record { number = 0; place = 0 }) (record { number = 10; place = length file })
+                  go true q = rw q
+                  go false q = rw q
+              bodied-passed (refused j q) n w e m h = let z : _≡_ {A = ℕ} 0 1 = cc in absurd (omega arith)
+
+              module _ (r : Counted) (n w : ℕ) (e : r ≡ bodied D′) (h : r ≡ Passed n w) (m : Bool) (me : m ≡ moversRight w) where
+                pub whole-movers : m ≡ false → answers 10 (length file)
+                whole-movers l = sym (ap refusal whole-is ∙ bodied-passed D′ n w (sym h ∙ e) false (sym l ∙ me))
+
+                pub whole-accepted : m ≡ true → answers 0 0
+                whole-accepted l = sym (ap refusal whole-is ∙ bodied-passed D′ n w (sym h ∙ e) true (sym l ∙ me))

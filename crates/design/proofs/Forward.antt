@@ -6,10 +6,10 @@ use mathlib.Core.List.{List}
 use native.Mathlib.Omega.{arith}
 use native.Mathlib.Nat.{le-refl}
 use lib.Dec.{ltb, leb, eqb}
-use Rattle.design.specs.Tree.{IntExpr, BoolExpr, Stmt, Stmts, variableB}
+use Rattle.design.specs.Tree.{IntExpr, BoolExpr, Stmt, Stmts}
 use Rattle.design.specs.Limits.{maxDepth}
 use Rattle.design.specs.Reading.{Read, got, bad, Reader, bind, provided}
-use Rattle.design.specs.Expression.{Names, IntOp, BoolOp, intOp, boolOp, byte, word, intOf, boolOf, intExpr, boolExpr}
+use Rattle.design.specs.Expression.{Names, IntOp, BoolOp, intOp, boolOp, byte, word, legal, isVariable, isInteger, isMatrix, intOf, boolOf, intExpr, boolExpr}
 use Rattle.design.specs.Action.{StmtOp, stmtOp, value, assignment, statements, listOf, conditional, stmtOf, statement, list}
 use Rattle.design.specs.Answers.{found}
 use Rattle.design.specs.declared.expression.Found.the-variants.{At}
@@ -46,8 +46,12 @@ module _ (text : List ℕ) (names : Names) (end : ℕ) where
 
   intOf-on : (lo : ℕ) (operand : Reader IntExpr) → Goes lo operand → (o : IntOp) → Goes lo (intOf text names end operand o)
   intOf-on lo operand h IntOp.op-constant at l = on-bind lo (word text names end at) _ (on-word lo at (omega arith)) (λ c m q. on-got lo _ m q)
-  intOf-on lo operand h IntOp.op-variable at l = on-bind lo (byte text names end at) _ (on-byte lo at (omega arith)) (λ v m q. on-provided lo (ltb v (names .variables)) _ (on-provided lo (eqb (names .kindOf v) 1) _ (on-got lo _ m q)))
-  intOf-on lo operand h IntOp.op-status at l = on-bind lo (byte text names end at) _ (on-byte lo at (omega arith)) (λ v m q. on-provided lo (ltb v (names .matrices)) _ (on-got lo _ m q))
+  intOf-on lo operand h (IntOp.op-variable next) at l =
+      on-bind lo (byte text names end at) _ (on-byte lo at (omega arith))
+      (λ v m q. on-provided lo (legal text names end next) _ (on-provided lo (isVariable text names end v) _ (on-provided lo (isInteger text names end v) _ (on-got lo _ m q))))
+  intOf-on lo operand h (IntOp.op-status next) at l =
+      on-bind lo (byte text names end at) _ (on-byte lo at (omega arith))
+      (λ v m q. on-provided lo (legal text names end next) _ (on-provided lo (isMatrix text names end v) _ (on-got lo _ m q)))
   intOf-on lo operand h IntOp.op-unknown at l = on-bad lo
   intOf-on lo operand h (IntOp.op-ints f) at l = on-bind lo (operand at) _ (h at l) (λ a m q. on-bind lo (operand m) _ (h m q) (λ b n r. on-got lo _ n r))
 
@@ -58,7 +62,9 @@ module _ (text : List ℕ) (names : Names) (end : ℕ) where
 
   boolOf-on : (lo : ℕ) (int : Reader IntExpr) → Goes lo int → (operand : Reader BoolExpr) → Goes lo operand → (o : BoolOp) → Goes lo (boolOf text names end int operand o)
   boolOf-on lo int i operand h BoolOp.op-constant at l = on-bind lo (byte text names end at) _ (on-byte lo at (omega arith)) (λ v m q. on-provided lo (leb v 1) _ (on-got lo _ m q))
-  boolOf-on lo int i operand h BoolOp.op-variable at l = on-bind lo (byte text names end at) _ (on-byte lo at (omega arith)) (λ v m q. on-provided lo (ltb v (names .variables)) _ (on-provided lo (not (eqb (names .kindOf v) 1)) _ (on-got lo (variableB v) m q)))
+  boolOf-on lo int i operand h (BoolOp.op-variable next) at l =
+      on-bind lo (byte text names end at) _ (on-byte lo at (omega arith))
+      (λ v m q. on-provided lo (legal text names end next) _ (on-provided lo (isVariable text names end v) _ (on-provided lo (not (isInteger text names end v)) _ (on-got lo _ m q))))
   boolOf-on lo int i operand h BoolOp.op-not at l = on-bind lo (operand at) _ (h at l) (λ a m q. on-got lo _ m q)
   boolOf-on lo int i operand h BoolOp.op-unknown at l = on-bad lo
   boolOf-on lo int i operand h (BoolOp.op-bools f) at l = on-bind lo (operand at) _ (h at l) (λ a m q. on-bind lo (operand m) _ (h m q) (λ b n r. on-got lo _ n r))

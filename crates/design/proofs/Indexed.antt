@@ -1,41 +1,43 @@
 -- Facts about an accepted file with its table of events and its shape, for every layer that walks it. Assumes nothing.
 use mathlib.Core.Path.{_≡_, refl, sym, ap, ap₂, subst, _∙_}
-use mathlib.Core.Bool.{true}
+use mathlib.Core.Bool.{Bool, true, false}
 use mathlib.Core.List.{List}
 use Prim.Native.Nat.{ℕ, zero, suc, _+_, _*_, _<_, _≤_}
 use native.Mathlib.Omega.{arith}
 use lib.ListN.{getD, length}
-use lib.Dec.{eqb}
-use borrow.Author.Tests.{eqb-true}
 use Rattle.design.specs.Tree.{BoolExpr, constantB, boolean, Variable, Design, movers}
 use Rattle.design.specs.State.{slotCount}
-use Rattle.design.specs.Limits.{trailerBytes, maxBytes, maxVariables, maxMatrices, maxEvents, maxMovers, maxDepth, maxNest, eventPlaces, maxSlots}
-use Rattle.design.specs.Reading.{Read, got, bad}
-use Rattle.design.specs.Expression.{Names, boolExpr}
+use Rattle.design.specs.Limits.{trailerBytes, tailBytes, maxBytes, maxVariables, maxMatrices, maxEvents, maxMovers, maxDepth, maxNest, eventPlaces, maxSlots}
+use Rattle.design.specs.Reading.{got}
+use Rattle.design.specs.Expression.{Names, withLater, boolExpr}
 use Rattle.design.specs.Action.{list}
-use Rattle.design.specs.DesignFile.{item, filling, guard, normal, events, c-matrix, c-event, c-guard, c-middle, c-past}
-use Rattle.design.specs.Check.{check, accepted, namesIn, namesOf, names, trailer, variableCount, matrixCount, matricesOffset, invariantOffset, eventIn}
+use Rattle.design.specs.DesignFile.{item, guard, normal, events, c-matrix, c-event, c-guard, c-middle, c-past}
+use Rattle.design.specs.Check.{check, accepted, namesIn, namesOf, names, version, hasConstraint, itemsEnd, constraintOffset, variableCount, matrixCount, matricesOffset, invariantOffset, eventIn}
 use Rattle.design.specs.Places.{Accepted, Shaped, MoversIndexed, Indexed, externalsFrom, pastEvents, eventsStart, eventPlace}
 use Rattle.design.specs.Answers.{walked}
 use Rattle.design.specs.Sections.{Parts, EventRead, NormalRead, CellFields, NormalCell}
 use Rattle.design.specs.declared.shape.Shape.{Shape}
-use Rattle.design.proofs.Sections.{need-inv, item-same, whole}
+use Rattle.design.proofs.Sections.{filling-inv, item-same, whole}
 use Rattle.design.proofs.Items.{variable-ends}
-use Rattle.design.proofs.Positions.{variable-stands, invariant-stands}
+use Rattle.design.proofs.Positions.{variable-stands, invariant-stands, constraint-stands}
 use Rattle.design.proofs.Places.{Read as Tree, read, event-stands, cell-fields}
 use Rattle.design.proofs.Tables.{few-events}
 use Rattle.design.proofs.Externals.{mover-count}
 
+-- the file has the bytes behind its items
+pub tail-inside : (file : List ℕ) → Accepted file → tailBytes (version file) ≤ length file
+tail-inside file a = read file a .all .tail
+
 -- the variables stand in the file
-pub variables-inside : (file : List ℕ) → Accepted file → 3 * variableCount file ≤ trailer file
+pub variables-inside : (file : List ℕ) → Accepted file → 3 * variableCount file ≤ itemsEnd file
 variables-inside file a = go (variableCount file) refl
   where
-    go : (n : ℕ) → n ≡ variableCount file → 3 * n ≤ trailer file
+    go : (n : ℕ) → n ≡ variableCount file → 3 * n ≤ itemsEnd file
     go zero q = omega arith
     go (suc v) q =
         let t = read file a in
         let x : Variable = record { kind = boolean; initial = 0 } in
-        let k = variable-ends file (trailer file) (3 * v) (3 * v + 3) (sym (ap walked (variable-stands file (t .tree) (t .all .parts) v (omega arith) x))) .1 in
+        let k = variable-ends file (itemsEnd file) (3 * v) (3 * v + 3) (sym (ap walked (variable-stands file (t .tree) (t .all .parts) v (omega arith) x))) .1 in
         omega arith
 
 module _ (file : List ℕ) (a : Accepted file) (h : Shape) (s : Shaped file h) where
@@ -69,7 +71,7 @@ module _ (file table : List ℕ) (h : Shape) (i : Indexed file table h) where
   N = namesOf file h
 
   abbrev E : ℕ
-  E = trailer file
+  E = itemsEnd file
 
   names-same : N ≡ names file
   names-same = names-here file (i .accepted) h (i .shaped)
@@ -127,13 +129,7 @@ module _ (file table : List ℕ) (h : Shape) (i : Indexed file table h) where
 
     filled : (k : ℕ) → (k ≡ 0 → ⊥) → (g : BoolExpr) (n : ℕ) → guard file E (names file) p k ≡ item g n → boolExpr file (names file) (c-middle file p) maxDepth (p + 8) ≡ got g (c-middle file p)
     filled zero z g n e = absurd (z refl)
-    filled (suc k) z g n e = go (boolExpr file (names file) (c-middle file p) maxDepth (p + 8)) e
-      where
-        go : (r : Read BoolExpr) → filling 8 p (c-middle file p) r ≡ item g n → r ≡ got g (c-middle file p)
-        go (got b m) q =
-            let (t, u) = need-inv (eqb m (c-middle file p)) 8 p (item b (c-middle file p)) g n q in
-            ap (got b) (eqb-true m (c-middle file p) t) ∙ ap (λ (y : BoolExpr). got y (c-middle file p)) (item-same _ _ _ _ u)
-        go bad q = let z : _≡_ {A = ℕ} 0 1 = cc in absurd (omega arith)
+    filled (suc k) z g n e = filling-inv 8 p (c-middle file p) (boolExpr file (names file) (c-middle file p) maxDepth (p + 8)) g n e .0
 
     pub guard-got : (n : ℕ) → n ≡ c-guard file p → (n ≡ 0 → ⊥) → boolExpr file N (p + 8 + n) maxDepth (p + 8) ≡ got (x .cell .guard) (c-middle file p)
     guard-got n e z =
@@ -145,12 +141,26 @@ module _ (file table : List ℕ) (h : Shape) (i : Indexed file table h) where
         ap (λ (y : Names). list file y n maxNest m) names-same ∙ ap (λ (j : ℕ). list file (names file) j maxNest m) b
         ∙ ap (list file (names file) (c-past file p) maxNest) a ∙ cell-is .action ∙ ap (got (x .cell .action)) (sym b)
 
+-- a reader by the shape's names is the file's
+named : (file : List ℕ) (h : Shape) (later : Bool) (at at′ end : ℕ) (x : BoolExpr) → namesOf file h ≡ names file → at ≡ at′ → boolExpr file (withLater later (names file)) end maxDepth at′ ≡ got x end → boolExpr file (withLater later (namesOf file h)) end maxDepth at ≡ got x end
+named file h later at at′ end x n p r = ap (λ (y : Names). boolExpr file (withLater later y) end maxDepth at) n ∙ ap (boolExpr file (withLater later (names file)) end maxDepth) p ∙ r
+
 -- the invariant, of which some tree stands there
-module _ (file : List ℕ) (a : Accepted file) (h : Shape) (s : Shaped file h) (at end : ℕ) (p : at ≡ invariantOffset file) (e : end ≡ trailer file) where
+module _ (file : List ℕ) (a : Accepted file) (h : Shape) (s : Shaped file h) (at end : ℕ) (p : at ≡ invariantOffset file) (e : end ≡ constraintOffset file) where
   pub invariant-got : (d : Design) (w : Parts file d) → boolExpr file (namesOf file h) end maxDepth at ≡ got (d .invariant) end
   invariant-got d w =
-      ap (λ (y : Names). boolExpr file y end maxDepth at) (names-here file a h s) ∙ ap (boolExpr file (names file) end maxDepth) p
-      ∙ subst (λ (j : ℕ). boolExpr file (names file) j maxDepth (invariantOffset file) ≡ got (d .invariant) j) (sym e) (invariant-stands file d w)
+      named file h false at (invariantOffset file) end (d .invariant) (names-here file a h s) p
+      (subst (λ (j : ℕ). boolExpr file (names file) j maxDepth (invariantOffset file) ≡ got (d .invariant) j) (sym e) (invariant-stands file d w))
 
   pub invariant-some : (x : BoolExpr) × (boolExpr file (namesOf file h) end maxDepth at ≡ got x end)
   invariant-some = let t = read file a in (t .tree .invariant, invariant-got (t .tree) (t .all .parts))
+
+-- the constraint, likewise
+module _ (file : List ℕ) (a : Accepted file) (h : Shape) (s : Shaped file h) (at end : ℕ) (p : at ≡ constraintOffset file) (e : end ≡ itemsEnd file) where
+  pub constraint-got : (d : Design) (w : Parts file d) → hasConstraint file ≡ true → boolExpr file (withLater true (namesOf file h)) end maxDepth at ≡ got (d .constraint) end
+  constraint-got d w c =
+      named file h true at (constraintOffset file) end (d .constraint) (names-here file a h s) p
+      (subst (λ (j : ℕ). boolExpr file (withLater true (names file)) j maxDepth (constraintOffset file) ≡ got (d .constraint) j) (sym e) (constraint-stands file d w c))
+
+  pub constraint-some : hasConstraint file ≡ true → (x : BoolExpr) × (boolExpr file (withLater true (namesOf file h)) end maxDepth at ≡ got x end)
+  constraint-some c = let t = read file a in (t .tree .constraint, constraint-got (t .tree) (t .all .parts) c)

@@ -12,10 +12,10 @@ use mathlib.Core.Logic.{_⊎_, inl, inr, ⊎-elim}
 use Rattle.design.specs.Tree.{BoolExpr, Variable, Kind, ifExternal}
 use Rattle.design.specs.Limits.{maxDepth, maxStatuses, maxEvents}
 use Rattle.design.specs.Reading.{Read, got, bad}
-use Rattle.design.specs.Expression.{Names, boolExpr}
-use Rattle.design.specs.DesignFile.{events, eventsFrom, Item, item, refused, Walk, need, filling, after, items, kind, at8, at16, variableAt, matrixAt, eventAt, invariantAt}
+use Rattle.design.specs.Expression.{Names, withLater, boolExpr}
+use Rattle.design.specs.DesignFile.{events, eventsFrom, Item, item, refused, Walk, need, filling, after, items, kind, at8, at16, variableAt, matrixAt, eventAt, invariantAt, constraintAt}
 use Rattle.design.specs.Answers.{found, walked, lengthFilled, sumOf, counted, raises}
-use Rattle.design.proofs.Sections.{after-inv, need-inv, and-inv, item-past, item-same}
+use Rattle.design.proofs.Sections.{after-inv, need-inv, and-inv, item-past, item-same, filling-inv}
 use Rattle.design.specs.declared.expression.Found.{Found}
 use Rattle.design.specs.declared.expression.Found.the-variants.{At, Bad}
 use Rattle.design.specs.declared.item.Walked.{Walked}
@@ -129,9 +129,27 @@ module _ (file : List ℕ) (end : ℕ) (names : Names) (at past : ℕ) (p : past
       ∙ sym (ap walked (met (leb (at + 1 + getD file at 0) end) 4 at _ (le-leb (at + 1 + getD file at 0) end (omega arith))))
 
 module _ (file : List ℕ) (end : ℕ) (names : Names) where
-  pub invariant-read : (at : ℕ) (f : Found) (r : Walked) → r ≡ lengthFilled 8 at end f → f ≡ found (boolExpr file names end maxDepth at) → r ≡ walked (invariantAt file end names at)
-  unfolding invariantAt
-  invariant-read at f r e q = filled-read 8 at end (boolExpr file names end maxDepth at) f r e q
+  module _ (past at : ℕ) where
+    pub invariant-before : past < at → Refused 4 at ≡ walked (invariantAt file end names past at)
+    unfolding invariantAt
+    invariant-before h = simp (lt-leb at past h)
+
+    pub invariant-passes : at ≤ past → end < past → Refused 4 at ≡ walked (invariantAt file end names past at)
+    unfolding invariantAt
+    invariant-passes h l = simp (le-leb at past h, lt-leb past end l)
+
+    pub invariant-read : at ≤ past → past ≤ end → (f : Found) (r : Walked) → r ≡ lengthFilled 8 at past f → f ≡ found (boolExpr file names past maxDepth at) → r ≡ walked (invariantAt file end names past at)
+    unfolding invariantAt
+    invariant-read h l f r e q = filled-read 8 at past (boolExpr file names past maxDepth at) f r e q ∙ simp (le-leb at past h, le-leb past end l)
+
+  module _ (t : Bool) (at : ℕ) where
+    pub constraint-absent : t ≡ false → Past at ≡ walked (constraintAt file end names t at)
+    unfolding constraintAt
+    constraint-absent h = rw h
+
+    pub constraint-read : t ≡ true → (f : Found) (r : Walked) → r ≡ lengthFilled 8 at end f → f ≡ found (boolExpr file (withLater true names) end maxDepth at) → r ≡ walked (constraintAt file end names t at)
+    unfolding constraintAt
+    constraint-read h f r e q = filled-read 8 at end (boolExpr file (withLater true names) end maxDepth at) f r e q ∙ sym (ap (λ (b : Bool). walked (constraintAt file end names b at)) h)
 
 -- how far an item goes
 module _ (file : List ℕ) (end : ℕ) where
@@ -155,16 +173,12 @@ module _ (file : List ℕ) (end : ℕ) where
       let l = leb-true (at + 2) end t in
       (omega arith, omega arith)
 
-  filling-past : {A : Type 0} (i p past : ℕ) (r : Read A) (a : A) (n : ℕ) → filling i p past r ≡ item a n → past ≡ n
-  filling-past i p past (got b m) a n e = item-past _ _ _ _ (need-inv (eqb m past) i p (item b past) a n e .1)
-  filling-past i p past bad a n e = let z : _≡_ {A = ℕ} 0 1 = cc in absurd (omega arith)
-
   pub event-ends : (names : Names) (at n : ℕ) → Past n ≡ walked (eventAt file end names at) → (at < n) × (n ≤ end)
   unfolding eventAt
   event-ends names at n e =
       let (x, q) = passed (eventAt file end names at) n e in
       let (t, h) = need-inv (leb (at + 1 + getD file at 0) end) 4 at _ x n q in
-      let g : at + 1 + getD file at 0 ≡ n = filling-past 8 at _ (boolExpr file names (at + 1 + getD file at 0) maxDepth (at + 1)) x n h in
+      let g : n ≡ at + 1 + getD file at 0 = filling-inv 8 at _ (boolExpr file names (at + 1 + getD file at 0) maxDepth (at + 1)) x n h .1 in
       let l = leb-true (at + 1 + getD file at 0) end t in
       (omega arith, omega arith)
 

@@ -7,15 +7,15 @@ use native.Mathlib.Omega.{arith}
 use lib.ListN.{getD, length}
 use lib.Dec.{leb, eqb}
 use Rattle.design.specs.Tree.{BoolExpr, constantB, Design, movers}
-use Rattle.design.specs.Limits.{lengthRight, moversRight, maxDepth, maxNest, maxStatuses, maxEvents}
+use Rattle.design.specs.Limits.{tailBytes, lengthRight, versionRight, moversRight, maxDepth, maxNest, maxStatuses, maxEvents}
 use Rattle.design.specs.Reading.{Read, got, bad}
-use Rattle.design.specs.Expression.{Names, boolExpr}
+use Rattle.design.specs.Expression.{Names, withLater, boolExpr}
 use Rattle.design.specs.Action.{list}
-use Rattle.design.specs.DesignFile.{Item, item, refused, Walk, need, filling, after, items, offset, variableAt, matrixAt, eventAt, eventsFrom, events, guard, action, entry, cellAt, cellsFrom, c-guard, c-kind, c-middle, c-past, at8, at16, fields, ordered, invariantAt}
-use Rattle.design.specs.Check.{Checked, accepted, sections, last, check, trailer, version, variableCount, matricesOffset, matrixCount, eventsOffset, cellsOffset, cellCount, invariantOffset, body, namesBy, trailerCounts, trailerOffsets, refusal}
+use Rattle.design.specs.DesignFile.{Item, item, refused, Walk, need, filling, after, items, offset, variableAt, matrixAt, eventAt, eventsFrom, events, guard, action, entry, cellAt, cellsFrom, c-guard, c-kind, c-middle, c-past, at8, at16, fields, ordered, invariantAt, constraintAt}
+use Rattle.design.specs.Check.{Checked, accepted, sections, last, check, trailer, version, itemsEnd, body, namesBy, trailerCounts, trailerOffsets, refusal}
 use Rattle.design.specs.declared.shape.Counts.{Counts}
 use Rattle.design.specs.declared.shape.Offsets.{Offsets}
-use Rattle.design.proofs.File.{counts, R2, R3}
+use Rattle.design.proofs.File.{counts, R1, R2, R3}
 
 abbrev Number : ℕ → Type 0
 Number i = (1 ≤ i) × (i ≤ 10)
@@ -71,9 +71,14 @@ module _ (file : List ℕ) (end : ℕ) where
     n-action : (at : ℕ) → Numbered (action file end N at)
     n-action at = n-filling 9 at (c-past file at) (list file N (c-past file at) maxNest (c-middle file at)) (omega arith)
 
-    n-invariant : (at : ℕ) → Numbered (invariantAt file end N at)
+    n-invariant : (past at : ℕ) → Numbered (invariantAt file end N past at)
     unfolding invariantAt
-    n-invariant at = n-filling 8 at end (boolExpr file N end maxDepth at) (omega arith)
+    n-invariant past at = n-need (leb at past && leb past end) 4 at _ (omega arith) (n-filling 8 at past (boolExpr file N past maxDepth at) (omega arith))
+
+    n-constraint : (t : Bool) (at : ℕ) → Numbered (constraintAt file end N t at)
+    unfolding constraintAt
+    n-constraint true at = n-filling 8 at end (boolExpr file (withLater true N) end maxDepth at) (omega arith)
+    n-constraint false at = n-item (constantB true) at
 
     module _ (M : ℕ) where
       n-events : (m n at : ℕ) → Numbered (eventsFrom file end N M m n at)
@@ -110,7 +115,8 @@ module _ (file : List ℕ) (end : ℕ) where
       n-after (offset (os .cells) s) _ (n-offset (os .cells) s) λ u₃ a₃.
       n-after (cellsFrom file end (namesBy file cs) (os .matrices) (λ m e. getD (getD rows m []) e (constantB false)) (cs .cells) a₃ a₃) _ (n-cells (namesBy file cs) (os .matrices) (λ m e. getD (getD rows m []) e (constantB false)) (cs .cells) a₃ a₃) λ es t.
       n-after (offset (os .invariant) t) _ (n-offset (os .invariant) t) λ u₄ a₄.
-      n-after (invariantAt file end (namesBy file cs) a₄) _ (n-invariant (namesBy file cs) a₄) λ inv n.
+      n-after (invariantAt file end (namesBy file cs) (os .constraint) a₄) _ (n-invariant (namesBy file cs) (os .constraint) a₄) λ inv a₅.
+      n-after (constraintAt file end (namesBy file cs) (os .constrained) a₅) _ (n-constraint (namesBy file cs) (os .constrained) a₅) λ con n.
       n-item _ n
 
 -- an answer of number 0 is an accepted file
@@ -125,9 +131,10 @@ last-zero file (refused i p) h e = let k = h .of i p refl in absurd (omega arith
 pub zero-accepted : (file : List ℕ) → refusal (check file) .number ≡ 0 → (d : Design) × (check file ≡ accepted d)
 unfolding check
 zero-accepted file e =
-    last-zero file (need (lengthRight (length file)) 1 (length file) (R2 file))
-    (n-need (lengthRight (length file)) 1 (length file) (R2 file) (omega arith)
-    (n-need (eqb (version file) 1) 2 (trailer file) (R3 file) (omega arith)
+    last-zero file (need (lengthRight (length file)) 1 (length file) (R1 file))
+    (n-need (lengthRight (length file)) 1 (length file) (R1 file) (omega arith)
+    (n-need (leb (tailBytes (version file)) (length file)) 1 (length file) (R2 file) (omega arith)
+    (n-need (versionRight (version file)) 2 (trailer file) (R3 file) (omega arith)
     (n-need (counts file) 3 (trailer file) (body file 0) (omega arith)
-    (n-sections file (trailer file) (trailerCounts file) (trailerOffsets file)))))
+    (n-sections file (itemsEnd file) (trailerCounts file) (trailerOffsets file))))))
     e

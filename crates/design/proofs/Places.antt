@@ -12,7 +12,7 @@ use Rattle.design.specs.Tree.{BoolExpr, constantB, Cell, Design}
 use Rattle.design.specs.Limits.{maxStatuses, maxEvents}
 use Rattle.design.specs.Expression.{Names}
 use Rattle.design.specs.DesignFile.{item, need, Matrix, Entry, normal, invalid, matrixAt, eventAt, fields, ordered, ending, statuses, events, at8, c-matrix, c-status, c-event, c-kind, c-past}
-use Rattle.design.specs.Check.{check, accepted, normals, trailer, matricesOffset, matrixCount, eventsOffset, cellsOffset, cellCount, invariantOffset, names, eventIn}
+use Rattle.design.specs.Check.{check, accepted, normals, itemsEnd, matricesOffset, matrixCount, eventsOffset, cellsOffset, cellCount, invariantOffset, names, eventIn}
 use Rattle.design.specs.Places.{Accepted, pastEvents, pastCells, eventsStart, eventPlace, normalsFrom, normalPlaces}
 use Rattle.design.specs.Sections.{Run, Rows, Cells, Parts, EventRead, CellRead, Standing, CellFields}
 use Rattle.design.proofs.Sections.{Whole, whole, need-inv, and-inv}
@@ -33,7 +33,7 @@ read file h = let (d, e) = zero-accepted file h in record { tree = d; is = e; al
 
 module _ (file : List ℕ) where
   abbrev E : ℕ
-  E = trailer file
+  E = itemsEnd file
 
   abbrev N : Names
   N = names file

@@ -1,30 +1,24 @@
 -- What code that walks an accepted file may use: where each item stands, that its walk and its readers succeed there, and where it ends. Assumes nothing.
 use Prim.Native.Nat.{ℕ, zero, suc, _+_, _-_, _*_, _<_, _≤_}
 use mathlib.Core.Path.{_≡_, refl, sym, ap, subst, _∙_}
-use mathlib.Core.Bool.{_&&_}
+use mathlib.Core.Bool.{true, false, _&&_}
 use mathlib.Core.List.{List, [], _∷_}
 use native.Mathlib.Omega.{arith}
 use native.Mathlib.Nat.{mul-suc, mul-zero}
 use lib.ListN.{getD, length, take, drop}
-use lib.Dec.{leb, eqb}
-use borrow.Author.Tests.{leb-true, eqb-true}
-use Rattle.design.specs.Tree.{BoolExpr, Variable, Design}
+use lib.Dec.{leb}
+use borrow.Author.Tests.{leb-true}
+use Rattle.design.specs.Tree.{BoolExpr, constantB, Variable, Design}
 use Rattle.design.specs.Limits.{maxDepth, maxNest}
-use Rattle.design.specs.Reading.{Read, got, bad}
-use Rattle.design.specs.Expression.{Names, boolExpr}
+use Rattle.design.specs.Reading.{got}
+use Rattle.design.specs.Expression.{Names, withLater, boolExpr}
 use Rattle.design.specs.Action.{list}
-use Rattle.design.specs.DesignFile.{item, Walk, filling, Matrix, Entry, variableAt, matrixAt, eventAt, invariantAt, fields, ordered, guard, action, entry, c-kind, c-guard, c-middle, c-past, cellAt, events}
-use Rattle.design.specs.Check.{trailer, variableCount, matricesOffset, matrixCount, eventsOffset, invariantOffset, names}
+use Rattle.design.specs.DesignFile.{item, Walk, Matrix, Entry, variableAt, matrixAt, eventAt, constraintAt, fields, ordered, guard, action, entry, c-kind, c-guard, c-middle, c-past, cellAt, events}
+use Rattle.design.specs.Check.{hasConstraint, itemsEnd, constraintOffset, variableCount, matricesOffset, matrixCount, eventsOffset, invariantOffset, names}
 use Rattle.design.specs.Sections.{Run, Rows, Cells, Parts, EventRead, EntryRead, CellRead}
-use Rattle.design.proofs.Sections.{after-inv, need-inv, item-past, item-same}
+use Rattle.design.proofs.Sections.{after-inv, need-inv, item-past, item-same, filling-inv, invariant-inv, constraint-inv}
 use Rattle.design.specs.Answers.{walked}
 use Rattle.design.proofs.Items.{variable-ends, matrix-ends}
-
-filling-inv : {A : Type 0} (i p past : ℕ) (r : Read A) (a : A) (n : ℕ) → filling i p past r ≡ item a n → (r ≡ got a past) × (n ≡ past)
-filling-inv i p past (got b m) a n e =
-    let (t, h) = need-inv (eqb m past) i p (item b past) a n e in
-    (ap (λ (j : ℕ). got b j) (eqb-true m past t) ∙ ap (λ (x : _). got x past) (item-same _ _ _ _ h), sym (item-past _ _ _ _ h))
-filling-inv i p past bad a n e = let z : _≡_ {A = ℕ} 0 1 = cc in absurd (omega arith)
 
 -- a run may be cut anywhere
 pub run-split : {A : Type 0} (one : Walk A) (xs : List A) (at past i : ℕ) → Run one at xs past → i ≤ length xs → (p : ℕ) × Run one at (take i xs) p × Run one p (drop i xs) past
@@ -49,10 +43,6 @@ module _ (file : List ℕ) (end : ℕ) where
       let (r, q) = filling-inv 8 at (at + 1 + getD file at 0) (boolExpr file N (at + 1 + getD file at 0) maxDepth (at + 1)) x n h in
       let l = leb-true (at + 1 + getD file at 0) end t in
       record { past = q; inside = omega arith; reads = subst (λ (j : ℕ). boolExpr file N j maxDepth (at + 1) ≡ got x j) (sym q) r }
-
-  pub invariant-reads : (N : Names) (at : ℕ) (x : BoolExpr) (n : ℕ) → invariantAt file end N at ≡ item x n → boolExpr file N end maxDepth at ≡ got x end
-  unfolding invariantAt
-  invariant-reads N at x n e = filling-inv 8 at end (boolExpr file N end maxDepth at) x n e .0
 
   module _ (N : Names) (M : ℕ) (f : ℕ → ℕ → BoolExpr) where
     guard-past : (at k : ℕ) (g : BoolExpr) (n : ℕ) → guard file end N at k ≡ item g n → n ≡ c-middle file at
@@ -91,7 +81,7 @@ module _ (file : List ℕ) (end : ℕ) where
 -- the items of an accepted file by number
 module _ (file : List ℕ) (d : Design) (w : Parts file d) where
   abbrev E : ℕ
-  E = trailer file
+  E = itemsEnd file
 
   pub variable-stands : (v : ℕ) → v < variableCount file → (x : Variable) → variableAt file E (3 * v) ≡ item (getD (d .variables) v x) (3 * v + 3)
   variable-stands v h x =
@@ -115,5 +105,19 @@ module _ (file : List ℕ) (d : Design) (w : Parts file d) where
   cells-split f [] before at past (suc i) r h = absurd (omega arith)
   cells-split f (x ∷ xs) before at past (suc i) r h = let (b, p, a, q) = cells-split f xs at (r .0) past i (r .2) (omega arith) in (b, p, (r .0, r .1, a), q)
 
-  pub invariant-stands : boolExpr file (names file) E maxDepth (invariantOffset file) ≡ got (d .invariant) E
-  invariant-stands = invariant-reads file E (names file) (invariantOffset file) (d .invariant) (w .past) (w .invariant)
+  -- the invariant up to the constraint, and the constraint, if there is one, up to the items' end
+  pub expressions-order : (invariantOffset file ≤ constraintOffset file) × (constraintOffset file ≤ E)
+  expressions-order = let (a, b, r, q) = invariant-inv file E (names file) _ _ _ _ (w .invariant) in (a, b)
+
+  pub invariant-stands : boolExpr file (names file) (constraintOffset file) maxDepth (invariantOffset file) ≡ got (d .invariant) (constraintOffset file)
+  invariant-stands = invariant-inv file E (names file) _ _ _ _ (w .invariant) .2
+
+  pub constraint-stands : hasConstraint file ≡ true → boolExpr file (withLater true (names file)) E maxDepth (constraintOffset file) ≡ got (d .constraint) E
+  constraint-stands h =
+      constraint-inv file E (names file) (constraintOffset file) (d .constraint) (w .past)
+      (subst (λ t. constraintAt file E (names file) t (constraintOffset file) ≡ item (d .constraint) (w .past)) h (w .constraint)) .0
+
+  pub constraint-none : hasConstraint file ≡ false → d .constraint ≡ constantB true
+  unfolding constraintAt
+  constraint-none h =
+      sym (item-same _ _ _ _ (subst (λ t. constraintAt file E (names file) t (constraintOffset file) ≡ item (d .constraint) (w .past)) h (w .constraint)))

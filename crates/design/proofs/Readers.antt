@@ -1,17 +1,19 @@
 -- Laws of the readers that the code's proofs cite. Assumes nothing.
 use Prim.Native.Nat.{ℕ, zero, suc, _+_, _-_, _<_, _≤_}
 use mathlib.Core.Path.{_≡_, refl, sym, ap, subst, _∙_}
+use mathlib.Core.Bool.{Bool, true, false, not}
 use mathlib.Core.Logic.{_⊎_, inl, inr, ⊎-elim}
 use mathlib.Core.List.{List}
 use native.Mathlib.Omega.{arith}
 use native.Mathlib.Numerals.{sub-one}
 use native.Mathlib.Nat.{eq-or-lt-of-le}
 use lib.ListN.{getD}
+use lib.Dec.{eqb}
 use borrow.Author.Tests.{le-ltb, lt-ltb, eq-eqb, ne-eqb}
 use Rattle.design.specs.Tree.{IntExpr, BoolExpr, Stmt, Stmts, sum, difference, notB, andB, orB, equal, less, assign, assignB, ifElse, then}
 use Rattle.design.specs.Limits.{maxDepth}
-use Rattle.design.specs.Reading.{Read, got, bad, Reader, bind}
-use Rattle.design.specs.Expression.{Names, IntOp, BoolOp, intOp, boolOp, intOf, boolOf, intExpr, boolExpr}
+use Rattle.design.specs.Reading.{Read, got, bad, Reader, bind, provided}
+use Rattle.design.specs.Expression.{Names, IntOp, BoolOp, intOp, boolOp, byte, isVariable, isInteger, isMatrix, intOf, boolOf, intExpr, boolExpr}
 use Rattle.design.specs.Action.{StmtOp, stmtOp, assignment, statements, listOf, conditional, statement, list}
 use Rattle.design.specs.Answers.{found}
 use Rattle.design.specs.declared.expression.Found.{Found}
@@ -29,6 +31,15 @@ found-bad bad k e = refl
 pub found-last : {A B : Type 0} (x : Read A) (f : A → B) → found x ≡ found (bind x (λ b n. got (f b) n))
 found-last (got a n) f = refl
 found-last bad f = refl
+
+-- what is found does not depend on the tree that is made
+found-same : {A B : Type 0} (x : Read A) (j k : A → ℕ → Read B) → ((a : A) (n : ℕ) → found (j a n) ≡ found (k a n)) → found (bind x j) ≡ found (bind x k)
+found-same (got a n) j k h = h a n
+found-same bad j k h = refl
+
+provided-same : {A : Type 0} (t : Bool) (r s : Read A) → found r ≡ found s → found (provided t r) ≡ found (provided t s)
+provided-same true r s h = h
+provided-same false r s h = refl
 
 -- two operands and what is made of them
 abbrev pub pair : {A B : Type 0} → Reader A → (A → A → B) → Reader B
@@ -48,12 +59,17 @@ pub int-two : (b : ℕ) → 4 ≤ b → b < 6 → (f : IntExpr → IntExpr → I
 unfolding intOp
 int-two b p q = ⊎-elim (λ e. (sum, ap intOp e)) (λ e. (difference, ap intOp e)) (one-of-two b 4 p q)
 
-pub int-none : (b : ℕ) → (b < 1) ⊎ (6 ≤ b) → intOp b ≡ IntOp.op-unknown
+pub int-none : (b : ℕ) → (b < 1) ⊎ (8 ≤ b) → intOp b ≡ IntOp.op-unknown
 unfolding intOp
-int-none b s = simp (ne-eqb _ _ (out 1 (omega arith) (omega arith)), ne-eqb _ _ (out 2 (omega arith) (omega arith)), ne-eqb _ _ (out 3 (omega arith) (omega arith)), ne-eqb _ _ (out 4 (omega arith) (omega arith)), ne-eqb _ _ (out 5 (omega arith) (omega arith)))
+int-none b s = simp (out 1 (omega arith) (omega arith), out 2 (omega arith) (omega arith), out 3 (omega arith) (omega arith), out 4 (omega arith) (omega arith), out 5 (omega arith) (omega arith), out 6 (omega arith) (omega arith), out 7 (omega arith) (omega arith))
   where
-    out : (k : ℕ) → 1 ≤ k → k < 6 → b ≡ k → ⊥
-    out k p q e = ⊎-elim (λ l. omega arith) (λ l. omega arith) s
+    out : (k : ℕ) → 1 ≤ k → k < 8 → eqb b k ≡ false
+    out k p q = ne-eqb b k (λ e. ⊎-elim (λ l. omega arith) (λ l. omega arith) s)
+
+-- of the two operators of the next state, the one that is no variable
+pub int-next-status : (b : ℕ) → 6 ≤ b → b < 8 → (b ≡ 6 → ⊥) → intOp b ≡ IntOp.op-status true
+unfolding intOp
+int-next-status b p q n = ⊎-elim (λ e. absurd (n e)) (λ e. ap intOp e) (one-of-two b 6 p q)
 
 pub bool-two : (b : ℕ) → 0x13 ≤ b → b < 0x15 → (f : BoolExpr → BoolExpr → BoolExpr) × (boolOp b ≡ BoolOp.op-bools f)
 unfolding boolOp
@@ -63,12 +79,12 @@ pub bool-compare : (b : ℕ) → 0x15 ≤ b → b < 0x17 → (f : IntExpr → In
 unfolding boolOp
 bool-compare b p q = ⊎-elim (λ e. (equal, ap boolOp e)) (λ e. (less, ap boolOp e)) (one-of-two b 0x15 p q)
 
-pub bool-none : (b : ℕ) → (b < 0x10) ⊎ (0x17 ≤ b) → boolOp b ≡ BoolOp.op-unknown
+pub bool-none : (b : ℕ) → (b < 0x10) ⊎ (0x18 ≤ b) → boolOp b ≡ BoolOp.op-unknown
 unfolding boolOp
-bool-none b s = simp (ne-eqb _ _ (out 0x10 (omega arith) (omega arith)), ne-eqb _ _ (out 0x11 (omega arith) (omega arith)), ne-eqb _ _ (out 0x12 (omega arith) (omega arith)), ne-eqb _ _ (out 0x13 (omega arith) (omega arith)), ne-eqb _ _ (out 0x14 (omega arith) (omega arith)), ne-eqb _ _ (out 0x15 (omega arith) (omega arith)), ne-eqb _ _ (out 0x16 (omega arith) (omega arith)))
+bool-none b s = simp (out 0x10 (omega arith) (omega arith), out 0x11 (omega arith) (omega arith), out 0x12 (omega arith) (omega arith), out 0x13 (omega arith) (omega arith), out 0x14 (omega arith) (omega arith), out 0x15 (omega arith) (omega arith), out 0x16 (omega arith) (omega arith), out 0x17 (omega arith) (omega arith))
   where
-    out : (k : ℕ) → 0x10 ≤ k → k < 0x17 → b ≡ k → ⊥
-    out k p q e = ⊎-elim (λ l. omega arith) (λ l. omega arith) s
+    out : (k : ℕ) → 0x10 ≤ k → k < 0x18 → eqb b k ≡ false
+    out k p q = ne-eqb b k (λ e. ⊎-elim (λ l. omega arith) (λ l. omega arith) s)
 
 -- of the two statements, the one that is no assignment
 pub stmt-second : (b : ℕ) → 0x20 ≤ b → b < 0x22 → (b ≡ 0x20 → ⊥) → stmtOp b ≡ StmtOp.op-if
@@ -81,6 +97,42 @@ stmt-unknown b s = simp (ne-eqb _ _ (out 0x20 (omega arith) (omega arith)), ne-e
   where
     out : (k : ℕ) → 0x20 ≤ k → k < 0x22 → b ≡ k → ⊥
     out k p q e = ⊎-elim (λ l. omega arith) (λ l. omega arith) s
+
+-- What reads the next state finds, where that is legal, what the operator of the state finds; else nothing.
+module _ (text : List ℕ) (names : Names) (end : ℕ) (int : Reader IntExpr) (bool : Reader BoolExpr) (at : ℕ) where
+  abbrev Int : IntOp → Found
+  Int o = found (intOf text names end int o at)
+
+  abbrev Flag : BoolOp → Found
+  Flag o = found (boolOf text names end int bool o at)
+
+  module _ (h : names .later ≡ true) where
+    pub later-variable : Int (IntOp.op-variable false) ≡ Int (IntOp.op-variable true)
+    later-variable =
+        found-same (byte text names end at) _ _
+        (λ v n. rw h (provided-same (isVariable text names end v) _ _ (provided-same (isInteger text names end v) _ _ refl)))
+
+    pub later-status : Int (IntOp.op-status false) ≡ Int (IntOp.op-status true)
+    later-status = found-same (byte text names end at) _ _ (λ m n. rw h (provided-same (isMatrix text names end m) _ _ refl))
+
+    pub later-flag : Flag (BoolOp.op-variable false) ≡ Flag (BoolOp.op-variable true)
+    later-flag =
+        found-same (byte text names end at) _ _
+        (λ v n. rw h (provided-same (isVariable text names end v) _ _ (provided-same (not (isInteger text names end v)) _ _ refl)))
+
+  module _ (h : names .later ≡ false) where
+    none : {A B : Type 0} (x : Read A) (k : A → ℕ → Read B) → Bad ≡ found (bind x (λ a n. provided (names .later) (k a n)))
+    none (got a n) k = rw h
+    none bad k = refl
+
+    pub illegal-variable : Bad ≡ Int (IntOp.op-variable true)
+    illegal-variable = none (byte text names end at) _
+
+    pub illegal-status : Bad ≡ Int (IntOp.op-status true)
+    illegal-status = none (byte text names end at) _
+
+    pub illegal-flag : Bad ≡ Flag (BoolOp.op-variable true)
+    illegal-flag = none (byte text names end at) _
 
 module _ (text : List ℕ) (names : Names) (end : ℕ) where
   abbrev I : ℕ → ℕ → Read IntExpr
@@ -125,6 +177,23 @@ module _ (text : List ℕ) (names : Names) (end : ℕ) where
     pub int-pair-bad : 4 ≤ getD text at 0 → getD text at 0 < 6 → Bad ≡ found (I (d - 1) (at + 1)) → Bad ≡ found (I d at)
     int-pair-bad p q h = let (f, e) = int-two (getD text at 0) p q in int-leaf (IntOp.op-ints f) Bad e (pair-bad (I (d - 1)) f (at + 1) h)
 
+    -- the operators of the next state
+    pub int-illegal : 6 ≤ getD text at 0 → getD text at 0 < 8 → names .later ≡ false → Bad ≡ found (I d at)
+    unfolding intOp
+    int-illegal p q h =
+        ⊎-elim
+        (λ e. int-leaf (IntOp.op-variable true) Bad (ap intOp e) (illegal-variable text names end (I (d - 1)) (B (d - 1)) (at + 1) h))
+        (λ e. int-leaf (IntOp.op-status true) Bad (ap intOp e) (illegal-status text names end (I (d - 1)) (B (d - 1)) (at + 1) h))
+        (one-of-two (getD text at 0) 6 p q)
+
+    pub int-later : (r : Found) → getD text at 0 ≡ 6 → names .later ≡ true → r ≡ found (intOf text names end (I (d - 1)) (IntOp.op-variable false) (at + 1)) → r ≡ found (I d at)
+    unfolding intOp
+    int-later r e h q = int-leaf (IntOp.op-variable true) r (ap intOp e) (q ∙ later-variable text names end (I (d - 1)) (B (d - 1)) (at + 1) h)
+
+    pub status-later : (r : Found) → 6 ≤ getD text at 0 → getD text at 0 < 8 → (getD text at 0 ≡ 6 → ⊥) → names .later ≡ true
+        → r ≡ found (intOf text names end (I (d - 1)) (IntOp.op-status false) (at + 1)) → r ≡ found (I d at)
+    status-later r p l n h q = int-leaf (IntOp.op-status true) r (int-next-status (getD text at 0) p l n) (q ∙ later-status text names end (I (d - 1)) (B (d - 1)) (at + 1) h)
+
     pub bool-step : (o : BoolOp) → boolOp (getD text at 0) ≡ o → B d at ≡ boolOf text names end (I (d - 1)) (B (d - 1)) o (at + 1)
     unfolding boolExpr
     bool-step o e = go d z
@@ -135,6 +204,15 @@ module _ (text : List ℕ) (names : Names) (end : ℕ) where
 
     pub bool-leaf : (o : BoolOp) (r : Found) → boolOp (getD text at 0) ≡ o → r ≡ found (boolOf text names end (I (d - 1)) (B (d - 1)) o (at + 1)) → r ≡ found (B d at)
     bool-leaf o r e q = q ∙ ap found (sym (bool-step o e))
+
+    pub bool-illegal : getD text at 0 ≡ 0x17 → names .later ≡ false → Bad ≡ found (B d at)
+    unfolding boolOp
+    bool-illegal e h = bool-leaf (BoolOp.op-variable true) Bad (ap boolOp e) (illegal-flag text names end (I (d - 1)) (B (d - 1)) (at + 1) h)
+
+    pub bool-later : (r : Found) → getD text at 0 ≡ 0x17 → names .later ≡ true
+        → r ≡ found (boolOf text names end (I (d - 1)) (B (d - 1)) (BoolOp.op-variable false) (at + 1)) → r ≡ found (B d at)
+    unfolding boolOp
+    bool-later r e h q = bool-leaf (BoolOp.op-variable true) r (ap boolOp e) (q ∙ later-flag text names end (I (d - 1)) (B (d - 1)) (at + 1) h)
 
     pub bool-not : (r : Found) → boolOp (getD text at 0) ≡ BoolOp.op-not → r ≡ found (B (d - 1) (at + 1)) → r ≡ found (B d at)
     bool-not r e q = bool-leaf BoolOp.op-not r e (q ∙ found-last (B (d - 1) (at + 1)) notB)

@@ -8,9 +8,11 @@ use lib.ListN.{length, getD}
 use lib.Dec.{leb, eqb}
 use borrow.Author.Tests.{leb-true, eqb-true}
 use Rattle.design.specs.Tree.{BoolExpr, Variable, Design, movers}
-use Rattle.design.specs.Limits.{maxBytes, trailerBytes, maxVariables, maxMatrices, maxCells, maxMovers, lengthRight, countsRight, moversRight}
-use Rattle.design.specs.DesignFile.{Item, item, refused, Walk, need, after, items, offset, Matrix, Entry, variableAt, matrixAt, eventAt, events, eventsFrom, cellAt, cellsFrom, invariantAt}
-use Rattle.design.specs.Check.{Checked, accepted, eventIn, normals, invalids, trailer, version, variableCount, matricesOffset, matrixCount, eventsOffset, cellsOffset, cellCount, invariantOffset, names, sections, body, last, check}
+use Rattle.design.specs.Limits.{maxBytes, trailerBytes, constrained, tailBytes, offsetBytes, maxVariables, maxMatrices, maxCells, maxMovers, maxDepth, lengthRight, versionRight, countsRight, moversRight}
+use Rattle.design.specs.Reading.{Read, got, bad}
+use Rattle.design.specs.Expression.{Names, withLater, boolExpr}
+use Rattle.design.specs.DesignFile.{Item, item, refused, Walk, need, filling, after, items, offset, Matrix, Entry, variableAt, matrixAt, eventAt, events, eventsFrom, cellAt, cellsFrom, invariantAt, constraintAt}
+use Rattle.design.specs.Check.{Checked, accepted, eventIn, normals, invalids, trailer, version, hasConstraint, itemsEnd, constraintOffset, variableCount, matricesOffset, matrixCount, eventsOffset, cellsOffset, cellCount, invariantOffset, names, sections, body, last, check}
 use Rattle.design.specs.Sections.{Run, Rows, Cells, Parts}
 
 pub after-inv : {A B : Type 0} (x : Item A) (k : A → ℕ → Item B) (b : B) (n : ℕ) → after x k ≡ item b n → (a : A) × (m : ℕ) × (x ≡ item a m) × (k a m ≡ item b n)
@@ -46,6 +48,13 @@ items-run {A} one (suc n) at l past e =
     go : (x : A) (xs : List A) (m j : ℕ) → one at ≡ item x m → item (x ∷ xs) j ≡ item l past → length xs ≡ n → Run one m xs j → (l′ : List A) → l′ ≡ x ∷ xs → j ≡ past → (length l′ ≡ suc n) × Run one at l′ past
     go x xs m j e h c r l′ q p = subst (λ (k : List A). (length k ≡ suc n) × Run one at k past) (sym q) (ap suc c, (m, e, subst (λ (i : ℕ). Run one m xs i) p r))
 
+-- what fills its length was read up to there
+pub filling-inv : {A : Type 0} (i p past : ℕ) (r : Read A) (a : A) (n : ℕ) → filling i p past r ≡ item a n → (r ≡ got a past) × (n ≡ past)
+filling-inv i p past (got b m) a n e =
+    let (t, h) = need-inv (eqb m past) i p (item b past) a n e in
+    (ap (λ (j : ℕ). got b j) (eqb-true m past t) ∙ ap (λ (x : _). got x past) (item-same _ _ _ _ h), sym (item-past _ _ _ _ h))
+filling-inv i p past bad a n e = let z : _≡_ {A = ℕ} 0 1 = cc in absurd (omega arith)
+
 -- the item at an index, and where it stands
 unfoldable pub position : {A : Type 0} (one : Walk A) (at : ℕ) (xs : List A) (past : ℕ) → Run one at xs past → ℕ → ℕ
 position one at [] past r i = at
@@ -59,9 +68,34 @@ at-position one at (x ∷ []) past r zero d h = r .1
 at-position one at (x ∷ (y ∷ ys)) past r zero d h = r .1
 at-position one at (x ∷ xs) past r (suc i) d h = at-position one (r .0) xs past (r .2) i d (omega arith)
 
+-- an invariant, and a constraint: where they end, and what was read
+module _ (file : List ℕ) (end : ℕ) (N : Names) where
+  pub invariant-inv : (past at : ℕ) (x : BoolExpr) (n : ℕ) → invariantAt file end N past at ≡ item x n → (at ≤ past) × (past ≤ end) × (boolExpr file N past maxDepth at ≡ got x past) × (n ≡ past)
+  unfolding invariantAt
+  invariant-inv past at x n e =
+      let (t, h) = need-inv (leb at past && leb past end) 4 at _ x n e in
+      let (a, b) = and-inv (leb at past) (leb past end) t in
+      let (r, q) = filling-inv 8 at past (boolExpr file N past maxDepth at) x n h in
+      (leb-true _ _ a, leb-true _ _ b, r, q)
+
+  pub constraint-inv : (at : ℕ) (x : BoolExpr) (n : ℕ) → constraintAt file end N true at ≡ item x n → (boolExpr file (withLater true N) end maxDepth at ≡ got x end) × (n ≡ end)
+  unfolding constraintAt
+  constraint-inv at x n e = filling-inv 8 at end (boolExpr file (withLater true N) end maxDepth at) x n e
+
+-- the bytes behind the items: the trailer is among them
+pub tail-least : (v : ℕ) → trailerBytes ≤ tailBytes v
+tail-least v = go (constrained v)
+  where
+    go : (t : Bool) → trailerBytes ≤ cond t (offsetBytes + trailerBytes) trailerBytes
+    go true = omega arith
+    go false = omega arith
+
+pub items-before : (file : List ℕ) → itemsEnd file ≤ trailer file
+items-before file = let h = tail-least (version file) in omega arith
+
 module _ (file : List ℕ) where
   abbrev E : ℕ
-  E = trailer file
+  E = itemsEnd file
 
   rows-run : (m n at : ℕ) (rows : List (List BoolExpr)) (past : ℕ) → eventsFrom file E (names file) (matricesOffset file) m n at ≡ item rows past → (length rows ≡ n) × Rows file m at rows past
   unfolding eventsFrom
@@ -101,17 +135,18 @@ module _ (file : List ℕ) where
       let t : at ≡ o = sym (eqb-true o at (r .0)) in
       f t (subst (λ (p : ℕ). k p ≡ item b n) (sym (item-past _ _ _ _ (r .1)) ∙ t) h)
 
-  module _ (vs : List Variable) (ms : List Matrix) (rows : List (List BoolExpr)) (es : List Entry) (inv : BoolExpr) where
+  module _ (vs : List Variable) (ms : List Matrix) (rows : List (List BoolExpr)) (es : List Entry) (inv con : BoolExpr) where
     abbrev tree : Design
-    tree = record { variables = vs; statuses = map (λ (m : Matrix). m .statuses) ms; cells = normals es; invalid = invalids es; invariant = inv }
+    tree = record { variables = vs; statuses = map (λ (m : Matrix). m .statuses) ms; cells = normals es; invalid = invalids es; invariant = inv; constraint = con }
 
-    make : (p₁ p₂ p₃ p₄ p₅ : ℕ)
+    make : (p₁ p₂ p₃ p₄ p₅ p₆ : ℕ)
         → items (variableAt file E) (variableCount file) 0 ≡ item vs p₁ → p₁ ≡ matricesOffset file
         → items (matrixAt file E) (matrixCount file) (matricesOffset file) ≡ item ms p₂ → p₂ ≡ eventsOffset file
         → eventsFrom file E (names file) (matricesOffset file) 0 (matrixCount file) (eventsOffset file) ≡ item rows p₃ → p₃ ≡ cellsOffset file
         → cellsFrom file E (names file) (matricesOffset file) (eventIn rows) (cellCount file) (cellsOffset file) (cellsOffset file) ≡ item es p₄ → p₄ ≡ invariantOffset file
-        → invariantAt file E (names file) (invariantOffset file) ≡ item inv p₅ → Parts file tree
-    make p₁ p₂ p₃ p₄ p₅ e₁ o₁ e₂ o₂ e₃ o₃ e₄ o₄ e₅ = record {
+        → invariantAt file E (names file) (constraintOffset file) (invariantOffset file) ≡ item inv p₅
+        → constraintAt file E (names file) (hasConstraint file) p₅ ≡ item con p₆ → Parts file tree
+    make p₁ p₂ p₃ p₄ p₅ p₆ e₁ o₁ e₂ o₂ e₃ o₃ e₄ o₄ e₅ e₆ = record {
       matrices = ms;
       rows = rows;
       entries = es;
@@ -126,9 +161,13 @@ module _ (file : List ℕ) where
       cell-run = subst (λ (p : ℕ). Cells file (eventIn rows) (cellsOffset file) (cellsOffset file) es p) o₄ (cells-run (eventIn rows) (cellCount file) (cellsOffset file) (cellsOffset file) es p₄ e₄ .1);
       cells = refl;
       invalid = refl;
-      past = p₅;
-      invariant = e₅;
+      invariant = e₅ ∙ ap (item inv) o₅;
+      past = p₆;
+      constraint = sym (ap (constraintAt file E (names file) (hasConstraint file)) o₅) ∙ e₆;
     }
+      where
+        o₅ : p₅ ≡ constraintOffset file
+        o₅ = invariant-inv file E (names file) (constraintOffset file) (invariantOffset file) inv p₅ e₅ .3
 
   pub body-parts : (d : Design) (past : ℕ) → body file 0 ≡ item d past → Parts file d
   unfolding sections
@@ -141,14 +180,16 @@ module _ (file : List ℕ) where
       elim-offset (cellsOffset file) p₃ _ d past h₃ λ o₃ k₃.
       elim-after (cellsFrom file E (names file) (matricesOffset file) (eventIn rows) (cellCount file) (cellsOffset file) (cellsOffset file)) _ d past k₃ λ es p₄ e₄ h₄.
       elim-offset (invariantOffset file) p₄ _ d past h₄ λ o₄ k₄.
-      elim-after (invariantAt file E (names file) (invariantOffset file)) _ d past k₄ λ inv p₅ e₅ h₅.
-      subst (Parts file) (item-same (tree vs ms rows es inv) d p₅ past h₅) (make vs ms rows es inv p₁ p₂ p₃ p₄ p₅ e₁ o₁ e₂ o₂ e₃ o₃ e₄ o₄ e₅)
+      elim-after (invariantAt file E (names file) (constraintOffset file) (invariantOffset file)) _ d past k₄ λ inv p₅ e₅ h₅.
+      elim-after (constraintAt file E (names file) (hasConstraint file) p₅) _ d past h₅ λ con p₆ e₆ h₆.
+      subst (Parts file) (item-same (tree vs ms rows es inv con) d p₆ past h₆) (make vs ms rows es inv con p₁ p₂ p₃ p₄ p₅ p₆ e₁ o₁ e₂ o₂ e₃ o₃ e₄ o₄ e₅ e₆)
 
   -- an accepted file: its length, version and counts, its body, and the number of movers
   pub record Whole (d : Design) : Type 0 where
     pub long : trailerBytes ≤ length file
     pub short : length file ≤ maxBytes
-    pub version : version file ≡ 1
+    pub tail : tailBytes (version file) ≤ length file
+    pub version : versionRight (version file) ≡ true
     pub variables : variableCount file ≤ maxVariables
     pub matrix : 1 ≤ matrixCount file
     pub matrices : matrixCount file ≤ maxMatrices
@@ -174,9 +215,13 @@ module _ (file : List ℕ) where
   pub whole : (d : Design) → check file ≡ accepted d → Whole d
   unfolding check
   whole d e =
-      let (past, h, lo, hi) = last-inv (need (lengthRight (length file)) 1 (length file) (need (eqb (version file) 1) 2 (trailer file) (need counts 3 (trailer file) (body file 0)))) d e in
-      let (t₁, h₁) = need-inv (lengthRight (length file)) 1 (length file) (need (eqb (version file) 1) 2 (trailer file) (need counts 3 (trailer file) (body file 0))) d past h in
-      let (t₂, h₂) = need-inv (eqb (version file) 1) 2 (trailer file) (need counts 3 (trailer file) (body file 0)) d past h₁ in
+      let r₃ = need counts 3 (trailer file) (body file 0) in
+      let r₂ = need (versionRight (version file)) 2 (trailer file) r₃ in
+      let r₁ = need (leb (tailBytes (version file)) (length file)) 1 (length file) r₂ in
+      let (past, h, lo, hi) = last-inv (need (lengthRight (length file)) 1 (length file) r₁) d e in
+      let (t₁, h₁) = need-inv (lengthRight (length file)) 1 (length file) r₁ d past h in
+      let (t₀, h₀) = need-inv (leb (tailBytes (version file)) (length file)) 1 (length file) r₂ d past h₁ in
+      let (t₂, h₂) = need-inv (versionRight (version file)) 2 (trailer file) r₃ d past h₀ in
       let (t₃, h₃) = need-inv counts 3 (trailer file) (body file 0) d past h₂ in
       let a = and-inv (leb trailerBytes (length file)) (leb (length file) maxBytes) t₁ in
       let few = leb 1 (matrixCount file) && leb (matrixCount file) maxMatrices in
@@ -186,7 +231,8 @@ module _ (file : List ℕ) where
       record {
         long = leb-true _ _ (a .0);
         short = leb-true _ _ (a .1);
-        version = eqb-true _ _ t₂;
+        tail = leb-true _ _ t₀;
+        version = t₂;
         variables = leb-true _ _ (b′ .0);
         matrix = leb-true _ _ (m .0);
         matrices = leb-true _ _ (m .1);

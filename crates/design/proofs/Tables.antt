@@ -13,7 +13,7 @@ use lib.Dec.{eqb}
 use borrow.Author.Tests.{eq-eqb, ne-eqb}
 use Rattle.design.specs.Tree.{cell, movers, externals}
 use Rattle.design.specs.DesignFile.{events, at8, c-kind, c-past}
-use Rattle.design.specs.Check.{trailer, matricesOffset, matrixCount, eventsOffset, cellsOffset, cellCount}
+use Rattle.design.specs.Check.{itemsEnd, matricesOffset, matrixCount, eventsOffset, cellsOffset, cellCount}
 use Rattle.design.specs.Places.{Accepted, pastEvents, pastCells, eventsStart, eventPlace, normalsFrom, normalPlaces, EventsIndexed, CellsIndexed}
 use Rattle.design.proofs.Places.{read, event-stands, matrix-inside, events-few, normal-stands, cell-inside}
 use Rattle.design.specs.Limits.{maxBytes, maxMatrices, maxMovers, eventPlaces, maxEvents, trailerBytes}
@@ -34,10 +34,10 @@ module _ (file : List ℕ) (h : Accepted file) where
   pub few-events : (m : ℕ) → m < matrixCount file → events file (matricesOffset file) m ≤ maxEvents
   few-events m l = let r = read file h in events-few file (r .tree) (r .all .parts) m l
 
-  pub matrix-in : (m : ℕ) → m < matrixCount file → matricesOffset file + 2 * m + 2 ≤ trailer file
+  pub matrix-in : (m : ℕ) → m < matrixCount file → matricesOffset file + 2 * m + 2 ≤ itemsEnd file
   matrix-in m l = let r = read file h in matrix-inside file (r .tree) (r .all .parts) m l
 
-  pub event-in : (m e : ℕ) → m < matrixCount file → e < events file (matricesOffset file) m → eventPlace file m e < trailer file
+  pub event-in : (m e : ℕ) → m < matrixCount file → e < events file (matricesOffset file) m → eventPlace file m e < itemsEnd file
   event-in m e l k =
       let r = read file h in
       let t = event-stands file (r .tree) (r .all .parts) m e l k in
@@ -45,7 +45,7 @@ module _ (file : List ℕ) (h : Accepted file) where
       let b = t .inside in
       omega arith
 
-  pub cell-in : (i : ℕ) → i < cellCount file → (pastCells file i (cellsOffset file) + 8 ≤ trailer file) × (pastCells file (suc i) (cellsOffset file) ≤ trailer file)
+  pub cell-in : (i : ℕ) → i < cellCount file → (pastCells file i (cellsOffset file) + 8 ≤ itemsEnd file) × (pastCells file (suc i) (cellsOffset file) ≤ itemsEnd file)
   cell-in i l = let r = read file h in cell-inside file (r .tree) (r .all .parts) i l
 
   pub few-normals : length (normalPlaces file) ≤ maxMovers
@@ -125,11 +125,11 @@ cells-start file p table e s = record { here = e; inside = omega arith; same = a
 
 module _ (file : List ℕ) (h : Accepted file) where
   module _ (p i n : ℕ) (table : List ℕ) (g : CellsGoing file p i n table) (l : i < cellCount file) where
-    pub cell-here : (p + 8 ≤ trailer file) × (c-past file p ≤ trailer file)
+    pub cell-here : (p + 8 ≤ itemsEnd file) × (c-past file p ≤ itemsEnd file)
     unfolding pastCells
     cell-here =
         let t = cell-in file h i l in
-        (subst (λ (x : ℕ). x + 8 ≤ trailer file) (sym (g .here)) (t .0), subst (λ (x : ℕ). c-past file x ≤ trailer file) (sym (g .here)) (t .1))
+        (subst (λ (x : ℕ). x + 8 ≤ itemsEnd file) (sym (g .here)) (t .0), subst (λ (x : ℕ). c-past file x ≤ itemsEnd file) (sym (g .here)) (t .1))
 
     ahead : (q : ℕ) → q ≡ c-past file p → (q ≡ pastCells file (i + 1) (cellsOffset file)) × (i + 1 ≤ cellCount file)
     unfolding pastCells

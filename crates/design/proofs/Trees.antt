@@ -1,19 +1,20 @@
 -- Every tree that the readers of expressions and actions give is well formed. Assumes nothing.
-use mathlib.Core.Path.{_≡_, refl, subst}
+use mathlib.Core.Path.{_≡_, refl, ap, subst, _∙_}
 use mathlib.Core.Bool.{Bool, true, false, cond, not}
-use mathlib.Core.List.{List, [], _∷_}
+use mathlib.Core.List.{List, [], _∷_, _++_}
 use Prim.Native.Nat.{ℕ, zero, suc, _+_, _-_, _<_}
 use native.Mathlib.Omega.{arith}
-use lib.ListN.{getD}
+use lib.ListN.{length, getD, List·getD-append}
+use lib.Seq.{getD-append-add}
 use lib.Dec.{ltb, leb, eqb}
 use borrow.Author.Tests.{ltb-true, eqb-true, eqb-false, not-true}
 use Rattle.design.specs.Tree.{IntExpr, BoolExpr, Stmt, Stmts, constant, variable, status, constantB, variableB, notB, assign, assignB, ifElse, done, then, truth}
 use Rattle.design.specs.Limits.{maxDepth}
 use Rattle.design.specs.Reading.{Read, got, bad, Reader, provided, bind, Line, lookup}
-use Rattle.design.specs.Expression.{Names, IntOp, BoolOp, intOps, boolOps, intOp, boolOp, byte, word, intOf, boolOf, intExpr, boolExpr}
+use Rattle.design.specs.Expression.{Names, withLater, IntOp, BoolOp, intOps, boolOps, intOp, boolOp, byte, word, isVariable, isInteger, isMatrix, legal, numbered, intOf, boolOf, intExpr, boolExpr}
 use Rattle.design.specs.Action.{StmtOp, stmtOp, value, assignment, statements, listOf, conditional, stmtOf, statement, list}
-use Rattle.design.specs.State.{Layout}
-use Rattle.design.specs.WellFormed.{IsStatus, IsInteger, IsBoolean, IntOk, BoolOk, StmtOk, StmtsOk}
+use Rattle.design.specs.State.{Layout, statusSlot, statusWidth}
+use Rattle.design.specs.WellFormed.{IsInteger, IsBoolean, IntOk, BoolOk, StmtOk, StmtsOk}
 
 -- P holds of what was read
 pub record All {A : Type 0} (P : A → Type 0) (r : Read A) : Type 0 where
@@ -50,14 +51,14 @@ lookup-all P other (l ∷ ls) b p h = cond-all P (eqb b (l .code)) (l .means) (l
 module _ (I : IntExpr → Type 0) (B : BoolExpr → Type 0) where
   abbrev KeepsI : IntOp → Type 0
   KeepsI IntOp.op-constant = Unit {0}
-  KeepsI IntOp.op-variable = Unit {0}
-  KeepsI IntOp.op-status = Unit {0}
+  KeepsI (IntOp.op-variable next) = Unit {0}
+  KeepsI (IntOp.op-status next) = Unit {0}
   KeepsI IntOp.op-unknown = Unit {0}
   KeepsI (IntOp.op-ints f) = (a b : IntExpr) → I a → I b → I (f a b)
 
   abbrev KeepsB : BoolOp → Type 0
   KeepsB BoolOp.op-constant = Unit {0}
-  KeepsB BoolOp.op-variable = Unit {0}
+  KeepsB (BoolOp.op-variable next) = Unit {0}
   KeepsB BoolOp.op-not = Unit {0}
   KeepsB BoolOp.op-unknown = Unit {0}
   KeepsB (BoolOp.op-bools f) = (a b : BoolExpr) → B a → B b → B (f a b)
@@ -66,20 +67,52 @@ module _ (I : IntExpr → Type 0) (B : BoolExpr → Type 0) where
 keepsI : (ws : List ℕ) (l : Layout) (b : ℕ) → KeepsI (IntOk ws l) (BoolOk ws l) (intOp b)
 unfolding intOp AllLines
 keepsI ws l b =
-    let h : AllLines (KeepsI (IntOk ws l) (BoolOk ws l)) intOps = (tt, (tt, (tt, ((λ x y p q. (p, q)), ((λ x y p q. (p, q)), tt))))) in
+    let h : AllLines (KeepsI (IntOk ws l) (BoolOk ws l)) intOps = (tt, (tt, (tt, ((λ x y p q. (p, q)), ((λ x y p q. (p, q)), (tt, (tt, tt))))))) in
     lookup-all (KeepsI (IntOk ws l) (BoolOk ws l)) IntOp.op-unknown intOps b tt h
 
 keepsB : (ws : List ℕ) (l : Layout) (b : ℕ) → KeepsB (IntOk ws l) (BoolOk ws l) (boolOp b)
 unfolding boolOp AllLines
 keepsB ws l b =
-    let h : AllLines (KeepsB (IntOk ws l) (BoolOk ws l)) boolOps = (tt, (tt, (tt, ((λ x y p q. (p, q)), ((λ x y p q. (p, q)), ((λ x y p q. (p, q)), ((λ x y p q. (p, q)), tt))))))) in
+    let h : AllLines (KeepsB (IntOk ws l) (BoolOk ws l)) boolOps = (tt, (tt, (tt, ((λ x y p q. (p, q)), ((λ x y p q. (p, q)), ((λ x y p q. (p, q)), ((λ x y p q. (p, q)), (tt, tt)))))))) in
     lookup-all (KeepsB (IntOk ws l) (BoolOk ws l)) BoolOp.op-unknown boolOps b tt h
 
-module _ (text : List ℕ) (names : Names) (ws : List ℕ) (l : Layout)
-    (bytes : (i : ℕ) → getD text i 0 < 256)
-    (flags : (v : ℕ) → v < names .variables → (names .kindOf v ≡ 1 → ⊥) → IsBoolean ws l v)
-    (ints : (v : ℕ) → v < names .variables → names .kindOf v ≡ 1 → IsInteger ws l v)
-    (statuses : (m : ℕ) → m < names .matrices → IsStatus ws l m) where
+-- What an operator may name has its width, in the state and (next) in the next one. No text matters here.
+module _ (names : Names) where
+  abbrev pub Legal : Bool → Type 0
+  Legal next = legal [] names 0 next ≡ true
+
+  abbrev pub number : Bool → ℕ → ℕ
+  number next i = numbered [] names 0 next i
+
+  pub record NamesOk (ws : List ℕ) (l : Layout) : Type 0 where
+    pub flags : (next : Bool) (v : ℕ) → Legal next → v < names .variables → (names .kindOf v ≡ 1 → ⊥) → getD ws (number next v) 0 ≡ 1
+    pub ints : (next : Bool) (v : ℕ) → Legal next → v < names .variables → names .kindOf v ≡ 1 → getD ws (number next v) 0 ≡ 16
+    pub statuses : (next : Bool) (m : ℕ) → Legal next → m < names .matrices → getD ws (statusSlot l (number next m)) 0 ≡ statusWidth
+
+-- So have those of two states, whose slots follow one another, if those of one have.
+module _ (names : Names) (ws : List ℕ) (l : Layout) (s : l .statuses ≡ names .variables) (n : length ws ≡ names .variables + names .matrices) (ok : NamesOk (withLater false names) ws l) where
+  near : (i w : ℕ) → i < length ws → getD ws i 0 ≡ w → getD (ws ++ ws) i 0 ≡ w
+  near i w h e = List·getD-append ws ws 0 i h ∙ e
+
+  far : (i j w : ℕ) → j ≡ length ws + i → getD ws i 0 ≡ w → getD (ws ++ ws) j 0 ≡ w
+  far i j w q e = ap (λ (k : ℕ). getD (ws ++ ws) k 0) q ∙ getD-append-add ws ws i 0 ∙ e
+
+  pub two-states : NamesOk (withLater true names) (ws ++ ws) l
+  two-states = record { flags = flags; ints = ints; statuses = statuses }
+    where
+      flags : (next : Bool) (v : ℕ) → Legal (withLater true names) next → v < names .variables → (names .kindOf v ≡ 1 → ⊥) → getD (ws ++ ws) (number (withLater true names) next v) 0 ≡ 1
+      flags false v g h k = near v 1 (omega arith) (ok .flags false v refl h k)
+      flags true v g h k = far v _ 1 (omega arith) (ok .flags false v refl h k)
+
+      ints : (next : Bool) (v : ℕ) → Legal (withLater true names) next → v < names .variables → names .kindOf v ≡ 1 → getD (ws ++ ws) (number (withLater true names) next v) 0 ≡ 16
+      ints false v g h k = near v 16 (omega arith) (ok .ints false v refl h k)
+      ints true v g h k = far v _ 16 (omega arith) (ok .ints false v refl h k)
+
+      statuses : (next : Bool) (m : ℕ) → Legal (withLater true names) next → m < names .matrices → getD (ws ++ ws) (statusSlot l (number (withLater true names) next m)) 0 ≡ statusWidth
+      statuses false m g h = near (statusSlot l m) statusWidth (omega arith) (ok .statuses false m refl h)
+      statuses true m g h = far (statusSlot l m) _ statusWidth (omega arith) (ok .statuses false m refl h)
+
+module _ (text : List ℕ) (names : Names) (ws : List ℕ) (l : Layout) (bytes : (i : ℕ) → getD text i 0 < 256) (ok : NamesOk names ws l) where
   abbrev OkI : IntExpr → Type 0
   OkI = IntOk ws l
 
@@ -94,10 +127,15 @@ module _ (text : List ℕ) (names : Names) (ws : List ℕ) (l : Layout)
     intOf-ok operand h IntOp.op-constant k at =
         all-bind (λ c. c < 65536) OkI (word text names end at) _
         (all-provided (λ c. c < 65536) (leb (at + 2) end) _ (λ e. all-got (λ c. c < 65536) _ _ (omega (arith, bytes at, bytes (at + 1))))) (λ c n p. all-got OkI (constant c) n p)
-    intOf-ok operand h IntOp.op-variable k at =
-        all-bind (λ c. Unit {0}) OkI (byte text names end at) _ (any _) (λ v n p. all-provided OkI (ltb v (names .variables)) (provided (eqb (names .kindOf v) 1) (got (variable v) n)) (λ e. all-provided OkI (eqb (names .kindOf v) 1) (got (variable v) n) (λ f. all-got OkI (variable v) n (ints v (ltb-true _ _ e) (eqb-true _ _ f)))))
-    intOf-ok operand h IntOp.op-status k at =
-        all-bind (λ c. Unit {0}) OkI (byte text names end at) _ (any _) (λ v n p. all-provided OkI (ltb v (names .matrices)) (got (status v) n) (λ e. all-got OkI (status v) n (statuses v (ltb-true _ _ e))))
+    intOf-ok operand h (IntOp.op-variable next) k at =
+        all-bind (λ c. Unit {0}) OkI (byte text names end at) _ (any _) (λ v n p.
+        all-provided OkI (legal text names end next) _ (λ g.
+        all-provided OkI (isVariable text names end v) _ (λ e.
+        all-provided OkI (isInteger text names end v) _ (λ f. all-got OkI (variable _) n (ok .ints next v g (ltb-true _ _ e) (eqb-true _ _ f))))))
+    intOf-ok operand h (IntOp.op-status next) k at =
+        all-bind (λ c. Unit {0}) OkI (byte text names end at) _ (any _) (λ m n p.
+        all-provided OkI (legal text names end next) _ (λ g.
+        all-provided OkI (isMatrix text names end m) _ (λ e. all-got OkI (status _) n (ok .statuses next m g (ltb-true _ _ e)))))
     intOf-ok operand h IntOp.op-unknown k at = all-bad OkI
     intOf-ok operand h (IntOp.op-ints f) k at =
         all-bind OkI OkI (operand at) _ (h at) (λ a n p. all-bind OkI OkI (operand n) _ (h n) (λ b m q. all-got OkI (f a b) m (k a b p q)))
@@ -112,9 +150,11 @@ module _ (text : List ℕ) (names : Names) (ws : List ℕ) (l : Layout)
     boolOf-ok : (int : Reader IntExpr) → ((at : ℕ) → All OkI (int at)) → (operand : Reader BoolExpr) → ((at : ℕ) → All OkB (operand at)) → (o : BoolOp) → KeepsB OkI OkB o → (at : ℕ) → All OkB (boolOf text names end int operand o at)
     boolOf-ok int i operand h BoolOp.op-constant k at =
         all-bind (λ c. Unit {0}) OkB (byte text names end at) _ (any _) (λ v n p. all-provided OkB (leb v 1) (got (constantB (truth v)) n) (λ e. all-got OkB (constantB (truth v)) n tt))
-    boolOf-ok int i operand h BoolOp.op-variable k at =
-        all-bind (λ c. Unit {0}) OkB (byte text names end at) _ (any _)
-        (λ v n p. all-provided OkB (ltb v (names .variables)) (provided (not (eqb (names .kindOf v) 1)) (got (variableB v) n)) (λ e. all-provided OkB (not (eqb (names .kindOf v) 1)) (got (variableB v) n) (λ f. all-got OkB (variableB v) n (flags v (ltb-true _ _ e) (eqb-false _ _ (not-true _ f))))))
+    boolOf-ok int i operand h (BoolOp.op-variable next) k at =
+        all-bind (λ c. Unit {0}) OkB (byte text names end at) _ (any _) (λ v n p.
+        all-provided OkB (legal text names end next) _ (λ g.
+        all-provided OkB (isVariable text names end v) _ (λ e.
+        all-provided OkB (not (isInteger text names end v)) _ (λ f. all-got OkB (variableB _) n (ok .flags next v g (ltb-true _ _ e) (eqb-false _ _ (not-true _ f)))))))
     boolOf-ok int i operand h BoolOp.op-not k at =
         all-bind OkB OkB (operand at) _ (h at) (λ a n p. all-got OkB (notB a) n p)
     boolOf-ok int i operand h BoolOp.op-unknown k at = all-bad OkB
@@ -130,6 +170,10 @@ module _ (text : List ℕ) (names : Names) (ws : List ℕ) (l : Layout)
         all-bind (λ c. Unit {0}) OkB (byte text names end at) _ (any _)
         (λ op n p. boolOf-ok (intExpr text names end depth) (int-ok depth) (boolExpr text names end depth) (bool-ok depth) (boolOp op) (keepsB ws l op) n)
 
+  -- what is assigned is a variable of the state
+  module _ (end : ℕ)
+      (flags : (v : ℕ) → v < names .variables → (names .kindOf v ≡ 1 → ⊥) → IsBoolean ws l v)
+      (ints : (v : ℕ) → v < names .variables → names .kindOf v ≡ 1 → IsInteger ws l v) where
     abbrev RightS : Stmt → Type 0
     RightS x = StmtOk ws l x
 
@@ -138,9 +182,9 @@ module _ (text : List ℕ) (names : Names) (ws : List ℕ) (l : Layout)
 
     value-ok : (v : ℕ) → v < names .variables → (t : Bool) → eqb (names .kindOf v) 1 ≡ t → (at : ℕ) → All RightS (value text names end v t at)
     value-ok v k true e at =
-        all-bind OkI RightS (intExpr text names end maxDepth at) _ (int-ok maxDepth at) (λ x n p. all-got RightS (assign v x) n (ints v k (eqb-true _ _ e), p))
+        all-bind OkI RightS (intExpr text names end maxDepth at) _ (int-ok end maxDepth at) (λ x n p. all-got RightS (assign v x) n (ints v k (eqb-true _ _ e), p))
     value-ok v k false e at =
-        all-bind OkB RightS (boolExpr text names end maxDepth at) _ (bool-ok maxDepth at) (λ x n p. all-got RightS (assignB v x) n (flags v k (eqb-false _ _ e), p))
+        all-bind OkB RightS (boolExpr text names end maxDepth at) _ (bool-ok end maxDepth at) (λ x n p. all-got RightS (assignB v x) n (flags v k (eqb-false _ _ e), p))
 
     assignment-ok : (at : ℕ) → All RightS (assignment text names end at)
     unfolding assignment
@@ -161,7 +205,7 @@ module _ (text : List ℕ) (names : Names) (ws : List ℕ) (l : Layout)
 
     conditional-ok : (list : Reader Stmts) → ((at : ℕ) → All RightSs (list at)) → (at : ℕ) → All RightS (conditional text names end list at)
     conditional-ok list h at =
-        all-bind OkB RightS (boolExpr text names end maxDepth at) _ (bool-ok maxDepth at) (λ c n p.
+        all-bind OkB RightS (boolExpr text names end maxDepth at) _ (bool-ok end maxDepth at) (λ c n p.
         all-bind RightSs RightS (list n) _ (h n) (λ a m q.
         all-bind RightSs RightS (list m) _ (h m) (λ b j r. all-got RightS (ifElse c a b) j (p, q, r))))
 

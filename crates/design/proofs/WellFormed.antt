@@ -1,26 +1,27 @@
 -- The tree of an accepted file is well formed. Assumes only that the file's bytes are bytes.
 use mathlib.Core.Path.{_≡_, refl, sym, ap, subst, _∙_}
-use mathlib.Core.Bool.{Bool, true, false, _&&_, _||_}
+use mathlib.Core.Bool.{Bool, true, false, false≢true, _&&_, _||_}
 use mathlib.Core.Logic.{_⊎_, inl, inr, ⊎-elim}
 use mathlib.Core.List.{List, [], _∷_, _++_, map}
 use Prim.Native.Nat.{ℕ, zero, suc, _+_, _*_, _-_, _^_, _<_, _≤_}
 use native.Mathlib.Omega.{arith}
-use lib.ListN.{length, getD, replicate, length-map, getD-replicate, List·getD-append}
+use lib.ListN.{length, getD, replicate, length-append, length-map, length-replicate, getD-replicate, List·getD-append}
 use lib.Seq.{getD-append-add}
 use lib.Dec.{ltb, leb, eqb}
 use borrow.Author.Tests.{ltb-true, leb-true, eqb-true}
 use Rattle.design.specs.Tree.{BoolExpr, constantB, Stmts, Kind, boolean, integer, external, Variable, Cell, Design, Mover, cell, raise, ifExternal, externals, movers}
-use Rattle.design.specs.State.{layout, start, width, widths}
+use Rattle.design.specs.State.{layout, statusSlot, statusWidth, start, width, widths}
 use Rattle.design.specs.Limits.{maxDepth, maxNest, maxStatuses, maxEvents, maxMovers}
-use Rattle.design.specs.Reading.{Read, got, bad}
-use Rattle.design.specs.Expression.{Names, boolExpr}
-use Rattle.design.specs.DesignFile.{item, need, filling, Matrix, Entry, normal, invalid, kind, variableAt, matrixAt, eventAt, events, statuses, cellAt, invariantAt, c-past, fields, ending, ordered, guard, action, entry}
-use Rattle.design.specs.Check.{accepted, normals, invalids, trailer, variableCount, matricesOffset, matrixCount, eventsOffset, invariantOffset, names, check, eventIn}
+use Rattle.design.specs.Reading.{Read}
+use Rattle.design.specs.Expression.{Names, withLater, boolExpr}
+use Rattle.design.specs.DesignFile.{item, need, filling, Matrix, Entry, normal, invalid, kind, variableAt, matrixAt, eventAt, events, statuses, cellAt, c-past, fields, ending, ordered, guard, action, entry}
+use Rattle.design.specs.Check.{accepted, normals, invalids, hasConstraint, itemsEnd, constraintOffset, variableCount, matricesOffset, matrixCount, eventsOffset, invariantOffset, names, check, eventIn}
 use Rattle.design.specs.WellFormed.{Narrow, IsStatus, IsInteger, IsBoolean, BoolOk, StmtsOk, InRange, CellOk, InvalidOk, MoversOk, InvalidsOk, CountsOk, StatusesOk, WellFormed}
 use Rattle.design.proofs.Widths.{matrix-count}
-use Rattle.design.proofs.Trees.{All, bool-ok, list-ok}
+use Rattle.design.proofs.Trees.{All, Legal, number, NamesOk, two-states, bool-ok, list-ok}
 use Rattle.design.specs.Sections.{Run, Rows, Cells, Parts}
-use Rattle.design.proofs.Sections.{after-inv, need-inv, and-inv, item-same, item-past, whole}
+use Rattle.design.proofs.Sections.{after-inv, need-inv, and-inv, item-same, item-past, filling-inv, whole}
+use Rattle.design.proofs.Positions.{invariant-stands, constraint-stands, constraint-none}
 
 or-inv : (a b : Bool) → (a || b) ≡ true → (a ≡ true) ⊎ (b ≡ true)
 or-inv true b e = inl refl
@@ -141,12 +142,11 @@ zeros (suc k) = (omega arith, zeros k)
 
 -- what fills its length is what was read
 filling-right : {A : Type 0} (P : A → Type 0) (i p past : ℕ) (r : Read A) → All P r → (a : A) (n : ℕ) → filling i p past r ≡ item a n → P a
-filling-right P i p past (got b m) h a n e = subst P (item-same _ _ _ _ (need-inv (eqb m past) i p (item b past) a n e .1)) (h .of b m refl)
-filling-right P i p past bad h a n e = let z : _≡_ {A = ℕ} 0 1 = cc in absurd (omega arith)
+filling-right P i p past r h a n e = h .of a past (filling-inv i p past r a n e .0)
 
 module _ (file : List ℕ) (bytes : (i : ℕ) → getD file i 0 < 256) (d : Design) (p : Parts file d) where
   abbrev E : ℕ
-  E = trailer file
+  E = itemsEnd file
 
   abbrev N : Names
   N = names file
@@ -178,11 +178,37 @@ module _ (file : List ℕ) (bytes : (i : ℕ) → getD file i 0 < 256) (d : Desi
             ∙ getD-replicate (length (d .statuses)) m 4 0 (omega (arith, matrix-count file d p));
       }
 
+  slots : length (widths d) ≡ variableCount file + matrixCount file
+  unfolding widths
+  slots =
+      length-append (map wide (d .variables)) (replicate (length (d .statuses)) 4)
+      ∙ (let a = length-map (d .variables) wide in let b = length-replicate {A = ℕ} (length (d .statuses)) 4 in omega (arith, p .variable-count, matrix-count file d p))
+
+  -- the names of a state have their widths, and with the next state those of two
+  names-ok : NamesOk N (widths d) (layout d)
+  names-ok = record { flags = now-flag; ints = now-int; statuses = now-status }
+    where
+      now-flag : (next : Bool) (v : ℕ) → Legal N next → v < variableCount file → (getD file (3 * v) 0 ≡ 1 → ⊥) → getD (widths d) (number N next v) 0 ≡ 1
+      now-flag false v g h k = flags v h k .width
+      now-flag true v g h k = absurd (false≢true g)
+
+      now-int : (next : Bool) (v : ℕ) → Legal N next → v < variableCount file → getD file (3 * v) 0 ≡ 1 → getD (widths d) (number N next v) 0 ≡ 16
+      now-int false v g h k = ints v h k .width
+      now-int true v g h k = absurd (false≢true g)
+
+      now-status : (next : Bool) (m : ℕ) → Legal N next → m < matrixCount file → getD (widths d) (statusSlot (layout d) (number N next m)) 0 ≡ statusWidth
+      now-status false m g h = status-width m h .width
+      now-status true m g h = absurd (false≢true g)
+
+  later-ok : NamesOk (withLater true N) (widths d ++ widths d) (layout d)
+  unfolding layout
+  later-ok = two-states N (widths d) (layout d) (p .variable-count) slots names-ok
+
   event-ok : (at : ℕ) (x : BoolExpr) (n : ℕ) → eventAt file E N at ≡ item x n → BoolOk (widths d) (layout d) x
   unfolding eventAt
   event-ok at x n e =
       let (t, h) = need-inv (leb (at + 1 + getD file at 0) E) 4 at _ x n e in
-      filling-right (BoolOk (widths d) (layout d)) 8 at (at + 1 + getD file at 0) (boolExpr file N (at + 1 + getD file at 0) maxDepth (at + 1)) (bool-ok file N (widths d) (layout d) bytes flags ints status-width (at + 1 + getD file at 0) maxDepth (at + 1)) x n h
+      filling-right (BoolOk (widths d) (layout d)) 8 at (at + 1 + getD file at 0) (boolExpr file N (at + 1 + getD file at 0) maxDepth (at + 1)) (bool-ok file N (widths d) (layout d) bytes names-ok (at + 1 + getD file at 0) maxDepth (at + 1)) x n h
 
   row-ok : (xs : List BoolExpr) (at past : ℕ) → Run (eventAt file E N) at xs past → (e : ℕ) → BoolOk (widths d) (layout d) (getD xs e (constantB false))
   row-ok [] at past r e = tt
@@ -199,10 +225,10 @@ module _ (file : List ℕ) (bytes : (i : ℕ) → getD file i 0 < 256) (d : Desi
 
   guard-ok : (at n : ℕ) (g : BoolExpr) (q : ℕ) → guard file E N at n ≡ item g q → BoolOk (widths d) (layout d) g
   guard-ok at zero g q e = subst (BoolOk (widths d) (layout d)) (item-same _ _ _ _ e) tt
-  guard-ok at (suc n) g q e = filling-right (BoolOk (widths d) (layout d)) 8 at _ _ (bool-ok file N (widths d) (layout d) bytes flags ints status-width _ maxDepth (at + 8)) g q e
+  guard-ok at (suc n) g q e = filling-right (BoolOk (widths d) (layout d)) 8 at _ _ (bool-ok file N (widths d) (layout d) bytes names-ok _ maxDepth (at + 8)) g q e
 
   action-ok : (at : ℕ) (a : Stmts) (q : ℕ) → action file E N at ≡ item a q → StmtsOk (widths d) (layout d) a
-  action-ok at a q e = filling-right (StmtsOk (widths d) (layout d)) 9 at _ _ (list-ok file N (widths d) (layout d) bytes flags ints status-width _ maxNest _) a q e
+  action-ok at a q e = filling-right (StmtsOk (widths d) (layout d)) 9 at _ _ (list-ok file N (widths d) (layout d) bytes names-ok _ flags ints maxNest _) a q e
 
   -- an entry is right: a cell that the formula can take, or a place
   abbrev EntryOk : Entry → Type 0
@@ -298,9 +324,16 @@ module _ (file : List ℕ) (bytes : (i : ℕ) → getD file i 0 < 256) (d : Desi
           let bits = ap (λ (j : ℕ). getD (widths d) j 0) (let z : v ≡ v + 0 = omega arith in z) ∙ h 0 (omega arith) ∙ ap width q in
           (record { inside = omega arith; width = bits }, r)
 
-  invariant-ok : (x : BoolExpr) (n : ℕ) → invariantAt file E N (invariantOffset file) ≡ item x n → BoolOk (widths d) (layout d) x
-  unfolding invariantAt
-  invariant-ok x n e = filling-right (BoolOk (widths d) (layout d)) 8 (invariantOffset file) E (boolExpr file N E maxDepth (invariantOffset file)) (bool-ok file N (widths d) (layout d) bytes flags ints status-width E maxDepth (invariantOffset file)) x n e
+  invariant-ok : BoolOk (widths d) (layout d) (d .invariant)
+  invariant-ok =
+      bool-ok file N (widths d) (layout d) bytes names-ok (constraintOffset file) maxDepth (invariantOffset file) .of (d .invariant) (constraintOffset file) (invariant-stands file d p)
+
+  constraint-ok : BoolOk (widths d ++ widths d) (layout d) (d .constraint)
+  constraint-ok = go (hasConstraint file) refl
+    where
+      go : (t : Bool) → hasConstraint file ≡ t → BoolOk (widths d ++ widths d) (layout d) (d .constraint)
+      go true h = bool-ok file (withLater true N) (widths d ++ widths d) (layout d) bytes later-ok E maxDepth (constraintOffset file) .of (d .constraint) E (constraint-stands file d p h)
+      go false h = subst (BoolOk (widths d ++ widths d) (layout d)) (sym (constraint-none file d p h)) tt
 
   pub right : 1 ≤ length (movers d) → length (movers d) ≤ maxMovers → WellFormed d
   unfolding widths movers start
@@ -314,7 +347,8 @@ module _ (file : List ℕ) (bytes : (i : ℕ) → getD file i 0 < 256) (d : Desi
             (normals-ok (p .entries) all (externals 0 (d .variables)) (externals-ok (d .variables) 0 (omega arith) (λ i l. ap (λ (j : ℕ). getD (widths d) j 0) (let z : 0 + i ≡ i = omega arith in z) ∙ List·getD-append (map wide (d .variables)) (replicate (length (d .statuses)) 4) 0 i (omega (arith, length-map (d .variables) wide)))));
         counts = subst CountsOk (sym (p .statuses)) (counts-ok file E bytes (p .matrices) M (eventsOffset file) (p .matrix-run));
         statuses = subst (StatusesOk (d .statuses)) (sym (p .cells)) (statuses-ok (p .entries) all);
-        invariant = invariant-ok (d .invariant) (p .past) (p .invariant);
+        invariant = invariant-ok;
+        constraint = constraint-ok;
         invalid = subst (InvalidsOk (widths d) (layout d)) (sym (p .invalid)) (invalids-ok (p .entries) all);
         start = variables-range file E bytes (d .variables) 0 M (p .variable-run) (replicate (length (d .statuses)) 4) (replicate (length (d .statuses)) 0) (zeros (length (d .statuses)));
       }

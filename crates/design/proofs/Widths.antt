@@ -11,7 +11,7 @@ use borrow.Author.Tests.{leb-true}
 use Rattle.design.specs.Tree.{Variable, Design}
 use Rattle.design.specs.State.{layoutIn, layout, width, statusWidth, widths, widthsFrom, widthsOf, total, S}
 use Rattle.design.specs.DesignFile.{Item, item, need, kind, at8, at16, Matrix, variableAt}
-use Rattle.design.specs.Check.{trailer, variableCount, matrixCount}
+use Rattle.design.specs.Check.{itemsEnd, variableCount, matrixCount}
 use Rattle.design.specs.Sections.{Run, Parts}
 use Rattle.design.proofs.Sections.{need-inv, and-inv, item-same, item-past}
 
@@ -112,7 +112,7 @@ module _ (file : List ℕ) (d : Design) (p : Parts file d) where
     unfolding widthsOf widths
     widths-are =
         ap₂ (λ (a b : List ℕ). a ++ b)
-        (ap (widthsFrom file 0) (e ∙ sym (p .variable-count)) ∙ widths-run file (trailer file) 0 0 _ (d .variables) refl (p .variable-run))
+        (ap (widthsFrom file 0) (e ∙ sym (p .variable-count)) ∙ widths-run file (itemsEnd file) 0 0 _ (d .variables) refl (p .variable-run))
         (ap (λ (n : ℕ). replicate n statusWidth) (q ∙ sym matrix-count))
 
     pub layout-is : layoutIn nv nm ≡ layout d

@@ -1,11 +1,13 @@
--- A design that uses every operator, both kinds of cell and both kinds of statement: its bytes give its tree by computation.
+-- A design of version 2 that uses every operator, both kinds of cell and both kinds of statement: its bytes give its tree by computation.
 -- CHECK's answer alone does not say which tree was read; this pins what each operator byte means.
 use mathlib.Core.Path.{_≡_, refl}
 use mathlib.Core.Bool.{true, false}
-use mathlib.Core.List.{List, [], _∷_}
+use mathlib.Core.List.{List, [], _∷_, map}
 use Prim.Native.Nat.{ℕ}
+use lib.ListN.{drop}
 use Rattle.design.specs.Tree.{Design, constant, variable, status, sum, difference, constantB, variableB, notB, andB, orB, equal, less, assign, assignB, ifElse, done, then, boolean, integer, external}
-use Rattle.design.specs.Check.{accepted, check, checking}
+use Rattle.design.specs.Check.{accepted, check, refusal, checking}
+use Rattle.design.specs.DesignA.{Damage, damaged, at}
 
 -- Variables: Boolean 1, integer -1, external 0. One matrix, 2 statuses, 2 events. Cells (0,0,0) to 1 with a guard and an if; (0,1,1) invalid.
 unfoldable bytes : List ℕ
@@ -23,7 +25,9 @@ bytes =
     0x01 ∷ 0x20 ∷ 0x02 ∷ 0x10 ∷ 0x01 ∷
     0x00 ∷ 0x01 ∷ 0x01 ∷ 0x01 ∷ 0x00 ∷ 0x00 ∷ 0x00 ∷ 0x00 ∷
     0x16 ∷ 0x02 ∷ 0x01 ∷ 0x01 ∷ 0x0a ∷ 0x00 ∷
-    0x01 ∷ 0x00 ∷ 0x03 ∷ 0x00 ∷ 0x09 ∷ 0x00 ∷ 0x01 ∷ 0x00 ∷ 0x0b ∷ 0x00 ∷ 0x1b ∷ 0x00 ∷ 0x02 ∷ 0x00 ∷ 0x46 ∷ 0x00 ∷ []
+    0x13 ∷ 0x17 ∷ 0x02 ∷ 0x15 ∷ 0x06 ∷ 0x01 ∷ 0x07 ∷ 0x00 ∷
+    0x4c ∷ 0x00 ∷
+    0x02 ∷ 0x00 ∷ 0x03 ∷ 0x00 ∷ 0x09 ∷ 0x00 ∷ 0x01 ∷ 0x00 ∷ 0x0b ∷ 0x00 ∷ 0x1b ∷ 0x00 ∷ 0x02 ∷ 0x00 ∷ 0x46 ∷ 0x00 ∷ []
 
 unfoldable design : Design
 design = record {
@@ -39,8 +43,33 @@ design = record {
   } ∷ [];
   invalid = record { matrix = 0; status = 1; event = orB (variableB 2) (equal (status 0) (variable 1)) } ∷ [];
   invariant = less (variable 1) (constant 10);
+  -- a state has 4 slots, 3 variables and a status: in the next state, variable 2, variable 1 and status 0
+  constraint = andB (variableB 6) (equal (variable 5) (status 4));
 }
 
 reads-all : check bytes ≡ accepted design
 unfolding checking bytes design
 reads-all = refl
+
+-- The constraint's offset (document 02, R-1) is 76, the invariant's 70, and the u16 stands at 84. An offset before the invariant; one past the u16; an empty invariant;
+-- an invariant that does not end at the u16; a constraint of operator 18; the next state in the invariant, in an event, in a guard and in an action.
+damages : List Damage
+damages =
+    record { position = 84; byte = 69; gets = at 4 70 } ∷
+    record { position = 84; byte = 85; gets = at 4 70 } ∷
+    record { position = 84; byte = 70; gets = at 8 70 } ∷
+    record { position = 84; byte = 84; gets = at 8 70 } ∷
+    record { position = 76; byte = 0x18; gets = at 8 76 } ∷
+    record { position = 71; byte = 0x06; gets = at 8 70 } ∷
+    record { position = 13; byte = 0x17; gets = at 8 11 } ∷
+    record { position = 37; byte = 0x06; gets = at 8 27 } ∷
+    record { position = 46; byte = 0x17; gets = at 9 27 } ∷ []
+
+damages-all : map (damaged bytes) damages ≡ map (λ (x : Damage). x .gets) damages
+unfolding checking bytes damages
+damages-all = refl
+
+-- "A version 2 file under 18 bytes is refusal 1.": the trailer with one byte before it
+short-all : refusal (check (drop 85 bytes)) ≡ at 1 17
+unfolding checking bytes
+short-all = refl

@@ -4,9 +4,10 @@ use mathlib.Core.Path.{_≡_}
 use mathlib.Core.Bool.{cond}
 use mathlib.Core.List.{List, [], _∷_}
 use lib.Dec.{eqb}
-use Rattle.design.specs.Tree.{Variable, ifExternal, Design, movers}
+use Rattle.design.specs.Tree.{BoolExpr, Variable, ifExternal, Design, movers}
 use Rattle.design.specs.Reading.{Read, got, bad}
-use Rattle.design.specs.DesignFile.{Item, item, refused, items, Entry, normal, invalid, variableAt, matrixAt, eventsFrom}
+use Rattle.design.specs.Expression.{Names}
+use Rattle.design.specs.DesignFile.{Item, item, refused, Walk, after, items, Entry, normal, invalid, variableAt, matrixAt, eventsFrom, invariantAt, constraintAt}
 use Rattle.design.specs.Check.{namesBy}
 use lib.ListN.{length}
 use Rattle.design.specs.declared.shape.Shape.{Shape}
@@ -49,6 +50,13 @@ raises x = ifExternal (x .kind) 1 0
 abbrev pub moves : Entry → ℕ
 moves (normal c) = 1
 moves (invalid p) = 0
+
+-- the invariant, and the constraint behind it
+abbrev pub expressionsAt : List ℕ → ℕ → Names → Offsets → Walk (BoolExpr × BoolExpr)
+expressionsAt file end names offsets at =
+    after (invariantAt file end names (offsets .constraint) at) λ i p.
+    after (constraintAt file end names (offsets .constrained) p) λ c q.
+    item (i, c) q
 
 -- of all sections, the position past them and the number of movers
 abbrev pub bodied : Item Design → Counted

@@ -36,6 +36,7 @@ designA = record {
       record { matrix = 0; status = 1; event = variableB 0; target = 0; guard = less (variable 1) (constant 2); action = count } ∷ [];
   invalid = [];
   invariant = less (variable 1) (constant 2);
+  constraint = constantB true;
 }
 
 pub length-A : length bytesA ≡ 73
@@ -46,22 +47,24 @@ pub check-A : check bytesA ≡ accepted designA
 unfolding checking bytesA designA count
 check-A = refl
 
--- Design A with another byte at a position, and the refusal of that
+-- a file with another byte at a position, and the refusal of that
 pub record Damage : Type 0 where
   pub position : ℕ
   pub byte : ℕ
   pub gets : Refusal
 
-abbrev damaged : Damage → Refusal
-damaged x = refusal (check (set bytesA (x .position) (x .byte)))
+abbrev pub damaged : List ℕ → Damage → Refusal
+damaged file x = refusal (check (set file (x .position) (x .byte)))
 
-abbrev at : ℕ → ℕ → Refusal
+abbrev pub at : ℕ → ℕ → Refusal
 at number place = record { number = number; place = place }
 
--- version 2; 33 variables; matrices at 7; kind 3; no status; a second cell of matrix 1; an integer as event; statement 22; an unknown invariant
+-- version 3; version 2, where the invariant's last bytes are an offset before it; 33 variables; matrices at 7; kind 3; no status; a second cell of matrix 1; an integer
+-- as event; statement 22; the next state in the invariant
 damages : List Damage
 damages =
-    record { position = 57; byte = 2; gets = at 2 57 } ∷
+    record { position = 57; byte = 3; gets = at 2 57 } ∷
+    record { position = 57; byte = 2; gets = at 4 51 } ∷
     record { position = 59; byte = 33; gets = at 3 57 } ∷
     record { position = 61; byte = 7; gets = at 4 6 } ∷
     record { position = 0; byte = 3; gets = at 5 0 } ∷
@@ -71,7 +74,7 @@ damages =
     record { position = 20; byte = 0x22; gets = at 9 11 } ∷
     record { position = 51; byte = 0x17; gets = at 8 51 } ∷ []
 
-damages-A : map damaged damages ≡ map (λ (x : Damage). x .gets) damages
+damages-A : map (damaged bytesA) damages ≡ map (λ (x : Damage). x .gets) damages
 unfolding checking bytesA damages
 damages-A = refl
 

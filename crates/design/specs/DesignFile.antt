@@ -1,4 +1,4 @@
--- The items of a design file, document 01's bullets. A walk goes from an item's first byte to the item and the position past it,
+-- The items of a design file, document 01's bullets and document 02's constraint. A walk goes from an item's first byte to the item and the position past it,
 -- or to a refusal: its number and place. Within an item the tests stand in the order of their numbers.
 use Prim.Native.Nat.{ℕ, zero, suc, _+_, _*_}
 use mathlib.Core.Bool.{Bool, true, false, _&&_, _||_}
@@ -8,7 +8,7 @@ use lib.Dec.{ltb, leb, eqb}
 use Rattle.design.specs.Tree.{BoolExpr, Stmts, constantB, Kind, boolean, integer, external, Variable, Cell, InvalidCell}
 use Rattle.design.specs.Limits.{maxStatuses, maxEvents, maxDepth, maxNest}
 use Rattle.design.specs.Reading.{Read, got, bad}
-use Rattle.design.specs.Expression.{Names, boolExpr}
+use Rattle.design.specs.Expression.{Names, withLater, boolExpr}
 use Rattle.design.specs.Action.{list}
 
 pub data Item (A : Type 0) : Type 0 where
@@ -170,9 +170,17 @@ module _ (file : List ℕ) (end : ℕ) where
     abbrev pub action : ℕ → Item Stmts
     action at = filling 9 at (c-past file at) (list file names (c-past file at) maxNest (c-middle file at))
 
-    -- Invariant: one Boolean expression, up to the end
-    unfoldable pub invariantAt : Walk BoolExpr
-    invariantAt at = filling 8 at end (boolExpr file names end maxDepth at)
+    -- Invariant: one Boolean expression, up to where the constraint starts, or where there is none up to the end (document 02, R-1): "an offset before the invariant
+    -- or past the u16 is 4 at the invariant".
+    unfoldable pub invariantAt : ℕ → Walk BoolExpr
+    invariantAt past at =
+        need (leb at past && leb past end) 4 at
+        (filling 8 at past (boolExpr file names past maxDepth at))
+
+    -- Constraint, where the file has one: one Boolean expression up to the end, which may read the next state
+    unfoldable pub constraintAt : Bool → Walk BoolExpr
+    constraintAt false at = item (constantB true) at
+    constraintAt true at = filling 8 at end (boolExpr file (withLater true names) end maxDepth at)
 
     module _ (matricesAt : ℕ) where
       -- the events of so many matrices, from matrix m on

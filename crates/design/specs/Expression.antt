@@ -1,35 +1,46 @@
 -- Expressions: bytes to trees (document 01: "An expression is an operator byte followed by its operands").
 use Prim.Native.Nat.{ℕ, zero, suc, _+_, _*_}
-use mathlib.Core.Bool.{Bool, not}
+use mathlib.Core.Bool.{Bool, true, false, not, _||_}
 use mathlib.Core.List.{List, [], _∷_}
 use lib.ListN.{getD}
 use lib.Dec.{ltb, leb, eqb}
 use Rattle.design.specs.Tree.{IntExpr, BoolExpr, constant, variable, status, sum, difference, constantB, variableB, notB, andB, orB, equal, less, truth}
+use Rattle.design.specs.State.{layoutIn, numberIn}
 use Rattle.design.specs.Reading.{got, Reader, yield, fail, provided, demand, _>>=_, Line, _means_, lookup}
 
--- What an expression may name: the variables with their kinds, and the matrices.
+-- What an expression may name: the variables with their kinds, the matrices, and whether those of the next state too.
 pub record Names : Type 0 where
   pub variables : ℕ
   pub kindOf : ℕ → ℕ
   pub matrices : ℕ
+  pub later : Bool
 
--- The operators by what follows them.
+-- the same names, with or without the next state
+abbrev pub withLater : Bool → Names → Names
+withLater later names = record { variables = names .variables; kindOf = names .kindOf; matrices = names .matrices; later = later }
+
+-- The operators by what follows them. A variable and a status have an operator for the state (false) and one for the next state (true).
 pub data IntOp : Type 0 where
-  op-constant op-variable op-status op-unknown : IntOp
+  op-constant op-unknown : IntOp
+  op-variable op-status : Bool → IntOp
   op-ints : (IntExpr → IntExpr → IntExpr) → IntOp
 
 pub data BoolOp : Type 0 where
-  op-constant op-variable op-not op-unknown : BoolOp
+  op-constant op-not op-unknown : BoolOp
+  op-variable : Bool → BoolOp
   op-bools : (BoolExpr → BoolExpr → BoolExpr) → BoolOp
   op-ints : (IntExpr → IntExpr → BoolExpr) → BoolOp
 
+-- "Three operators .. read the next state: 06 integer variable, 07 status, 17 Boolean."
 abbrev pub intOps : List (Line IntOp)
 intOps =
     (0x01 means IntOp.op-constant) ∷
-    (0x02 means IntOp.op-variable) ∷
-    (0x03 means IntOp.op-status) ∷
+    (0x02 means IntOp.op-variable false) ∷
+    (0x03 means IntOp.op-status false) ∷
     (0x04 means IntOp.op-ints sum) ∷
-    (0x05 means IntOp.op-ints difference) ∷ []
+    (0x05 means IntOp.op-ints difference) ∷
+    (0x06 means IntOp.op-variable true) ∷
+    (0x07 means IntOp.op-status true) ∷ []
 
 unfoldable pub intOp : ℕ → IntOp
 intOp b = lookup IntOp.op-unknown intOps b
@@ -37,12 +48,13 @@ intOp b = lookup IntOp.op-unknown intOps b
 abbrev pub boolOps : List (Line BoolOp)
 boolOps =
     (0x10 means BoolOp.op-constant) ∷
-    (0x11 means BoolOp.op-variable) ∷
+    (0x11 means BoolOp.op-variable false) ∷
     (0x12 means BoolOp.op-not) ∷
     (0x13 means BoolOp.op-bools andB) ∷
     (0x14 means BoolOp.op-bools orB) ∷
     (0x15 means BoolOp.op-ints equal) ∷
-    (0x16 means BoolOp.op-ints less) ∷ []
+    (0x16 means BoolOp.op-ints less) ∷
+    (0x17 means BoolOp.op-variable true) ∷ []
 
 unfoldable pub boolOp : ℕ → BoolOp
 boolOp b = lookup BoolOp.op-unknown boolOps b
@@ -64,17 +76,24 @@ module _ (text : List ℕ) (names : Names) (end : ℕ) where
   abbrev pub isMatrix : ℕ → Bool
   isMatrix m = ltb m (names .matrices)
 
+  -- "legal only there": whether an operator is legal here, by whether it reads the next state; and the number of what it names
+  abbrev pub legal : Bool → Bool
+  legal next = not next || names .later
+
+  abbrev pub numbered : Bool → ℕ → ℕ
+  numbered next i = numberIn (layoutIn (names .variables) (names .matrices)) next i
+
   -- what follows an integer operator, given the reader of operands
   abbrev pub intOf : Reader IntExpr → IntOp → Reader IntExpr
   intOf operand IntOp.op-constant = do
     c ← word
     yield (constant c)
-  intOf operand IntOp.op-variable = do
+  intOf operand (IntOp.op-variable next) = do
     v ← byte
-    demand (isVariable v) (demand (isInteger v) (yield (variable v)))
-  intOf operand IntOp.op-status = do
+    demand (legal next) (demand (isVariable v) (demand (isInteger v) (yield (variable (numbered next v)))))
+  intOf operand (IntOp.op-status next) = do
     m ← byte
-    demand (isMatrix m) (yield (status m))
+    demand (legal next) (demand (isMatrix m) (yield (status (numbered next m))))
   intOf operand (IntOp.op-ints f) = do
     a ← operand
     b ← operand
@@ -93,9 +112,9 @@ module _ (text : List ℕ) (names : Names) (end : ℕ) where
   boolOf int operand BoolOp.op-constant = do
     c ← byte
     demand (leb c 1) (yield (constantB (truth c)))
-  boolOf int operand BoolOp.op-variable = do
+  boolOf int operand (BoolOp.op-variable next) = do
     v ← byte
-    demand (isVariable v) (demand (not (isInteger v)) (yield (variableB v)))
+    demand (legal next) (demand (isVariable v) (demand (not (isInteger v)) (yield (variableB (numbered next v)))))
   boolOf int operand BoolOp.op-not = do
     a ← operand
     yield (notB a)

@@ -18,3 +18,4 @@ pub mod Answers
 -- given designs
 pub mod DesignA
 pub mod AllOperators
+pub mod Constrained

@@ -9,8 +9,8 @@ use Rattle.design.specs.Limits.{maxDepth, maxNest}
 use Rattle.design.specs.Reading.{got}
 use Rattle.design.specs.Expression.{Names, boolExpr}
 use Rattle.design.specs.Action.{list}
-use Rattle.design.specs.DesignFile.{item, Walk, Matrix, Entry, normal, invalid, variableAt, matrixAt, eventAt, invariantAt, cellAt, fields, ordered, guard, statuses, events, c-matrix, c-status, c-event, c-kind, c-target, c-guard, c-middle, c-past}
-use Rattle.design.specs.Check.{eventIn, normals, invalids, trailer, variableCount, matricesOffset, matrixCount, eventsOffset, cellsOffset, cellCount, invariantOffset, names}
+use Rattle.design.specs.DesignFile.{item, Walk, Matrix, Entry, normal, invalid, variableAt, matrixAt, eventAt, invariantAt, constraintAt, cellAt, fields, ordered, guard, statuses, events, c-matrix, c-status, c-event, c-kind, c-target, c-guard, c-middle, c-past}
+use Rattle.design.specs.Check.{eventIn, normals, invalids, itemsEnd, hasConstraint, constraintOffset, variableCount, matricesOffset, matrixCount, eventsOffset, cellsOffset, cellCount, invariantOffset, names}
 
 -- items that follow one another, each found by the walk
 abbrev pub Run : {A : Type 0} → Walk A → ℕ → List A → ℕ → Type 0
@@ -52,7 +52,7 @@ module _ (file : List ℕ) (end : ℕ) where
 
 module _ (file : List ℕ) where
   abbrev E : ℕ
-  E = trailer file
+  E = itemsEnd file
 
   -- the rows of events, from matrix m on
   abbrev pub Rows : ℕ → ℕ → List (List BoolExpr) → ℕ → Type 0
@@ -80,8 +80,9 @@ module _ (file : List ℕ) where
     pub cell-run : Cells (eventIn rows) (cellsOffset file) (cellsOffset file) entries (invariantOffset file)
     pub cells : d .cells ≡ normals entries
     pub invalid : d .invalid ≡ invalids entries
+    pub invariant : invariantAt file E (names file) (constraintOffset file) (invariantOffset file) ≡ item (d .invariant) (constraintOffset file)
     pub past : ℕ
-    pub invariant : invariantAt file E (names file) (invariantOffset file) ≡ item (d .invariant) past
+    pub constraint : constraintAt file E (names file) (hasConstraint file) (constraintOffset file) ≡ item (d .constraint) past
 
   -- a cell that stands somewhere, after some other
   abbrev pub Standing : (ℕ → ℕ → BoolExpr) → ℕ → Entry → Type 0

@@ -1,6 +1,6 @@
 -- The state of a design: one flat list of slots, in the order of its bits (document 01: "State bits S, low first: variables, then statuses.").
 -- A slot holds a number below 2 to the power of its width.
-use mathlib.Core.Bool.{cond}
+use mathlib.Core.Bool.{Bool, true, false, cond}
 use mathlib.Core.List.{List, [], _∷_, _++_, map}
 use Prim.Native.Nat.{ℕ, zero, suc, _+_, _-_, _*_}
 use lib.Dec.{eqb}
@@ -29,6 +29,16 @@ slotsBetween from to s = take (to - from) (drop from s)
 
 abbrev pub statusesIn : Layout → State → List ℕ
 statusesIn l s = slotsBetween (l .statuses) (l .end) s
+
+-- Two successive states are one list of slots, those of the later state behind those of the earlier one (document 02, R-1). There slot i of the later state,
+-- and its variable or status i, has this number.
+abbrev pub laterSlot : Layout → ℕ → ℕ
+laterSlot l i = l .end + i
+
+-- the number of a variable or a status, of the state (false) or of the next one (true)
+abbrev pub numberIn : Layout → Bool → ℕ → ℕ
+numberIn l false i = i
+numberIn l true i = laterSlot l i
 
 -- the slot of a matrix's status
 abbrev pub statusSlot : Layout → ℕ → ℕ

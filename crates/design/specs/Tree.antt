@@ -14,12 +14,13 @@ abbrev pub truth : ℕ → Bool
 truth zero = false
 truth (suc n) = true
 
--- Integer expressions: operators 01 to 05. A variable and a matrix are named by their numbers.
+-- Integer expressions: operators 01 to 07. A variable and a matrix are named by their numbers. 06 and 07 (document 02, R-1) read the next state: its slots stand behind
+-- those of the state, so they are variables and statuses of higher numbers (`laterSlot` in State).
 pub data IntExpr : Type 0 where
   constant variable status : ℕ → IntExpr
   sum difference : IntExpr → IntExpr → IntExpr
 
--- Boolean expressions: operators 10 to 16.
+-- Boolean expressions: operators 10 to 17, 17 being a variable of the next state.
 pub data BoolExpr : Type 0 where
   constantB : Bool → BoolExpr
   variableB : ℕ → BoolExpr
@@ -61,13 +62,15 @@ pub record InvalidCell : Type 0 where
   pub status : ℕ
   pub event : BoolExpr
 
--- `statuses` has each matrix's status count. Normal and invalid cells stand in two lists, each in file order.
+-- `statuses` has each matrix's status count. Normal and invalid cells stand in two lists, each in file order. A file of version 1 has no constraint: here it is the
+-- constant true.
 pub record Design : Type 0 where
   pub variables : List Variable
   pub statuses : List ℕ
   pub cells : List Cell
   pub invalid : List InvalidCell
   pub invariant : BoolExpr
+  pub constraint : BoolExpr
 
 -- A mover (document 01's term): what a choice may name, a normal cell or an external variable.
 pub data Mover : Type 0 where

@@ -1,6 +1,7 @@
--- What the layers above may rely on in an accepted design's tree: every name is in range and of the right kind, and every number fits its slot.
+-- What the layers above may rely on in an accepted design's tree: what is read has a slot of the right width, what is assigned is a variable of the
+-- right kind, and every number fits its slot.
 use mathlib.Core.Path.{_≡_}
-use mathlib.Core.List.{List, [], _∷_}
+use mathlib.Core.List.{List, [], _∷_, _++_}
 use Prim.Native.Nat.{ℕ, _^_, _<_, _≤_}
 use lib.ListN.{length, getD}
 use Rattle.design.specs.Limits.{maxStatuses, maxMovers}
@@ -38,16 +39,17 @@ module _ (ws : List ℕ) (l : Layout) where
   abbrev pub IsBoolean : ℕ → Type 0
   IsBoolean v = HasBits v 1
 
+  -- What is read: a slot of the right width. In a constraint `ws` has the widths of two states, and the slot may be one of the later state.
   abbrev pub IntOk : IntExpr → Type 0
   IntOk (constant c) = c < 65536
-  IntOk (variable v) = IsInteger v
-  IntOk (status m) = IsStatus m
+  IntOk (variable v) = getD ws v 0 ≡ 16
+  IntOk (status m) = getD ws (statusSlot l m) 0 ≡ statusWidth
   IntOk (sum a b) = IntOk a × IntOk b
   IntOk (difference a b) = IntOk a × IntOk b
 
   abbrev pub BoolOk : BoolExpr → Type 0
   BoolOk (constantB b) = Unit {0}
-  BoolOk (variableB v) = IsBoolean v
+  BoolOk (variableB v) = getD ws v 0 ≡ 1
   BoolOk (notB a) = BoolOk a
   BoolOk (andB a b) = BoolOk a × BoolOk b
   BoolOk (orB a b) = BoolOk a × BoolOk b
@@ -108,4 +110,5 @@ pub record WellFormed (d : Design) : Type 0 where
   pub statuses : StatusesOk (d .statuses) (d .cells)
   pub invalid : InvalidsOk (widths d) (layout d) (d .invalid)
   pub invariant : BoolOk (widths d) (layout d) (d .invariant)
+  pub constraint : BoolOk (widths d ++ widths d) (layout d) (d .constraint)
   pub start : InRange (widths d) (start d)

@@ -25,9 +25,9 @@ pub fn check_assign(text: &[u8], file: &[u8], at: usize, end: usize, shape: Shap
     }
     let k = file[3 * v];
     if k == 1 {
-        check_int(text, file, at + 1, end, shape, MAX_DEPTH)
+        check_int(text, file, at + 1, end, shape, false, MAX_DEPTH)
     } else {
-        check_bool(text, file, at + 1, end, shape, MAX_DEPTH)
+        check_bool(text, file, at + 1, end, shape, false, MAX_DEPTH)
     }
 }
 
@@ -55,7 +55,7 @@ pub fn check_stmt(
             if nest == 0 {
                 return Found::Bad;
             }
-            match check_bool(text, file, at + 1, end, shape, MAX_DEPTH) {
+            match check_bool(text, file, at + 1, end, shape, false, MAX_DEPTH) {
                 Found::At(m) => match check_list(text, file, m, end, shape, nest - 1) {
                     Found::At(p) => check_list(text, file, p, end, shape, nest - 1),
                     Found::Bad => Found::Bad,

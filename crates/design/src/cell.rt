@@ -98,7 +98,7 @@ pub fn check_guard(file: &[u8], shape: Shape, at: usize) -> Walked
         return Walked::Past(middle);
     }
     fill_length(
-        check_bool(file, file, at + 8, middle, shape, MAX_DEPTH),
+        check_bool(file, file, at + 8, middle, shape, false, MAX_DEPTH),
         8,
         at,
         middle,

@@ -2,9 +2,9 @@
 ghost use mathlib.Core.Path.{_≡_};
 ghost use Prim.Native.Nat.{ℕ, _+_, _*_, _≤_, _<_};
 ghost use lib.ListN.{length, getD};
-ghost use Rattle.design.specs.Limits.{maxBytes, trailerBytes, maxMatrices, maxEvents, maxMovers, eventPlaces};
+ghost use Rattle.design.specs.Limits.{maxBytes, trailerBytes, tailBytes, maxMatrices, maxEvents, maxMovers, eventPlaces};
 ghost use Rattle.design.specs.DesignFile.{at16};
-ghost use Rattle.design.specs.Check.{trailer, invariantOffset, trailerCounts, trailerOffsets};
+ghost use Rattle.design.specs.Check.{trailer, version, hasConstraint, itemsEnd, constraintOffset, invariantOffset, trailerCounts, trailerOffsets};
 ghost use Rattle.design.specs.Answers.{SmallCounts};
 ghost use Rattle.design.specs.Places.{Accepted, Measured, pastEvents, externalsFrom, EventsIndexed, CellsIndexed};
 use super::bits::state_bits;
@@ -14,11 +14,15 @@ use super::limits::EVENT_PLACES;
 use super::limits::EVENT_ROW;
 use super::limits::MAX_MOVERS;
 use super::limits::TRAILER;
+use super::limits::is_constrained;
+use super::limits::tail_bytes;
 use super::shape::Counts;
 use super::shape::Offsets;
 use super::shape::Shape;
 
 // Where the trailer holds its numbers.
+pub const VERSION: usize = 0;
+
 pub const VARIABLES: usize = 2;
 
 pub const MATRICES_AT: usize = 4;
@@ -41,6 +45,35 @@ pub fn trailer_word(file: &[u8], k: usize) -> usize
     word(file, file.len() - TRAILER + k)
 }
 
+// Whether the file has a constraint.
+pub fn has_constraint(file: &[u8]) -> bool
+    requires { ⌜ trailerBytes ≤ length (now file) ⌝ }
+    ensures { λ r. ⌜ r ≡ hasConstraint (now (file .entry)) ⌝ }
+{
+    is_constrained(trailer_word(file, VERSION))
+}
+
+// Where the items end: at the two bytes of the constraint's offset, or where the file has none at the trailer.
+pub fn items_end(file: &[u8]) -> usize
+    requires { ⌜ tailBytes (version (now file)) ≤ length (now file) ⌝ }
+    ensures { λ r. ⌜ r ≡ itemsEnd (now (file .entry)) ⌝ }
+{
+    file.len() - tail_bytes(trailer_word(file, VERSION))
+}
+
+// Where the constraint starts, or where there is none where the items end.
+pub fn constraint_offset(file: &[u8]) -> usize
+    requires { ⌜ tailBytes (version (now file)) ≤ length (now file) ⌝ }
+    ensures { λ r. ⌜ r ≡ constraintOffset (now (file .entry)) ⌝ }
+{
+    let end = items_end(file);
+    if has_constraint(file) {
+        word(file, end)
+    } else {
+        end
+    }
+}
+
 // What the trailer counts.
 pub fn trailer_counts(file: &[u8]) -> Counts
     requires { ⌜ trailerBytes ≤ length (now file) ⌝ }
@@ -53,9 +86,9 @@ pub fn trailer_counts(file: &[u8]) -> Counts
     }
 }
 
-// Where it says that sections start.
+// Where the trailer and the number before it say that sections start.
 pub fn trailer_offsets(file: &[u8]) -> Offsets
-    requires { ⌜ trailerBytes ≤ length (now file) ⌝ }
+    requires { ⌜ tailBytes (version (now file)) ≤ length (now file) ⌝ }
     ensures { λ r. ⌜ r ≡ trailerOffsets (now (file .entry)) ⌝ }
 {
     Offsets {
@@ -63,6 +96,8 @@ pub fn trailer_offsets(file: &[u8]) -> Offsets
         events: trailer_word(file, EVENTS_AT),
         cells: trailer_word(file, CELLS_AT),
         invariant: trailer_word(file, INVARIANT_AT),
+        constraint: constraint_offset(file),
+        constrained: has_constraint(file),
     }
 }
 
@@ -72,14 +107,25 @@ pub struct Extent {
     pub end: usize,
 }
 
-// Where the invariant stands: up to the trailer.
+// Where the invariant stands: up to the constraint.
 pub fn invariant(file: &[u8]) -> Extent
-    requires { ⌜ trailerBytes ≤ length (now file) ⌝ }
-    ensures { λ r. ⌜ (r .at ≡ invariantOffset (now (file .entry))) × (r .end ≡ trailer (now (file .entry))) ⌝ }
+    requires { ⌜ tailBytes (version (now file)) ≤ length (now file) ⌝ }
+    ensures { λ r. ⌜ (r .at ≡ invariantOffset (now (file .entry))) × (r .end ≡ constraintOffset (now (file .entry))) ⌝ }
 {
     Extent {
         at: trailer_word(file, INVARIANT_AT),
-        end: file.len() - TRAILER,
+        end: constraint_offset(file),
+    }
+}
+
+// Where the constraint stands: up to the end of the items.
+pub fn constraint(file: &[u8]) -> Extent
+    requires { ⌜ tailBytes (version (now file)) ≤ length (now file) ⌝ }
+    ensures { λ r. ⌜ (r .at ≡ constraintOffset (now (file .entry))) × (r .end ≡ itemsEnd (now (file .entry))) ⌝ }
+{
+    Extent {
+        at: constraint_offset(file),
+        end: items_end(file),
     }
 }
 

@@ -3,7 +3,7 @@ ghost use mathlib.Core.Path.{_≡_};
 ghost use Rattle.design.specs.Limits.{trailerBytes};
 ghost use Prim.Native.Nat.{_+_, _*_, _≤_};
 ghost use lib.ListN.{length};
-ghost use Rattle.design.specs.DesignFile.{variableAt, matrixAt, eventAt, invariantAt};
+ghost use Rattle.design.specs.DesignFile.{variableAt, matrixAt, eventAt, invariantAt, constraintAt};
 ghost use Rattle.design.specs.Check.{namesOf};
 ghost use Rattle.design.specs.Answers.{walked, lengthFilled};
 use super::bytes::wide;
@@ -101,20 +101,48 @@ pub fn check_event(file: &[u8], end: usize, shape: Shape, at: usize) -> Walked
         return Walked::Refused(4, at);
     }
     fill_length(
-        check_bool(file, file, at + 1, past, shape, MAX_DEPTH),
+        check_bool(file, file, at + 1, past, shape, false, MAX_DEPTH),
         8,
         at,
         past,
     )
 }
 
-// The invariant runs up to `end`.
-pub fn check_invariant(file: &[u8], end: usize, shape: Shape, at: usize) -> Walked
+// The invariant runs up to `past`, where the constraint starts.
+pub fn check_invariant(file: &[u8], end: usize, shape: Shape, past: usize, at: usize) -> Walked
     requires { ⌜ (end ≤ length (now file)) × (3 * shape .variables ≤ length (now file)) ⌝ }
-    ensures { λ r. ⌜ r ≡ walked (invariantAt (now (file .entry)) end (namesOf (now (file .entry)) shape) at) ⌝ }
+    ensures { λ r. ⌜ r ≡ walked (invariantAt (now (file .entry)) end (namesOf (now (file .entry)) shape) past at) ⌝ }
 {
+    if past < at {
+        return Walked::Refused(4, at);
+    }
+    if end < past {
+        return Walked::Refused(4, at);
+    }
     fill_length(
-        check_bool(file, file, at, end, shape, MAX_DEPTH),
+        check_bool(file, file, at, past, shape, false, MAX_DEPTH),
+        8,
+        at,
+        past,
+    )
+}
+
+// The constraint, if there is one, runs up to `end`.
+pub fn check_constraint(
+    file: &[u8],
+    end: usize,
+    shape: Shape,
+    constrained: bool,
+    at: usize,
+) -> Walked
+    requires { ⌜ (end ≤ length (now file)) × (3 * shape .variables ≤ length (now file)) ⌝ }
+    ensures { λ r. ⌜ r ≡ walked (constraintAt (now (file .entry)) end (namesOf (now (file .entry)) shape) constrained at) ⌝ }
+{
+    if !constrained {
+        return Walked::Past(at);
+    }
+    fill_length(
+        check_bool(file, file, at, end, shape, true, MAX_DEPTH),
         8,
         at,
         end,

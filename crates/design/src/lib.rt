@@ -13,6 +13,7 @@ pub mod shape;
 ghost use mathlib.Core.Path.{_≡_};
 ghost use Rattle.design.specs.Check.{check as checked, refused, refusal};
 use bytes::word;
+use index::items_end;
 use index::trailer_counts;
 use index::trailer_offsets;
 use item::Counted;
@@ -20,6 +21,8 @@ use limits::TRAILER;
 use limits::counts_right;
 use limits::length_right;
 use limits::movers_right;
+use limits::tail_bytes;
+use limits::version_right;
 use section::check_sections;
 
 // CHECK's answer: number 0 for an accepted file.
@@ -45,16 +48,19 @@ pub fn check(file: &[u8]) -> Refusal
     if !length_right(len) {
         return answer(1, len);
     }
-    let end = len - TRAILER;
-    let version = word(file, end);
-    if version != 1 {
-        return answer(2, end);
+    let trailer = len - TRAILER;
+    let version = word(file, trailer);
+    if len < tail_bytes(version) {
+        return answer(1, len);
+    }
+    if !version_right(version) {
+        return answer(2, trailer);
     }
     let counts = trailer_counts(file);
     if !counts_right(counts.variables, counts.matrices, counts.cells) {
-        return answer(3, end);
+        return answer(3, trailer);
     }
-    match check_sections(file, end, counts, trailer_offsets(file)) {
+    match check_sections(file, items_end(file), counts, trailer_offsets(file)) {
         Counted::Passed(_, movers) => {
             if movers_right(movers) {
                 answer(0, 0)

@@ -1,10 +1,17 @@
 // The limits of the design file, as specs/Limits.antt has them, and their tests.
 ghost use mathlib.Core.Path.{_≡_};
-ghost use Rattle.design.specs.Limits.{lengthRight, countsRight, moversRight};
+ghost use Rattle.design.specs.Limits.{constrained, tailBytes, lengthRight, versionRight, countsRight, moversRight};
 
 pub const MAX_BYTES: usize = 16384;
 
 pub const TRAILER: usize = 16;
+
+pub const LAST_VERSION: usize = 2;
+
+// The version with a constraint, and the bytes of its offset before the trailer.
+pub const CONSTRAINT_VERSION: usize = 2;
+
+pub const OFFSET_BYTES: usize = 2;
 
 pub const MAX_VARIABLES: usize = 32;
 
@@ -27,10 +34,14 @@ pub const EVENT_ROW: usize = 16;
 
 pub const EVENT_PLACES: usize = MAX_MATRICES * EVENT_ROW;
 
-// Slots of a state, and their bits where every variable is an integer.
+// Slots of a state, and their bits where every variable is an integer; slots and bits of two states.
 pub const MAX_SLOTS: usize = MAX_VARIABLES + MAX_MATRICES;
 
+pub const PAIR_SLOTS: usize = 2 * MAX_SLOTS;
+
 pub const MAX_BITS: usize = 16 * MAX_VARIABLES + 4 * MAX_MATRICES;
+
+pub const PAIR_BITS: usize = 2 * MAX_BITS;
 
 // Whether a file may have so many bytes.
 pub fn length_right(bytes: usize) -> bool
@@ -40,6 +51,34 @@ pub fn length_right(bytes: usize) -> bool
         return false;
     }
     bytes <= MAX_BYTES
+}
+
+// Whether a file of this version has a constraint.
+pub fn is_constrained(version: usize) -> bool
+    ensures { λ r. ⌜ r ≡ constrained version ⌝ }
+{
+    version == CONSTRAINT_VERSION
+}
+
+// The bytes behind a file's items.
+pub fn tail_bytes(version: usize) -> usize
+    ensures { λ r. ⌜ r ≡ tailBytes version ⌝ }
+{
+    if is_constrained(version) {
+        OFFSET_BYTES + TRAILER
+    } else {
+        TRAILER
+    }
+}
+
+// Whether a file may have this version.
+pub fn version_right(version: usize) -> bool
+    ensures { λ r. ⌜ r ≡ versionRight version ⌝ }
+{
+    if version < 1 {
+        return false;
+    }
+    version <= LAST_VERSION
 }
 
 // Whether a trailer may have these counts.

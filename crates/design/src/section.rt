@@ -6,11 +6,12 @@ ghost use lib.ListN.{length};
 ghost use Rattle.design.specs.Tree.{BoolExpr};
 ghost use Rattle.design.specs.DesignFile.{items, variableAt, matrixAt, eventAt, eventsFrom, cellsFrom};
 ghost use Rattle.design.specs.Check.{namesOf, sections};
-ghost use Rattle.design.specs.Answers.{walked, counted, raises, moves, bodied, SmallCounts, VariablesRight, MatricesRight, EventsRight};
+ghost use Rattle.design.specs.Answers.{walked, expressionsAt, counted, raises, moves, bodied, SmallCounts, VariablesRight, MatricesRight, EventsRight};
 use super::bytes::wide;
 use super::cell::check_cell;
 use super::item::Counted;
 use super::item::Walked;
+use super::item::check_constraint;
 use super::item::check_event;
 use super::item::check_invariant;
 use super::item::check_matrix;
@@ -135,6 +136,17 @@ pub fn check_cells(
     Counted::Passed(p, normals)
 }
 
+// The invariant, and the constraint behind it.
+pub fn check_last(file: &[u8], end: usize, shape: Shape, offsets: Offsets) -> Walked
+    requires { ⌜ (end ≤ length (now file)) × (3 * shape .variables ≤ length (now file)) ⌝ }
+    ensures { λ r. ⌜ r ≡ walked (expressionsAt (now (file .entry)) end (namesOf (now (file .entry)) shape) offsets (offsets .invariant)) ⌝ }
+{
+    match check_invariant(file, end, shape, offsets.constraint, offsets.invariant) {
+        Walked::Past(p) => check_constraint(file, end, shape, offsets.constrained, p),
+        Walked::Refused(number, place) => Walked::Refused(number, place),
+    }
+}
+
 // The sections from the cells on, where those before are right.
 pub fn check_from_cells(
     file: &[u8],
@@ -160,7 +172,7 @@ pub fn check_from_cells(
             if offsets.invariant != p {
                 return Counted::Stopped(4, p);
             }
-            match check_invariant(file, end, shape, offsets.invariant) {
+            match check_last(file, end, shape, offsets) {
                 Walked::Past(q) => Counted::Passed(q, normals + externals),
                 Walked::Refused(number, place) => Counted::Stopped(number, place),
             }

@@ -21,12 +21,14 @@ pub struct Counts {
     pub cells: usize,
 }
 
-// Where it says that sections start.
+// Where the trailer and the number before it say that sections start. `constraint` is where the invariant ends: at the constraint, if the file has one, else where the items end.
 pub struct Offsets {
     pub matrices: usize,
     pub events: usize,
     pub cells: usize,
     pub invariant: usize,
+    pub constraint: usize,
+    pub constrained: bool,
 }
 
 // The shape that CHECK reads with.

@@ -2,8 +2,8 @@
 use mathlib.Core.Path.{_≡_, refl, sym, ap, _∙_}
 use mathlib.Core.Bool.{Bool, true, false}
 use mathlib.Core.List.{List, [], _∷_}
-use mathlib.Core.Option.{Option}
-use Prim.Native.Nat.{ℕ, zero, suc, _+_, _<_, _≤_}
+use mathlib.Core.Option.{Option, none}
+use Prim.Native.Nat.{ℕ, zero, suc, _<_, _≤_}
 use native.Mathlib.Omega.{arith}
 use lib.ListN.{getD, length, List·getD-map}
 use lib.Dec.{ltb}
@@ -14,7 +14,6 @@ use Rattle.design.specs.Check.{accepted, check}
 use Rattle.design.specs.Answer.{Answer, refused, answer, need}
 use Rattle.design.specs.Places.{Accepted}
 use Rattle.design.specs.declared.Refusal.{Refusal}
-use Rattle.design.proofs.Sections.{whole}
 use Rattle.design.proofs.Places.{read}
 use Rattle.step.specs.declared.Replayed.{Replayed}
 use Rattle.step.specs.Limits.{lastProperty, maxBound}
@@ -47,7 +46,7 @@ module _ (file : List ℕ) (p : ℕ) (cs : List ℕ) where
   unfolding REPLAY
   replay-refused r e z = sym (ap replayed (gate-refuses file p (length cs) _ r e z))
 
-  module _ (h : Accepted file) (a : p ≤ lastProperty) (b : length cs ≤ maxBound) (w over : ℕ) (m : (d : Design) → check file ≡ accepted d → w ≡ length (movers d)) (o : over ≡ firstWrong (belows cs w)) where
+  module _ (h : Accepted file) (a : p ≤ lastProperty file) (b : length cs ≤ maxBound) (w over : ℕ) (m : (d : Design) → check file ≡ accepted d → w ≡ length (movers d)) (o : over ≡ firstWrong (belows cs w)) where
     abbrev d : Design
     d = read file h .tree
 
@@ -55,7 +54,7 @@ module _ (file : List ℕ) (p : ℕ) (cs : List ℕ) where
     ts = choicesRight d cs
 
     abbrev last : Answer (Option ℕ)
-    last = answer (firstBreak d (propertyOf d p) (start d) cs 0)
+    last = answer (firstBreak d (propertyOf d p) none (start d) cs 0)
 
     here : replayed (need (allRight ts) 12 (firstWrong ts) last) ≡ REPLAY file p cs
     unfolding REPLAY
@@ -72,7 +71,7 @@ module _ (file : List ℕ) (p : ℕ) (cs : List ℕ) where
         ap (λ (j : ℕ). replayed (refused 12 j)) same
         ∙ sym (ap replayed (need-no (allRight ts) 12 (firstWrong ts) last (ne-eqb (firstWrong ts) (length ts) (λ q. omega (arith, long, same))))) ∙ here
 
-    pub replay-answer : length cs ≤ over → (r : Replayed) → ((d : Design) → check file ≡ accepted d → r ≡ replayed (answer (firstBreak d (propertyOf d p) (start d) cs 0))) → r ≡ REPLAY file p cs
+    pub replay-answer : length cs ≤ over → (r : Replayed) → ((d : Design) → check file ≡ accepted d → r ≡ replayed (answer (firstBreak d (propertyOf d p) none (start d) cs 0))) → r ≡ REPLAY file p cs
     replay-answer k r f =
         f d (read file h .is)
         ∙ sym (ap replayed (need-yes (allRight ts) 12 (firstWrong ts) last (eq-eqb (firstWrong ts) (length ts) (omega (arith, wrong-most ts, long, same))))) ∙ here

@@ -1,32 +1,32 @@
 -- What the readers find at a cell of an accepted file, and what the cell does. Assumes nothing.
-use mathlib.Core.Path.{_≡_, refl, sym, ap, ap₂, subst, _∙_}
+use mathlib.Core.Path.{_≡_, refl, sym, ap, ap₂, _∙_}
 use mathlib.Core.Bool.{Bool, true, false, cond, not, _&&_}
 use mathlib.Core.List.{List}
 use Prim.Native.Nat.{ℕ, zero, suc, _+_, _*_, _<_, _≤_}
 use native.Mathlib.Omega.{arith}
 use lib.ListN.{getD, length, set}
 use lib.Dec.{eqb}
-use borrow.Author.Tests.{eq-eqb, ne-eqb, eqb-true}
-use Rattle.design.specs.Tree.{BoolExpr, Stmts, Cell, Design, cell, raise, truth}
+use borrow.Author.Tests.{eq-eqb, ne-eqb}
+use Rattle.design.specs.Tree.{Stmts, Cell, Design, cell, raise, truth}
 use Rattle.design.specs.Limits.{trailerBytes, maxBytes, maxVariables, maxMatrices, maxEvents, maxDepth, maxNest}
 use Rattle.design.specs.State.{State, Layout, layoutOf}
 use Rattle.design.specs.Reading.{Read}
 use Rattle.design.specs.Expression.{Names, boolExpr}
 use Rattle.design.specs.Action.{list}
 use Rattle.design.specs.DesignFile.{c-matrix, c-status, c-event, c-target, c-guard, c-middle, c-past, events}
-use Rattle.design.specs.Check.{namesOf, names, trailer, matricesOffset, eventIn}
+use Rattle.design.specs.Check.{namesOf, names, itemsEnd, matricesOffset, eventIn}
 use Rattle.design.specs.Sections.{Parts, NormalRead, CellFields, NormalCell}
 use Rattle.design.specs.declared.shape.Shape.{Shape}
 use Rattle.design.proofs.Indexed.{cell-names, event-some, event-got, cell-is, guard-none, guard-got, action-got}
 use Rattle.design.proofs.Indexed as indexed
 use Rattle.step.specs.Evaluation.{evalBool}
 use Rattle.step.specs.OneStep.{executeAll, statusAndEvent, enabled, effect, move}
-use Rattle.step.specs.Accepted.{isRead, past, boolValue, afterList}
+use Rattle.step.specs.Accepted.{isRead, boolValue, afterList}
 use Rattle.step.specs.Ready.{ReadyState}
 
 module _ (file events′ : List ℕ) (h : Shape) (slots : State) (ready : ReadyState file events′ h slots) where
   abbrev E : ℕ
-  E = trailer file
+  E = itemsEnd file
 
   abbrev N : Names
   N = namesOf file h

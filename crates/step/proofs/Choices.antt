@@ -1,7 +1,7 @@
 -- What the mover that a choice names does is the step. Assumes nothing.
 use mathlib.Core.Path.{_≡_, sym, ap, subst, _∙_}
 use mathlib.Core.Bool.{Bool, not, false}
-use mathlib.Core.List.{List, []}
+use mathlib.Core.List.{List}
 use mathlib.Core.Option.{some}
 use Prim.Native.Nat.{ℕ, _+_, _-_, _<_, _≤_}
 use native.Mathlib.Omega.{arith}
@@ -11,7 +11,7 @@ use Rattle.design.specs.Tree.{Cell, Design, Mover, cell, raise, constantB, done
 use Rattle.design.specs.State.{State, Layout, layout, layoutOf}
 use Rattle.design.specs.DesignFile.{normal}
 use Rattle.design.specs.Check.{check, accepted, variableCount, eventIn}
-use Rattle.design.specs.Places.{Accepted, Shaped, CellsIndexed, MoversIndexed, normalPlaces, externalsFrom}
+use Rattle.design.specs.Places.{Accepted, Shaped, Measured, CellsIndexed, MoversIndexed, normalPlaces, externalsFrom}
 use Rattle.design.specs.Sections.{Parts, Standing, NormalCell}
 use Rattle.design.proofs.Sections.{whole}
 use Rattle.design.proofs.Places.{read, normal-stands, cell-fields}
@@ -52,6 +52,10 @@ module _ (file cells : List ℕ) (normals : ℕ) (h : CellsIndexed file cells no
       let b = f .header in
       let c = read file a .all .short in
       omega arith
+
+-- the table of normal cells is that of a shape with their count
+pub movers-here : (file cells : List ℕ) (normals : ℕ) (h : Shape) → Measured file normals h → CellsIndexed file cells normals → MoversIndexed file cells h
+movers-here file cells normals h m c = record { normals = subst (CellsIndexed file cells) (sym (m .normals)) c; externals = m .externals }
 
 module _ (file : List ℕ) (h : Shape) (q : Shaped file h) (s s′ : State) (r : Bool) (d : Design) (e : check file ≡ accepted d) where
   w : Parts file d

@@ -12,7 +12,7 @@ use borrow.Author.Tests.{lt-ltb, le-ltb, ltb-true, ltb-false, ne-eqb}
 use Rattle.design.specs.Tree.{Kind, boolean, Variable, Design}
 use Rattle.design.specs.DesignFile.{Item, item, need, Matrix, kind, at8, matrixAt}
 use Rattle.design.specs.Limits.{maxStatuses, maxEvents, maxVariables, maxMatrices, maxSlots}
-use Rattle.design.specs.Check.{check, accepted, trailer, variableCount, matrixCount, matricesOffset}
+use Rattle.design.specs.Check.{check, accepted, itemsEnd, variableCount, matrixCount, matricesOffset}
 use Rattle.design.specs.Places.{Accepted}
 use Rattle.design.specs.Sections.{Parts}
 use Rattle.design.proofs.Sections.{whole, need-inv, item-same}
@@ -83,7 +83,7 @@ module _ (file : List ℕ) (d : Design) (c : check file ≡ accepted d) where
   value-at nv e ps i l z = split-lt i nv _
       (λ h.
       let x : Variable = record { kind = boolean; initial = 0 } in
-      let k = variable-is file (trailer file) (3 * i) (3 * i + 3) (getD (d .variables) i x) (variable-stands file d w i (omega arith) x) .0 in
+      let k = variable-is file (itemsEnd file) (3 * i) (3 * i + 3) (getD (d .variables) i x) (variable-stands file d w i (omega arith) x) .0 in
       used (d .variables) ps i (omega (arith, w .variable-count)) l x z ∙ ap (λ (y : Kind). rightKind y (getD ps i 0)) k ∙ right-kind (at8 file (3 * i)) (getD ps i 0)
       ∙ ap (λ (t : Bool). cond t (cond (eqb (getD file (3 * i) 0) 1) true (leb (getD ps i 0) 1)) (eqb (getD ps i 0) 0)) (sym (lt-ltb i nv h)))
       (λ h.
@@ -97,7 +97,7 @@ module _ (file : List ℕ) (d : Design) (c : check file ≡ accepted d) where
       let at = matricesOffset file + 2 * m in
       let right = leb 1 (at8 file at) && leb (at8 file at) maxStatuses && leb 1 (at8 file (at + 1)) && leb (at8 file (at + 1)) maxEvents in
       let made : Item Matrix = item (record { statuses = at8 file at; events = at8 file (at + 1) }) (at + 2) in
-      let a = need-inv (leb (at + 2) (trailer file)) 4 at (need right 6 at made) _ _ (matrix-stands file d w m h none) .1 in
+      let a = need-inv (leb (at + 2) (itemsEnd file)) 4 at (need right 6 at made) _ _ (matrix-stands file d w m h none) .1 in
       let b = need-inv right 6 at made _ _ a .1 in
       ap (λ (l : List ℕ). getD l m 0) (w .statuses) ∙ List·getD-map (λ (y : Matrix). y .statuses) (w .matrices) m none ∙ ap (λ (y : Matrix). y .statuses) (sym (item-same _ _ _ _ b))
 
@@ -110,10 +110,10 @@ module _ (file : List ℕ) (d : Design) (c : check file ≡ accepted d) where
       unused-status (d .statuses) ss m (omega (arith, matrix-count file d w)) l z
       ∙ ap (λ (t : Bool). cond t (ltb (getD ss m 0) (getD file (mats + 2 * m) 0)) (eqb (getD ss m 0) 0)) (sym (le-ltb m nm h)))
 
-pub matrices-inside : (file : List ℕ) → Accepted file → matricesOffset file + 2 * matrixCount file ≤ trailer file
+pub matrices-inside : (file : List ℕ) → Accepted file → matricesOffset file + 2 * matrixCount file ≤ itemsEnd file
 matrices-inside file a = go (matrixCount file) refl
   where
-    go : (n : ℕ) → n ≡ matrixCount file → matricesOffset file + 2 * n ≤ trailer file
+    go : (n : ℕ) → n ≡ matrixCount file → matricesOffset file + 2 * n ≤ itemsEnd file
     go zero q = omega (arith, read file a .all .matrix)
     go (suc m) q = let t = read file a in let k = matrix-inside file (t .tree) (t .all .parts) m (omega arith) in omega arith
 

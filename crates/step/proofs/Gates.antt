@@ -44,7 +44,7 @@ module _ {A : Type 0} (file : List ℕ) (call : Design → Answer A) where
 -- a call that the gate lets pass
 pub record Passed (file : List ℕ) (p k : ℕ) : Type 0 where
   pub accepted : Accepted file
-  pub property : p ≤ lastProperty
+  pub property : p ≤ lastProperty file
   pub bound : k ≤ maxBound
 
 -- CHECK, 13 and 14
@@ -53,32 +53,32 @@ module _ (file : List ℕ) (p k : ℕ) where
     abbrev called : Design → Answer A
     called d = call d (propertyOf d p)
 
-    tested : (h : Accepted file) → gate file p k call ≡ need (leb p lastProperty) 13 0 (need (leb k maxBound) 14 0 (called (read file h .tree)))
+    tested : (h : Accepted file) → gate file p k call ≡ need (leb p (lastProperty file)) 13 0 (need (leb k maxBound) 14 0 (called (read file h .tree)))
     unfolding gate
-    tested h = on-accepted file (λ d. need (leb p lastProperty) 13 0 (need (leb k maxBound) 14 0 (called d))) h
+    tested h = on-accepted file (λ d. need (leb p (lastProperty file)) 13 0 (need (leb k maxBound) 14 0 (called d))) h
 
-    over-property : Accepted file → lastProperty < p → gate file p k call ≡ refused 13 0
-    over-property h l = tested h ∙ need-no (leb p lastProperty) 13 0 (need (leb k maxBound) 14 0 (called (read file h .tree))) (lt-leb p lastProperty l)
+    over-property : Accepted file → lastProperty file < p → gate file p k call ≡ refused 13 0
+    over-property h l = tested h ∙ need-no (leb p (lastProperty file)) 13 0 (need (leb k maxBound) 14 0 (called (read file h .tree))) (lt-leb p (lastProperty file) l)
 
-    past-property : (h : Accepted file) → p ≤ lastProperty → gate file p k call ≡ need (leb k maxBound) 14 0 (called (read file h .tree))
-    past-property h l = tested h ∙ need-yes (leb p lastProperty) 13 0 (need (leb k maxBound) 14 0 (called (read file h .tree))) (le-leb p lastProperty l)
+    past-property : (h : Accepted file) → p ≤ lastProperty file → gate file p k call ≡ need (leb k maxBound) 14 0 (called (read file h .tree))
+    past-property h l = tested h ∙ need-yes (leb p (lastProperty file)) 13 0 (need (leb k maxBound) 14 0 (called (read file h .tree))) (le-leb p (lastProperty file) l)
 
-    over-bound : Accepted file → p ≤ lastProperty → maxBound < k → gate file p k call ≡ refused 14 0
+    over-bound : Accepted file → p ≤ lastProperty file → maxBound < k → gate file p k call ≡ refused 14 0
     over-bound h a l = past-property h a ∙ need-no (leb k maxBound) 14 0 (called (read file h .tree)) (lt-leb k maxBound l)
 
     -- past the gate, the answer is the call's
-    pub gate-in : (d : Design) → check file ≡ Checked.accepted d → p ≤ lastProperty → k ≤ maxBound → gate file p k call ≡ called d
+    pub gate-in : (d : Design) → check file ≡ Checked.accepted d → p ≤ lastProperty file → k ≤ maxBound → gate file p k call ≡ called d
     unfolding gate onDesign
-    gate-in d e a b = rw (e, le-leb p lastProperty a, le-leb k maxBound b)
+    gate-in d e a b = rw (e, le-leb p (lastProperty file) a, le-leb k maxBound b)
 
     -- the same, of the design read from the file
-    pub in-range : (h : Accepted file) → p ≤ lastProperty → k ≤ maxBound → gate file p k call ≡ called (read file h .tree)
+    pub in-range : (h : Accepted file) → p ≤ lastProperty file → k ≤ maxBound → gate file p k call ≡ called (read file h .tree)
     in-range h = gate-in (read file h .tree) (read file h .is)
 
     -- what the gate refuses, the call refuses
     pub gate-refuses : (r : Refusal) → r ≡ gateRefusal file p k → (r .number ≡ 0 → ⊥) → gate file p k call ≡ refused (r .number) (r .place)
     unfolding gate onDesign
-    gate-refuses r e z = go (check file) (leb p lastProperty) (leb k maxBound) e
+    gate-refuses r e z = go (check file) (leb p (lastProperty file)) (leb k maxBound) e
       where
         same : (number place : ℕ) → r ≡ record { number = number; place = place } → _≡_ {A = Answer A} (refused number place) (refused (r .number) (r .place))
         same number place q = ap₂ (λ (a b : ℕ). refused a b) (sym (ap (λ (y : Refusal). y .number) q)) (sym (ap (λ (y : Refusal). y .place) q))
@@ -99,18 +99,18 @@ module _ (file : List ℕ) (p k : ℕ) where
     unfolding gate onDesign
     gate-check z = go (check file) e
       where
-        go : (x : Checked) → r ≡ refusal x → r ≡ refusalOf (ofChecked {A = Unit {0}} x (λ d. need (leb p lastProperty) 13 0 (need (leb k maxBound) 14 0 (answer tt))))
+        go : (x : Checked) → r ≡ refusal x → r ≡ refusalOf (ofChecked {A = Unit {0}} x (λ d. need (leb p (lastProperty file)) 13 0 (need (leb k maxBound) 14 0 (answer tt))))
         go (Checked.refused i j) q = q
         go (Checked.accepted d) q = absurd (z (ap (λ (y : Refusal). y .number) q))
 
     module _ (z : r .number ≡ 0) where
-      pub gate-13 : lastProperty < p → record { number = 13; place = 0 } ≡ gateRefusal file p k
+      pub gate-13 : lastProperty file < p → record { number = 13; place = 0 } ≡ gateRefusal file p k
       gate-13 l = sym (ap refusalOf (over-property unitCall (accepted-zero file r e z) l))
 
-      pub gate-14 : p ≤ lastProperty → maxBound < k → record { number = 14; place = 0 } ≡ gateRefusal file p k
+      pub gate-14 : p ≤ lastProperty file → maxBound < k → record { number = 14; place = 0 } ≡ gateRefusal file p k
       gate-14 a l = sym (ap refusalOf (over-bound unitCall (accepted-zero file r e z) a l))
 
-      pub gate-none : p ≤ lastProperty → k ≤ maxBound → r ≡ gateRefusal file p k
+      pub gate-none : p ≤ lastProperty file → k ≤ maxBound → r ≡ gateRefusal file p k
       gate-none a b =
           let h = accepted-zero file r e z in
           e ∙ ap refusal (read file h .is) ∙ sym (ap refusalOf (in-range unitCall h a b))
@@ -126,15 +126,15 @@ module _ (file : List ℕ) (p k : ℕ) where
     unfolding gate onDesign
     zero-accepted = go (check file)
       where
-        go : (x : Checked) → refusalOf (ofChecked x (λ d. need (leb p lastProperty) 13 0 (need (leb k maxBound) 14 0 (called call d)))) .number ≡ 0 → refusal x .number ≡ 0
+        go : (x : Checked) → refusalOf (ofChecked x (λ d. need (leb p (lastProperty file)) 13 0 (need (leb k maxBound) 14 0 (called call d)))) .number ≡ 0 → refusal x .number ≡ 0
         go (Checked.refused i j) q = q
         go (Checked.accepted d) q = refl
 
     pub zero-passed : refusalOf (gate file p k call) .number ≡ 0 → Passed file p k
     zero-passed z =
         let h = zero-accepted z in
-        let s = tests (leb p lastProperty) (leb k maxBound) (called call (read file h .tree)) (ap (λ (a : Answer A). refusalOf a .number) (sym (tested call h)) ∙ z) in
-        record { accepted = h; property = leb-true p lastProperty (s .0); bound = leb-true k maxBound (s .1) }
+        let s = tests (leb p (lastProperty file)) (leb k maxBound) (called call (read file h .tree)) (ap (λ (a : Answer A). refusalOf a .number) (sym (tested call h)) ∙ z) in
+        record { accepted = h; property = leb-true p (lastProperty file) (s .0); bound = leb-true k maxBound (s .1) }
 
   pub gate-passed : (r : Refusal) → r ≡ gateRefusal file p k → r .number ≡ 0 → Passed file p k
   gate-passed r e z = zero-passed unitCall (sym (ap (λ (y : Refusal). y .number) e) ∙ z)
@@ -143,7 +143,7 @@ module _ (file : List ℕ) (p k : ℕ) where
   pub record Through {A : Type 0} (call : Design → Property → Answer A) (a : A) : Type 0 where
     pub design : Design
     pub accepted : check file ≡ Checked.accepted design
-    pub property : p ≤ lastProperty
+    pub property : p ≤ lastProperty file
     pub bound : k ≤ maxBound
     pub same : call design (propertyOf design p) ≡ answer a
 

@@ -7,4 +7,5 @@ use Rattle.step.specs.Property.{propertyOf, PropertyOk}
 pub property-ok : (d : Design) → WellFormed d → (p : ℕ) → PropertyOk d (propertyOf d p)
 unfolding PropertyOk propertyOf
 property-ok d w zero = w .invariant
-property-ok d w (suc p) = tt
+property-ok d w (suc zero) = tt
+property-ok d w (suc (suc p)) = w .constraint

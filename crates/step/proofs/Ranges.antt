@@ -11,7 +11,7 @@ use borrow.Author.Tests.{lt-ltb, le-leb, eq-eqb}
 use Rattle.design.specs.Tree.{IntExpr, constant, variable, status, sum, difference, Stmt, Stmts, assign, assignB, ifElse, done, then, Kind, boolean, integer, external, Variable, Cell, Design, Mover, cell, raise, ifExternal, externals, movers, bit}
 use Rattle.design.specs.State.{State, layout, statusSlot, width, statusWidth, widths, start}
 use Rattle.design.specs.Check.{accepted, check}
-use Rattle.design.specs.WellFormed.{InRange, IsStatus, HasBits, IntOk, StmtOk, StmtsOk, MoverOk, MoversOk, CountsOk, StatusesOk, WellFormed}
+use Rattle.design.specs.WellFormed.{InRange, HasBits, IntOk, StmtOk, StmtsOk, MoverOk, MoversOk, CountsOk, StatusesOk, WellFormed}
 use Rattle.design.proofs.WellFormed.{well-formed}
 use Rattle.step.specs.Pattern.{signed, wrap}
 use Rattle.step.specs.Evaluation.{evalInt, evalBool}
@@ -29,13 +29,6 @@ below-set [] (y ∷ ys) v x b h = absurd b
 below-set (n ∷ ns) [] v x b h = absurd b
 below-set (n ∷ ns) (y ∷ ys) zero x b h = (h, b .1)
 below-set (n ∷ ns) (y ∷ ys) (suc v) x b h = (b .0, below-set ns ys v x (b .1) h)
-
-below-get : (ns s : List ℕ) (v : ℕ) → Below ns s → 0 < getD ns v 0 → getD s v 0 < getD ns v 0
-below-get [] [] v b h = absurd (omega arith)
-below-get [] (y ∷ ys) v b h = absurd b
-below-get (n ∷ ns) [] v b h = absurd b
-below-get (n ∷ ns) (y ∷ ys) zero b h = b .0
-below-get (n ∷ ns) (y ∷ ys) (suc v) b h = below-get ns ys v (b .1) h
 
 cond-keeps : (P : State → Type 0) (t : Bool) (a b : State) → P a → P b → P (cond t a b)
 cond-keeps P true a b p q = p
@@ -59,11 +52,34 @@ variable-range [] ns ws v h = absurd (omega arith)
 variable-range (x ∷ xs) ns ws zero h = count-is (x .kind)
 variable-range (x ∷ xs) ns ws (suc v) h = variable-range xs ns ws v (omega arith)
 
--- a matrix's status count
-counts-few : (ns : List ℕ) (m : ℕ) → CountsOk ns → m < length ns → (1 ≤ getD ns m 0) × (getD ns m 0 ≤ 16)
-counts-few [] m k h = absurd (omega arith)
-counts-few (n ∷ ns) zero k h = (k .0, k .1)
-counts-few (n ∷ ns) (suc m) k h = counts-few ns m (k .2) (omega arith)
+-- widths
+counts-range : (ns s : List ℕ) → CountsOk ns → Below ns s → InRange (replicate (length ns) statusWidth) s
+counts-range [] [] k b = tt
+counts-range [] (y ∷ ys) k b = b
+counts-range (n ∷ ns) [] k b = b
+counts-range (n ∷ ns) (y ∷ ys) k b = (omega (arith, k .1, b .0), counts-range ns ys (k .2) (b .1))
+
+slots-range : (xs : List Variable) (ns s : List ℕ) → CountsOk ns → Below (map count xs ++ ns) s
+    → InRange (map wide xs ++ replicate (length ns) statusWidth) s
+slots-range [] ns s k b = counts-range ns s k b
+slots-range (x ∷ xs) ns [] k b = b
+slots-range (x ∷ xs) ns (y ∷ ys) k b =
+    (subst (λ (n : ℕ). y < n) (count-is (x .kind)) (b .0), slots-range xs ns ys k (b .1))
+
+pub fits-widths : (d : Design) → WellFormed d → (s : State) → FitsDesign d s → InRange (widths d) s
+unfolding ranges widths
+fits-widths d wf s f = slots-range (d .variables) (d .statuses) s (wf .counts) f
+
+-- what stands in a slot of so many bits
+slot-below : (ws s : List ℕ) (v bits : ℕ) → InRange ws s → getD ws v 0 ≡ bits → getD s v 0 < 2 ^ bits
+slot-below ws s v bits r e = subst (λ (b : ℕ). getD s v 0 < 2 ^ b) e (go ws s v r)
+  where
+    go : (us ys : List ℕ) (i : ℕ) → InRange us ys → getD ys i 0 < 2 ^ getD us i 0
+    go [] [] i q = omega arith
+    go [] (y ∷ ys) i q = absurd q
+    go (u ∷ us) [] i q = absurd q
+    go (u ∷ us) (y ∷ ys) zero q = q .0
+    go (u ∷ us) (y ∷ ys) (suc i) q = go us ys i (q .1)
 
 -- each cell's target is a status of its matrix
 abbrev TargetOk : List ℕ → Mover → Type 0
@@ -97,35 +113,20 @@ module _ (d : Design) (wf : WellFormed d) where
       variable-range (d .variables) (d .statuses) (replicate (length (d .statuses)) statusWidth) v (k .inside)
       ∙ ap (λ (b : ℕ). 2 ^ b) (k .width)
 
-  status-inside : (m : ℕ) → IsStatus (widths d) (layout d) m → m < length (d .statuses)
-  unfolding layout
-  status-inside m k = omega (arith, k .inside)
-
   status-range : (m : ℕ) → getD (ranges d) (statusSlot (layout d) m) 0 ≡ getD (d .statuses) m 0
   unfolding ranges layout
   status-range m =
       ap (λ (i : ℕ). getD (map count (d .variables) ++ d .statuses) (i + m) 0) (sym (length-map (d .variables) count))
       ∙ getD-append-add (map count (d .variables)) (d .statuses) m 0
 
-  module _ (s : State) (f : FitsDesign d s) where
-    variable-below : (v bits : ℕ) → HasBits (widths d) (layout d) v bits → 0 < 2 ^ bits → getD s v 0 < 2 ^ bits
-    variable-below v bits k h =
-        let e = number-range v bits k in
-        subst (λ (n : ℕ). getD s v 0 < n) e (below-get (ranges d) s v f (subst (λ (n : ℕ). 0 < n) (sym e) h))
-
-    status-below : (m : ℕ) → IsStatus (widths d) (layout d) m → getD s (statusSlot (layout d) m) 0 < 16
-    status-below m k =
-        let few = counts-few (d .statuses) m (wf .counts) (status-inside m k) in
-        let e = status-range m in
-        omega (arith, below-get (ranges d) s (statusSlot (layout d) m) f (omega (arith, few .0)), few .1)
-
-    int-below : (e : IntExpr) → IntOk (widths d) (layout d) e → evalInt (layout d) s e < 65536
-    unfolding evalInt
-    int-below (constant c) k = k
-    int-below (variable v) k = variable-below v 16 k (omega arith)
-    int-below (status m) k = omega (arith, status-below m k)
-    int-below (sum a b) k = omega arith
-    int-below (difference a b) k = omega arith
+  -- an expression's value is a pattern: what it reads fits the slot's width
+  int-below : (s : State) → FitsDesign d s → (e : IntExpr) → IntOk (widths d) (layout d) e → evalInt (layout d) s e < 65536
+  unfolding evalInt
+  int-below s f (constant c) k = k
+  int-below s f (variable v) k = slot-below (widths d) s v 16 (fits-widths d wf s f) k
+  int-below s f (status m) k = omega (arith, slot-below (widths d) s (statusSlot (layout d) m) statusWidth (fits-widths d wf s f) k)
+  int-below s f (sum a b) k = omega arith
+  int-below s f (difference a b) k = omega arith
 
   bit-below : (b : Bool) → bit b < 2
   bit-below true = omega arith
@@ -200,24 +201,6 @@ unfolding ranges start widths
 first-fits d wf =
     initial-below (d .variables) (replicate (length (d .statuses)) statusWidth) (d .statuses) (replicate (length (d .statuses)) 0) (wf .start)
     (zeros-below (d .statuses) (wf .counts))
-
--- widths
-counts-range : (ns s : List ℕ) → CountsOk ns → Below ns s → InRange (replicate (length ns) statusWidth) s
-counts-range [] [] k b = tt
-counts-range [] (y ∷ ys) k b = b
-counts-range (n ∷ ns) [] k b = b
-counts-range (n ∷ ns) (y ∷ ys) k b = (omega (arith, k .1, b .0), counts-range ns ys (k .2) (b .1))
-
-slots-range : (xs : List Variable) (ns s : List ℕ) → CountsOk ns → Below (map count xs ++ ns) s
-    → InRange (map wide xs ++ replicate (length ns) statusWidth) s
-slots-range [] ns s k b = counts-range ns s k b
-slots-range (x ∷ xs) ns [] k b = b
-slots-range (x ∷ xs) ns (y ∷ ys) k b =
-    (subst (λ (n : ℕ). y < n) (count-is (x .kind)) (b .0), slots-range xs ns ys k (b .1))
-
-pub fits-widths : (d : Design) → WellFormed d → (s : State) → FitsDesign d s → InRange (widths d) s
-unfolding ranges widths
-fits-widths d wf s f = slots-range (d .variables) (d .statuses) s (wf .counts) f
 
 -- a state that fits: its variables' slots, and its statuses
 record Split (rs ns s : List ℕ) : Type 0 where

@@ -2,30 +2,32 @@
 use mathlib.Core.Path.{_≡_, refl, sym, ap, ap₂, _∙_}
 use mathlib.Core.Bool.{Bool, true, false, cond, _&&_, _||_}
 use mathlib.Core.List.{List, [], _∷_, _++_, map}
-use mathlib.Core.Option.{none, some}
+use mathlib.Core.Option.{Option, none, some}
 use Prim.Native.Nat.{ℕ, zero, suc, _+_, _*_, _<_, _≤_}
 use native.Mathlib.Omega.{arith}
 use native.Mathlib.Numerals.{add-one}
 use lib.ListN.{getD, length, take, drop, set, replicate, length-set, length-map, length-replicate, List·getD-map}
-use lib.Seq.{paste, paste-zero, paste-suc, take-all, drop-cons, drop-length}
+use lib.Seq.{paste, paste-zero, paste-suc, take-all, take-at, drop-at, drop-cons, drop-length}
 use lib.Dec.{leb, eqb}
+use borrow.Author.Tests.{ne-eqb}
 use Rattle.design.specs.Tree.{Variable, boolean, Design}
 use Rattle.design.specs.State.{State, start}
 use Rattle.design.specs.DesignFile.{Item, item, need, kind, at8, at16, variableAt}
-use Rattle.design.specs.Check.{check, accepted, trailer, variableCount, matrixCount}
+use Rattle.design.specs.Check.{check, accepted, itemsEnd, variableCount, matrixCount}
 use Rattle.design.specs.Places.{Accepted}
 use Rattle.design.specs.Sections.{Parts}
 use Rattle.design.proofs.Sections.{whole, need-inv, item-same}
 use Rattle.design.proofs.Positions.{variable-stands}
 use Rattle.design.proofs.Places.{read}
 use Rattle.step.specs.Property.{propertyOf}
-use Rattle.step.specs.OneStep.{step, holds}
+use Rattle.step.specs.OneStep.{step, trueAt}
 use Rattle.step.specs.Operations.{firstBreak}
-use Rattle.step.specs.Ready.{ReadyState, Replayable}
+use Rattle.step.specs.Ready.{ReadyState, ReadyPair, beforeIn, Replayable}
 use Rattle.design.specs.declared.shape.Shape.{Shape}
 use Rattle.design.proofs.Indexed.{variables-inside}
 use Rattle.design.proofs.Widths.{matrix-count}
 use Rattle.design.specs.Limits.{maxVariables}
+use Rattle.step.proofs.Pairs.{second-long}
 
 pub drop-replicate : {A : Type 0} (n m : ℕ) (z : A) → drop n (replicate (n + m) z) ≡ replicate m z
 drop-replicate zero m z = ap (λ (k : ℕ). replicate k z) (let q : 0 + m ≡ m = omega arith in q)
@@ -43,7 +45,7 @@ initial-at file d w v h =
     let none : Variable = record { kind = boolean; initial = 0 } in
     let right = leb (at8 file (3 * v)) 2 && (eqb (at8 file (3 * v)) 1 || leb (at16 file (3 * v + 1)) 1) in
     let made : Item Variable = item (record { kind = kind (at8 file (3 * v)); initial = at16 file (3 * v + 1) }) (3 * v + 3) in
-    let a = need-inv (leb (3 * v + 3) (trailer file)) 4 (3 * v) (need right 5 (3 * v) made) _ _ (variable-stands file d w v h none) .1 in
+    let a = need-inv (leb (3 * v + 3) (itemsEnd file)) 4 (3 * v) (need right 5 (3 * v) made) _ _ (variable-stands file d w v h none) .1 in
     let b = need-inv right 5 (3 * v) made _ _ a .1 in
     List·getD-map (λ (x : Variable). x .initial) (d .variables) v none ∙ ap (λ (x : Variable). x .initial) (sym (item-same _ _ _ _ b))
 
@@ -89,44 +91,64 @@ module _ (file : List ℕ) (a : Accepted file) (nv nm : ℕ) (e : nv ≡ variabl
 pub ready-same : (file events : List ℕ) (h : Shape) (s s′ : State) → length s′ ≡ length s → ReadyState file events h s → ReadyState file events h s′
 ready-same file events h s s′ e r = record { indexed = r .indexed; size = e ∙ r .size }
 
+-- a pair of the same size
+pub pair-same : (file events : List ℕ) (h : Shape) (s s′ : State) → length s′ ≡ length s → ReadyPair file events h s → ReadyPair file events h s′
+pair-same file events h s s′ e r = record { indexed = r .indexed; size = e ∙ r .size }
+
 pub replayable-same : (file events cells : List ℕ) (h : Shape) (s s′ : State) (cs : List ℕ) → length s′ ≡ length s → Replayable file events cells h s cs → Replayable file events cells h s′ cs
-replayable-same file events cells h s s′ cs e r = record { ready = ready-same file events h s s′ e (r .ready); movers = r .movers; few = r .few; named = r .named }
+replayable-same file events cells h s s′ cs e r = record { ready = pair-same file events h s s′ e (r .ready); movers = r .movers; few = r .few; named = r .named }
 
--- what is left of the list breaks as the whole does
-pub record Replaying (file : List ℕ) (p : ℕ) (cs : List ℕ) (s₀ : State) (i : ℕ) (s : State) : Type 0 where
+-- what is left of the list breaks as the whole does: `pair` has the state before and the state now, of n slots each
+pub record Replaying (file : List ℕ) (p n : ℕ) (cs : List ℕ) (pair₀ : State) (i : ℕ) (pair : State) : Type 0 where
   pub inside : i ≤ length cs
-  pub size : length s ≡ length s₀
-  pub same : (d : Design) → check file ≡ accepted d → firstBreak d (propertyOf d p) s (drop i cs) i ≡ firstBreak d (propertyOf d p) s₀ cs 0
+  pub size : length pair ≡ length pair₀
+  pub same : (d : Design) → check file ≡ accepted d
+      → firstBreak d (propertyOf d p) (beforeIn (eqb i 0) n pair) (drop n pair) (drop i cs) i ≡ firstBreak d (propertyOf d p) none (drop n pair₀) cs 0
 
-pub replaying-start : (file : List ℕ) (p : ℕ) (cs : List ℕ) (s : State) → Replaying file p cs s 0 s
-replaying-start file p cs s = record { inside = omega arith; size = refl; same = λ d e. refl }
+pub replaying-start : (file : List ℕ) (p n : ℕ) (cs : List ℕ) (pair : State) → Replaying file p n cs pair 0 pair
+replaying-start file p n cs pair = record { inside = omega arith; size = refl; same = λ d e. refl }
 
-module _ (file : List ℕ) (p : ℕ) (cs : List ℕ) (s₀ : State) (i : ℕ) (s : State) (g : Replaying file p cs s₀ i s) (r : Bool) (h : (d : Design) (w : Parts file d) → r ≡ holds d (propertyOf d p) s) where
-  is-held : (d : Design) → check file ≡ accepted d → r ≡ holds d (propertyOf d p) s
-  is-held d e = h d (whole file d e .parts)
+module _ (file : List ℕ) (p n : ℕ) (cs : List ℕ) (pair₀ : State) (i : ℕ) (pair : State) (g : Replaying file p n cs pair₀ i pair) (r : Bool)
+    (h : (d : Design) (w : Parts file d) → r ≡ trueAt d (propertyOf d p) (beforeIn (eqb i 0) n pair) (drop n pair)) where
+  abbrev before : Option State
+  before = beforeIn (eqb i 0) n pair
 
-  broken : (d : Design) (xs : List ℕ) → holds d (propertyOf d p) s ≡ false → firstBreak d (propertyOf d p) s xs i ≡ some i
+  abbrev now : State
+  now = drop n pair
+
+  is-true : (d : Design) → check file ≡ accepted d → r ≡ trueAt d (propertyOf d p) before now
+  is-true d e = h d (whole file d e .parts)
+
+  broken : (d : Design) (xs : List ℕ) → trueAt d (propertyOf d p) before now ≡ false → firstBreak d (propertyOf d p) before now xs i ≡ some i
   unfolding firstBreak
   broken d [] e = ap (λ (t : Bool). cond t none (some i)) e
-  broken d (x ∷ xs) e = ap (λ (t : Bool). cond t (firstBreak d (propertyOf d p) (step d s x) xs (suc i)) (some i)) e
+  broken d (x ∷ xs) e = ap (λ (t : Bool). cond t (firstBreak d (propertyOf d p) (some now) (step d now x) xs (suc i)) (some i)) e
 
-  pub replaying-broken : r ≡ false → (d : Design) → check file ≡ accepted d → some i ≡ firstBreak d (propertyOf d p) s₀ cs 0
-  replaying-broken f d e = sym (broken d (drop i cs) (sym (is-held d e) ∙ f)) ∙ g .same d e
+  pub replaying-broken : r ≡ false → (d : Design) → check file ≡ accepted d → some i ≡ firstBreak d (propertyOf d p) none (drop n pair₀) cs 0
+  replaying-broken f d e = sym (broken d (drop i cs) (sym (is-true d e) ∙ f)) ∙ g .same d e
 
-  pub replaying-on : r ≡ true → i < length cs → (c : ℕ) → c ≡ getD cs i 0 → (s′ : State) (u : Bool) (v : Design → Bool) → length s′ ≡ length s → ((d : Design) → check file ≡ accepted d → (s′ ≡ step d s c) × (u ≡ v d)) → Replaying file p cs s₀ (i + 1) s′
+  -- a choice: the state now is kept as the one before, and the step out of it stands behind it
+  pub replaying-on : r ≡ true → i < length cs → length pair₀ ≡ n + n → (c : ℕ) → c ≡ getD cs i 0 → (pair′ : State) (u : Bool) (v : Design → Bool) → length pair′ ≡ length pair
+      → ((d : Design) → check file ≡ accepted d → (pair′ ≡ now ++ step d now c) × (u ≡ v d)) → Replaying file p n cs pair₀ (i + 1) pair′
   unfolding firstBreak
-  replaying-on t l c q s′ u v n k = record {
+  replaying-on t l z c q pair′ u v m k = record {
     inside = omega arith;
-    size = n ∙ g .size;
+    size = m ∙ g .size;
     same = λ d e.
-        ap (λ (j : ℕ). firstBreak d (propertyOf d p) s′ (drop j cs) j) (add-one i) ∙ ap (λ (x : State). firstBreak d (propertyOf d p) x (drop (suc i) cs) (suc i)) (k d e .0 ∙ ap (step d s) q)
-        ∙ ap (λ (b : Bool). cond b (firstBreak d (propertyOf d p) (step d s (getD cs i 0)) (drop (suc i) cs) (suc i)) (some i)) (sym t ∙ is-held d e)
-        ∙ ap (λ (xs : List ℕ). firstBreak d (propertyOf d p) s xs i) (sym (drop-cons cs i 0 l)) ∙ g .same d e;
+        let long : length now ≡ n = second-long n pair (g .size ∙ z) in
+        let x = step d now c in
+        ap (λ (b : Bool). firstBreak d (propertyOf d p) (beforeIn b n pair′) (drop n pair′) (drop (i + 1) cs) (i + 1)) (ne-eqb (i + 1) 0 (λ o. omega arith))
+        ∙ ap (λ (y : State). firstBreak d (propertyOf d p) (some (take n y)) (drop n y) (drop (i + 1) cs) (i + 1)) (k d e .0)
+        ∙ ap₂ (λ (a b : State). firstBreak d (propertyOf d p) (some a) b (drop (i + 1) cs) (i + 1)) (take-at now x n long) (drop-at now x n long)
+        ∙ ap (λ (j : ℕ). firstBreak d (propertyOf d p) (some now) x (drop j cs) j) (add-one i)
+        ∙ ap (λ (j : ℕ). firstBreak d (propertyOf d p) (some now) (step d now j) (drop (suc i) cs) (suc i)) q
+        ∙ ap (λ (b : Bool). cond b (firstBreak d (propertyOf d p) (some now) (step d now (getD cs i 0)) (drop (suc i) cs) (suc i)) (some i)) (sym t ∙ is-true d e)
+        ∙ ap (λ (xs : List ℕ). firstBreak d (propertyOf d p) before now xs i) (sym (drop-cons cs i 0 l)) ∙ g .same d e;
   }
 
-  pub replaying-never : r ≡ true → length cs ≤ i → (d : Design) → check file ≡ accepted d → none ≡ firstBreak d (propertyOf d p) s₀ cs 0
+  pub replaying-never : r ≡ true → length cs ≤ i → (d : Design) → check file ≡ accepted d → none ≡ firstBreak d (propertyOf d p) none (drop n pair₀) cs 0
   unfolding firstBreak
   replaying-never t l d e =
       let k = g .inside in
-      ap (λ (b : Bool). cond b none (some i)) (sym t ∙ is-held d e)
-      ∙ ap (λ (xs : List ℕ). firstBreak d (propertyOf d p) s xs i) (sym (ap (λ (j : ℕ). drop j cs) (let z : i ≡ length cs = omega arith in z) ∙ drop-length cs)) ∙ g .same d e
+      ap (λ (b : Bool). cond b none (some i)) (sym t ∙ is-true d e)
+      ∙ ap (λ (xs : List ℕ). firstBreak d (propertyOf d p) before now xs i) (sym (ap (λ (j : ℕ). drop j cs) (let z : i ≡ length cs = omega arith in z) ∙ drop-length cs)) ∙ g .same d e

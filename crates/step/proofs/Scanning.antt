@@ -1,8 +1,8 @@
 -- The loop over the cells that looks at the invalid ones, and the invariant. Assumes nothing.
-use mathlib.Core.Path.{_≡_, refl, sym, ap, ap₂, subst, _∙_}
+use mathlib.Core.Path.{_≡_, refl, sym, ap, subst, _∙_}
 use mathlib.Core.Bool.{Bool, true, false, not, _&&_}
-use mathlib.Core.List.{List, [], _∷_}
-use Prim.Native.Nat.{ℕ, zero, suc, _+_, _-_, _<_, _≤_}
+use mathlib.Core.List.{List, _∷_}
+use Prim.Native.Nat.{ℕ, zero, suc, _+_, _<_, _≤_}
 use native.Mathlib.Omega.{arith}
 use native.Mathlib.Numerals.{add-one}
 use lib.ListN.{getD, length, drop}
@@ -10,18 +10,19 @@ use lib.Seq.{drop-cons, drop-length}
 use Rattle.design.specs.Tree.{BoolExpr, constantB, Design}
 use Rattle.design.specs.Limits.{maxDepth}
 use Rattle.design.specs.State.{State, Layout, layout, layoutOf}
-use Rattle.design.specs.Reading.{got}
 use Rattle.design.specs.Expression.{Names, boolExpr}
 use Rattle.design.specs.DesignFile.{Entry, normal, invalid, c-matrix, c-status, c-event, c-kind, c-past}
-use Rattle.design.specs.Check.{invalids, namesOf, names, trailer, variableCount, matricesOffset, cellsOffset, cellCount, invariantOffset, eventIn}
+use Rattle.design.specs.Check.{invalids, namesOf, names, itemsEnd, constraintOffset, matricesOffset, cellsOffset, cellCount, invariantOffset, eventIn}
 use Rattle.design.specs.Places.{pastCells, Shaped}
 use Rattle.design.specs.Sections.{Parts, EntryRead, Standing, CellFields}
 use Rattle.design.proofs.Places.{Read as Tree, read, cell-stands, cell-fields}
 use Rattle.step.specs.Evaluation.{evalBool}
+use Rattle.step.specs.Limits.{lastStateProperty}
 use Rattle.step.specs.Property.{propertyOf}
-use Rattle.step.specs.OneStep.{statusAndEvent, noInvalid, holds}
+use Rattle.step.specs.OneStep.{statusAndEvent, noInvalid, trueAt, holds}
 use Rattle.step.specs.Accepted.{isRead, boolValue}
 use Rattle.design.specs.declared.shape.Shape.{Shape}
+use Rattle.design.proofs.Positions.{expressions-order}
 use Rattle.design.proofs.Indexed.{invariant-got, invariant-some}
 use Rattle.design.proofs.Widths.{layout-is}
 use Rattle.step.specs.Ready.{ReadyState}
@@ -31,13 +32,14 @@ pub same-layout : (file : List ℕ) (d : Design) (w : Parts file d) (h : Shape) 
 same-layout file d w h s = layout-is file d w (h .variables) (h .matrices) (s .variables) (s .matrices)
 
 pub invariant-property : (file : List ℕ) (d : Design) (w : Parts file d) (h : Shape) → Shaped file h → (p : ℕ) → p ≡ 0 → (s : State) (r : Bool) → r ≡ evalBool (layoutOf h) s (d .invariant) → r ≡ holds d (propertyOf d p) s
-unfolding holds propertyOf
+unfolding trueAt propertyOf
 invariant-property file d w h q p z s r k = k ∙ ap (λ (l : Layout). evalBool l s (d .invariant)) (same-layout file d w h q) ∙ ap (λ (j : ℕ). holds d (propertyOf d j) s) (sym z)
 
-pub invalid-property : (file : List ℕ) (d : Design) (w : Parts file d) (h : Shape) → Shaped file h → (p : ℕ) → (p ≡ 0 → ⊥) → (s : State) (r : Bool) → r ≡ noInvalid (layoutOf h) s (d .invalid) → r ≡ holds d (propertyOf d p) s
-unfolding holds propertyOf
-invalid-property file d w h q zero z s r k = absurd (z refl)
-invalid-property file d w h q (suc p) z s r k = k ∙ ap (λ (l : Layout). noInvalid l s (d .invalid)) (same-layout file d w h q)
+pub invalid-property : (file : List ℕ) (d : Design) (w : Parts file d) (h : Shape) → Shaped file h → (p : ℕ) → (p ≡ 0 → ⊥) → p ≤ lastStateProperty → (s : State) (r : Bool) → r ≡ noInvalid (layoutOf h) s (d .invalid) → r ≡ holds d (propertyOf d p) s
+unfolding trueAt propertyOf
+invalid-property file d w h q zero z l s r k = absurd (z refl)
+invalid-property file d w h q (suc (suc p)) z l s r k = absurd (omega arith)
+invalid-property file d w h q (suc zero) z l s r k = k ∙ ap (λ (l : Layout). noInvalid l s (d .invalid)) (same-layout file d w h q)
 
 -- what is left to look at decides as the whole does
 pub record Scanning (file : List ℕ) (h : Shape) (slots : State) (p i : ℕ) : Type 0 where
@@ -56,10 +58,14 @@ module _ (file events′ : List ℕ) (h : Shape) (slots : State) (ready : ReadyS
   tree : Tree file
   tree = read file (ready .indexed .accepted)
 
-  pub invariant-reads : (at end : ℕ) → at ≡ invariantOffset file → end ≡ trailer file → isRead (boolExpr file N end maxDepth at) ≡ true
+  -- where the invariant ends
+  pub invariant-ends : constraintOffset file ≤ length file
+  invariant-ends = let e = expressions-order file (tree .tree) (tree .all .parts) .1 in omega arith
+
+  pub invariant-reads : (at end : ℕ) → at ≡ invariantOffset file → end ≡ constraintOffset file → isRead (boolExpr file N end maxDepth at) ≡ true
   invariant-reads at end a e = ap isRead (invariant-some file (ready .indexed .accepted) h (ready .indexed .shaped) at end a e .1)
 
-  pub invariant-value : (at end : ℕ) → at ≡ invariantOffset file → end ≡ trailer file → (r : Bool) → r ≡ boolValue (layoutOf h) slots (boolExpr file N end maxDepth at) → (d : Design) (w : Parts file d) → r ≡ evalBool (layoutOf h) slots (d .invariant)
+  pub invariant-value : (at end : ℕ) → at ≡ invariantOffset file → end ≡ constraintOffset file → (r : Bool) → r ≡ boolValue (layoutOf h) slots (boolExpr file N end maxDepth at) → (d : Design) (w : Parts file d) → r ≡ evalBool (layoutOf h) slots (d .invariant)
   invariant-value at end a e r v d w = v ∙ ap (boolValue (layoutOf h) slots) (invariant-got file (ready .indexed .accepted) h (ready .indexed .shaped) at end a e d w)
 
   abbrev l : Layout
@@ -86,11 +92,11 @@ module _ (file events′ : List ℕ) (h : Shape) (slots : State) (ready : ReadyS
     split d w = drop-cons (w .entries) i none (omega (arith, w .cell-count))
 
     -- an entry by its kind
-    is-normal : (f : ℕ → ℕ → BoolExpr) (x : Entry) (es : List Entry) → EntryRead file (trailer file) (names file) (matricesOffset file) f p (c-kind file p) x → c-kind file p ≡ 0 → noInvalid l slots (invalids (x ∷ es)) ≡ noInvalid l slots (invalids es)
+    is-normal : (f : ℕ → ℕ → BoolExpr) (x : Entry) (es : List Entry) → EntryRead file (itemsEnd file) (names file) (matricesOffset file) f p (c-kind file p) x → c-kind file p ≡ 0 → noInvalid l slots (invalids (x ∷ es)) ≡ noInvalid l slots (invalids es)
     is-normal f (normal c) es r e = refl
     is-normal f (invalid q) es r e = absurd (r .0 e)
 
-    is-invalid : (f : ℕ → ℕ → BoolExpr) (x : Entry) (es : List Entry) → EntryRead file (trailer file) (names file) (matricesOffset file) f p (c-kind file p) x → (c-kind file p ≡ 0 → ⊥)
+    is-invalid : (f : ℕ → ℕ → BoolExpr) (x : Entry) (es : List Entry) → EntryRead file (itemsEnd file) (names file) (matricesOffset file) f p (c-kind file p) x → (c-kind file p ≡ 0 → ⊥)
         → noInvalid l slots (invalids (x ∷ es)) ≡ (not (statusAndEvent l slots (c-matrix file p) (c-status file p) (f (c-matrix file p) (c-event file p))) && noInvalid l slots (invalids es))
     is-invalid f (normal c) es r e = absurd (e (r .0))
     is-invalid f (invalid q) es r e =

@@ -10,14 +10,16 @@ use lib.ListN.{getD}
 use lib.Dec.{ltb, leb, eqb}
 use borrow.Author.Tests.{ltb-true, leb-true, lt-ltb}
 use Rattle.design.specs.Tree.{IntExpr, BoolExpr, constant, variable, status, sum, difference, constantB, variableB, notB, andB, orB, equal, less, truth}
-use Rattle.design.specs.State.{State, Layout}
+use Rattle.design.specs.State.{State, Layout, slotCount}
 use Rattle.design.specs.Reading.{Read, got, bind}
-use Rattle.design.specs.Expression.{Names, IntOp, BoolOp, intOp, boolOp, intOf, boolOf, intExpr, boolExpr}
+use Rattle.design.specs.Check.{namesOf}
+use Rattle.design.specs.Expression.{Names, withLater, IntOp, BoolOp, intOp, boolOp, legal, numbered, intOf, boolOf, intExpr, boolExpr}
+use Rattle.design.specs.declared.shape.Shape.{Shape}
 use Rattle.design.proofs.Forward.{int-on, bool-on}
 use Rattle.design.proofs.Readers.{int-step, int-none, bool-step, bool-none}
 use Rattle.step.specs.Pattern.{plus, minus, below}
 use Rattle.step.specs.Evaluation.{evalInt, evalBool}
-use Rattle.step.specs.Accepted.{isRead, past, valueOf, intValue, boolValue}
+use Rattle.step.specs.Accepted.{slotsNeeded, isRead, past, valueOf, intValue, boolValue}
 use Rattle.step.proofs.Accepted.{read-found, provided-read, bind-read, one-first, one-past, one-value, two, two-first, two-second, two-past, two-value}
 
 one-of-two : (b k : ℕ) → k ≤ b → b < k + 2 → (b ≡ k) ⊎ (b ≡ k + 1)
@@ -27,6 +29,31 @@ one-of-two b k p q = ⊎-elim (λ e. inl (sym e)) (λ l. inr (omega arith)) (eq-
 pub truth-test : (n : ℕ) → ltb 0 n ≡ truth n
 truth-test zero = refl
 truth-test (suc n) = lt-ltb 0 (suc n) (omega arith)
+
+-- the operators that name a slot, of the state or of the next one: an integer, a status, a Boolean
+abbrev pub integerByte : Bool → ℕ
+integerByte next = cond next 0x06 0x02
+
+abbrev pub statusByte : Bool → ℕ
+statusByte next = cond next 0x07 0x03
+
+abbrev pub booleanByte : Bool → ℕ
+booleanByte next = cond next 0x17 0x11
+
+op-integer : (next : Bool) → intOp (integerByte next) ≡ IntOp.op-variable next
+unfolding intOp
+op-integer true = refl
+op-integer false = refl
+
+op-status : (next : Bool) → intOp (statusByte next) ≡ IntOp.op-status next
+unfolding intOp
+op-status true = refl
+op-status false = refl
+
+op-boolean : (next : Bool) → boolOp (booleanByte next) ≡ BoolOp.op-variable next
+unfolding boolOp
+op-boolean true = refl
+op-boolean false = refl
 
 -- the operators with two operands, by the byte
 abbrev pub arithmeticOf : ℕ → IntExpr → IntExpr → IntExpr
@@ -114,27 +141,32 @@ module _ (text : List ℕ) (N : Names) (end : ℕ) where
         let p = bind-read (leb (at + 1 + 2) end) _ _ (sym (ap isRead q) ∙ h) in
         (leb-true _ _ (p .0), q ∙ p .1)
 
-    pub int-variable : getD text at 0 ≡ 0x02 → (at + 1 < end) × (getD text (at + 1) 0 < N .variables) × (I d at ≡ got (variable (getD text (at + 1) 0)) (at + 1 + 1))
-    unfolding intOp
-    int-variable e =
-        let q = i-step IntOp.op-variable (ap intOp e) in
+    -- what stands behind an operator that names a slot: its number, of one that is there, and that it may be named here
+    pub int-variable : (next : Bool) → getD text at 0 ≡ integerByte next
+        → (at + 1 < end) × (getD text (at + 1) 0 < N .variables) × (I d at ≡ got (variable (numbered text N end next (getD text (at + 1) 0))) (at + 1 + 1)) × (legal text N end next ≡ true)
+    int-variable next e =
+        let q = i-step (IntOp.op-variable next) (ap intOp e ∙ op-integer next) in
         let p = bind-read (ltb (at + 1) end) _ _ (sym (ap isRead q) ∙ h) in
         let a = sym (ap isRead (q ∙ p .1)) ∙ h in
-        let p₁ = provided-read (ltb (getD text (at + 1) 0) (N .variables)) _ a in
-        let a₁ = sym (ap isRead (p₁ .1)) ∙ a in
+        let p₀ = provided-read (legal text N end next) _ a in
+        let a₀ = sym (ap isRead (p₀ .1)) ∙ a in
+        let p₁ = provided-read (ltb (getD text (at + 1) 0) (N .variables)) _ a₀ in
+        let a₁ = sym (ap isRead (p₁ .1)) ∙ a₀ in
         let p₂ = provided-read (eqb (N .kindOf (getD text (at + 1) 0)) 1) _ a₁ in
-        (ltb-true _ _ (p .0), ltb-true _ _ (p₁ .0), q ∙ p .1 ∙ p₁ .1 ∙ p₂ .1)
+        (ltb-true _ _ (p .0), ltb-true _ _ (p₁ .0), q ∙ p .1 ∙ p₀ .1 ∙ p₁ .1 ∙ p₂ .1, p₀ .0)
 
-    pub int-status : getD text at 0 ≡ 0x03 → (at + 1 < end) × (getD text (at + 1) 0 < N .matrices) × (I d at ≡ got (status (getD text (at + 1) 0)) (at + 1 + 1))
-    unfolding intOp
-    int-status e =
-        let q = i-step IntOp.op-status (ap intOp e) in
+    pub int-status : (next : Bool) → getD text at 0 ≡ statusByte next
+        → (at + 1 < end) × (getD text (at + 1) 0 < N .matrices) × (I d at ≡ got (status (numbered text N end next (getD text (at + 1) 0))) (at + 1 + 1)) × (legal text N end next ≡ true)
+    int-status next e =
+        let q = i-step (IntOp.op-status next) (ap intOp e ∙ op-status next) in
         let p = bind-read (ltb (at + 1) end) _ _ (sym (ap isRead q) ∙ h) in
         let a = sym (ap isRead (q ∙ p .1)) ∙ h in
-        let p₁ = provided-read (ltb (getD text (at + 1) 0) (N .matrices)) _ a in
-        (ltb-true _ _ (p .0), ltb-true _ _ (p₁ .0), q ∙ p .1 ∙ p₁ .1)
+        let p₀ = provided-read (legal text N end next) _ a in
+        let a₀ = sym (ap isRead (p₀ .1)) ∙ a in
+        let p₁ = provided-read (ltb (getD text (at + 1) 0) (N .matrices)) _ a₀ in
+        (ltb-true _ _ (p .0), ltb-true _ _ (p₁ .0), q ∙ p .1 ∙ p₀ .1 ∙ p₁ .1, p₀ .0)
 
-    pub int-unknown : (getD text at 0 < 1) ⊎ (6 ≤ getD text at 0) → ⊥
+    pub int-unknown : (getD text at 0 < 1) ⊎ (8 ≤ getD text at 0) → ⊥
     int-unknown s = false≢true (sym (ap isRead (i-step IntOp.op-unknown (int-none (getD text at 0) s))) ∙ h)
 
     module _ (lo : 0x04 ≤ getD text at 0) (hi : getD text at 0 < 0x06) where
@@ -172,18 +204,20 @@ module _ (text : List ℕ) (N : Names) (end : ℕ) where
         let p₁ = provided-read (leb (getD text (at + 1) 0) 1) _ a in
         (ltb-true _ _ (p .0), q ∙ p .1 ∙ p₁ .1)
 
-    pub bool-variable : getD text at 0 ≡ 0x11 → (at + 1 < end) × (getD text (at + 1) 0 < N .variables) × (B d at ≡ got (variableB (getD text (at + 1) 0)) (at + 1 + 1))
-    unfolding boolOp
-    bool-variable e =
-        let q = b-step BoolOp.op-variable (ap boolOp e) in
+    pub bool-variable : (next : Bool) → getD text at 0 ≡ booleanByte next
+        → (at + 1 < end) × (getD text (at + 1) 0 < N .variables) × (B d at ≡ got (variableB (numbered text N end next (getD text (at + 1) 0))) (at + 1 + 1)) × (legal text N end next ≡ true)
+    bool-variable next e =
+        let q = b-step (BoolOp.op-variable next) (ap boolOp e ∙ op-boolean next) in
         let p = bind-read (ltb (at + 1) end) _ _ (sym (ap isRead q) ∙ h) in
         let a = sym (ap isRead (q ∙ p .1)) ∙ h in
-        let p₁ = provided-read (ltb (getD text (at + 1) 0) (N .variables)) _ a in
-        let a₁ = sym (ap isRead (p₁ .1)) ∙ a in
+        let p₀ = provided-read (legal text N end next) _ a in
+        let a₀ = sym (ap isRead (p₀ .1)) ∙ a in
+        let p₁ = provided-read (ltb (getD text (at + 1) 0) (N .variables)) _ a₀ in
+        let a₁ = sym (ap isRead (p₁ .1)) ∙ a₀ in
         let p₂ = provided-read (not (eqb (N .kindOf (getD text (at + 1) 0)) 1)) _ a₁ in
-        (ltb-true _ _ (p .0), ltb-true _ _ (p₁ .0), q ∙ p .1 ∙ p₁ .1 ∙ p₂ .1)
+        (ltb-true _ _ (p .0), ltb-true _ _ (p₁ .0), q ∙ p .1 ∙ p₀ .1 ∙ p₁ .1 ∙ p₂ .1, p₀ .0)
 
-    pub bool-unknown : (getD text at 0 < 0x10) ⊎ (0x17 ≤ getD text at 0) → ⊥
+    pub bool-unknown : (getD text at 0 < 0x10) ⊎ (0x18 ≤ getD text at 0) → ⊥
     bool-unknown s = false≢true (sym (ap isRead (b-step BoolOp.op-unknown (bool-none (getD text at 0) s))) ∙ h)
 
     module _ (e : getD text at 0 ≡ 0x12) where
@@ -240,3 +274,28 @@ module _ (text : List ℕ) (N : Names) (end : ℕ) where
 
       pub compare-pair : (l : Layout) (s : State) (r₁ n₁ r₂ n₂ : ℕ) → r₁ ≡ intValue l s (I (d - 1) (at + 1)) → n₁ ≡ past (I (d - 1) (at + 1)) → r₂ ≡ intValue l s (I (d - 1) n₁) → n₂ ≡ past (I (d - 1) n₁) → (cond (eqb (getD text at 0) 0x15) (eqb r₁ r₂) (below r₁ r₂) ≡ boolValue l s (B d at)) × (n₂ ≡ past (B d at))
       compare-pair l s = b-pair (I (d - 1)) (compareOf (getD text at 0)) b-compare l s (evalInt l s) 0 (λ x y. cond (eqb (getD text at 0) 0x15) (eqb x y) (below x y)) (compare-value (getD text at 0) l s)
+
+-- what the evaluators are given: names by which the reader accepts, of some file, and a slot for each
+abbrev Given : {A : Type 0} → (List ℕ → Names → ℕ → ℕ → ℕ → Read A) → List ℕ → Shape → ℕ → ℕ → ℕ → Type 0
+Given reader text h end at n =
+    (file : List ℕ) × (d : ℕ) × (later : Bool) × (slotsNeeded later h ≤ n) × (isRead (reader text (withLater later (namesOf file h)) end d at) ≡ true)
+
+-- a slot of the state, or where that is legal of the next one, is there
+slot-there : (later next : Bool) (h : Shape) (i n : ℕ) → (not next || later) ≡ true → slotsNeeded later h ≤ n → i < slotCount h → cond next (slotCount h + i) i < n
+slot-there true true h i n e q l = omega arith
+slot-there true false h i n e q l = omega arith
+slot-there false true h i n e q l = absurd (false≢true e)
+slot-there false false h i n e q l = omega arith
+
+module _ (text : List ℕ) (h : Shape) (end at n : ℕ) where
+  abbrev v : ℕ
+  v = getD text (at + 1) 0
+
+  pub integer-slot : Given intExpr text h end at n → (next : Bool) → getD text at 0 ≡ integerByte next → cond next (slotCount h + v) v < n
+  integer-slot (file, d, later, q, r) next e = let k = int-variable text (withLater later (namesOf file h)) end d at r next e in slot-there later next h v n (k .3) q (omega (arith, k .1))
+
+  pub status-slot : Given intExpr text h end at n → (next : Bool) → getD text at 0 ≡ statusByte next → cond next (slotCount h + (h .variables + v)) (h .variables + v) < n
+  status-slot (file, d, later, q, r) next e = let k = int-status text (withLater later (namesOf file h)) end d at r next e in slot-there later next h (h .variables + v) n (k .3) q (omega (arith, k .1))
+
+  pub boolean-slot : Given boolExpr text h end at n → (next : Bool) → getD text at 0 ≡ booleanByte next → cond next (slotCount h + v) v < n
+  boolean-slot (file, d, later, q, r) next e = let k = bool-variable text (withLater later (namesOf file h)) end d at r next e in slot-there later next h v n (k .3) q (omega (arith, k .1))

@@ -1,12 +1,17 @@
 -- What contracts of code that walks accepted bytes say: of what a reader found there, its value and the position past it.
-use mathlib.Core.Bool.{Bool, true, false}
-use Prim.Native.Nat.{ℕ}
+use mathlib.Core.Bool.{Bool, true, false, cond}
+use Prim.Native.Nat.{ℕ, _+_}
 use Rattle.design.specs.Tree.{IntExpr, BoolExpr, Stmt, Stmts}
-use Rattle.design.specs.State.{State, Layout}
+use Rattle.design.specs.State.{State, Layout, slotCount}
+use Rattle.design.specs.declared.shape.Shape.{Shape}
 pub use Rattle.design.specs.State.{layoutOf}
 use Rattle.design.specs.Reading.{Read, got, bad}
 use Rattle.step.specs.Evaluation.{evalInt, evalBool}
 use Rattle.step.specs.OneStep.{execute, executeAll}
+
+-- how many slots an expression may read: those of a state, or where it may read the next state too those of two
+abbrev pub slotsNeeded : Bool → Shape → ℕ
+slotsNeeded later h = cond later (slotCount h + slotCount h) (slotCount h)
 
 abbrev pub isRead : {A : Type 0} → Read A → Bool
 isRead (got a n) = true

@@ -9,12 +9,12 @@ use Rattle.step.specs.Limits.{lastProperty, maxBound}
 use Rattle.step.specs.Property.{Property, propertyOf}
 
 module _ {A : Type 0} where
-  -- CHECK's refusal; "13 property over 1; 14 over 100 choices", or "14 bound over 100"; "Places not named are 0." Then what the call answers of the
-  -- design and the property. `k` is the bound; of REPLAY it is the number of choices.
+  -- CHECK's refusal; "13 property over 1; 14 over 100 choices", or "14 bound over 100"; "Places not named are 0." With a constraint 13 is for a property over 2
+  -- (document 02, R-1). Then what the call answers of the design and the property. `k` is the bound; of REPLAY it is the number of choices.
   unfoldable pub gate : List ℕ → ℕ → ℕ → (Design → Property → Answer A) → Answer A
   gate file p k call =
       onDesign file λ d.
-      need (leb p lastProperty) 13 0
+      need (leb p (lastProperty file)) 13 0
       (need (leb k maxBound) 14 0
       (call d (propertyOf d p)))
 

@@ -1,14 +1,14 @@
 -- What one step does, what a list of choices does, and what it breaks (document 01, "One step").
 use mathlib.Core.Bool.{Bool, true, not, _&&_, _||_, cond}
-use mathlib.Core.List.{List, [], _∷_}
+use mathlib.Core.List.{List, [], _∷_, _++_}
 use mathlib.Core.Option.{Option, none, some}
-use Prim.Native.Nat.{ℕ}
+use Prim.Native.Nat.{ℕ, zero, suc}
 use lib.Dec.{leb, eqb}
 use lib.ListN.{length, getD, set, take, getElem?}
 use Rattle.design.specs.Tree.{BoolExpr, Stmt, Stmts, assign, assignB, ifElse, done, then, InvalidCell, Design, Mover, cell, raise, movers, truth, bit}
 use Rattle.design.specs.State.{State, Layout, layout, statusSlot, start}
 use Rattle.step.specs.Evaluation.{evalInt, evalBool}
-use Rattle.step.specs.Property.{Property, invariant, noInvalidCell, propertyOf}
+use Rattle.step.specs.Property.{Property, invariant, noInvalidCell, constraint, propertyOf}
 
 -- "its statements run in order, each reading what earlier ones left"
 unfoldable mutual
@@ -66,24 +66,36 @@ module _ (d : Design) where
   run s [] = s
   run s (c ∷ cs) = run (step s c) cs
 
-  -- whether a property is true in a state
-  unfoldable pub holds : Property → State → Bool
-  holds (invariant e) s = evalBool (layout d) s e
-  holds noInvalidCell s = noInvalid (layout d) s (d .invalid)
+  -- Whether a property is true in a state that a run is in, given the state before it, which the first state has not. Properties 0 and 1 are about the state itself.
+  -- Property 2 (document 02, R-1) is about two successive states, an idle step's being the same twice: "It can break only at step 1 or later".
+  unfoldable pub trueAt : Property → Option State → State → Bool
+  trueAt (invariant e) before s = evalBool (layout d) s e
+  trueAt noInvalidCell before s = noInvalid (layout d) s (d .invalid)
+  trueAt (constraint e) none s = true
+  trueAt (constraint e) (some r) s = evalBool (layout d) (r ++ s) e
+
+  -- in a state alone
+  abbrev pub holds : Property → State → Bool
+  holds p s = trueAt p none s
+
+  -- the state before the one after so many choices
+  unfoldable pub stateBefore : Option State → State → List ℕ → ℕ → Option State
+  stateBefore before s cs zero = before
+  stateBefore before s cs (suc i) = some (run s (take i cs))
 
   -- "It breaks the property at step i if the property is false after its first i choices; step 0 is the first state."
   unfoldable pub breaksAt : Property → List ℕ → ℕ → Bool
-  breaksAt p cs i = leb i (length cs) && not (holds p (run (start d) (take i cs)))
+  breaksAt p cs i = leb i (length cs) && not (trueAt p (stateBefore none (start d) cs i) (run (start d) (take i cs)))
 
   -- "A list of choices breaks a property if it is false in the first state or after any choice."
-  unfoldable pub breaksFrom : Property → State → List ℕ → Bool
-  breaksFrom p s [] = not (holds p s)
-  breaksFrom p s (c ∷ cs) = not (holds p s) || breaksFrom p (step s c) cs
+  unfoldable pub breaksFrom : Property → Option State → State → List ℕ → Bool
+  breaksFrom p before s [] = not (trueAt p before s)
+  breaksFrom p before s (c ∷ cs) = not (trueAt p before s) || breaksFrom p (some s) (step s c) cs
 
   unfoldable pub breaks : Property → List ℕ → Bool
-  breaks p cs = breaksFrom p (start d) cs
+  breaks p cs = breaksFrom p none (start d) cs
 
 -- Not part of the step rule: to unfold this is to unfold all of it, for facts about given designs.
 unfoldable pub stepping : ℕ
-unfolding evalInt evalBool execute executeAll enabled effect move step idle run propertyOf holds breaksAt breaksFrom breaks movers layout start
+unfolding evalInt evalBool execute executeAll enabled effect move step idle run propertyOf trueAt stateBefore breaksAt breaksFrom breaks movers layout start
 stepping = 0

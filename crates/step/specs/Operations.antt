@@ -12,9 +12,9 @@ use Rattle.design.specs.State.{State, start}
 use Rattle.design.specs.Limits.{maxVariables, maxMatrices}
 use Rattle.design.specs.Answer.{Answer, refused, answer, need, onDesign}
 use Rattle.design.specs.declared.Refusal.{Refusal}
-use Rattle.step.specs.Limits.{lastProperty}
+use Rattle.step.specs.Limits.{lastStateProperty}
 use Rattle.step.specs.Property.{Property, propertyOf}
-use Rattle.step.specs.OneStep.{step, idle, holds}
+use Rattle.step.specs.OneStep.{step, idle, trueAt, holds}
 use Rattle.step.specs.Gate.{gate}
 use Rattle.step.specs.Interface.{firstWrong, entriesRight, slotsGiven, StateEntries, entriesOf}
 use Rattle.step.specs.declared.Started.{Started}
@@ -60,12 +60,12 @@ stepped (answer (e, i)) = record { refusal = refusedAt 0 0; values = e .values; 
 unfoldable pub STEP : List ℕ → List ℤ → List ℕ → ℕ → Stepped
 STEP file values statuses choice = stepped (stepAnswer file values statuses choice)
 
--- HOLDS "(a state and a property: 11; 13) answers whether the property is true there".
+-- HOLDS "(a state and a property: 11; 13) answers whether the property is true there". Property 2 is about two states, and gets 13 here.
 abbrev pub holdsAnswer : List ℕ → List ℤ → List ℕ → ℕ → Answer Bool
 holdsAnswer file values statuses p =
     onDesign file λ d.
     need (allRight (entriesRight d values statuses)) 11 (firstWrong (entriesRight d values statuses))
-    (need (leb p lastProperty) 13 0
+    (need (leb p lastStateProperty) 13 0
     (answer (holds d (propertyOf d p) (slotsGiven d values statuses))))
 
 abbrev pub held : Answer Bool → Held
@@ -75,11 +75,11 @@ held (answer t) = record { refusal = refusedAt 0 0; holds = t }
 unfoldable pub HOLDS : List ℕ → List ℤ → List ℕ → ℕ → Held
 HOLDS file values statuses p = held (holdsAnswer file values statuses p)
 
--- the first step, from step i on, at which the property is false
+-- the first step, from step i on, at which the property is false; `before` is the state before step i
 module _ (d : Design) (q : Property) where
-  unfoldable pub firstBreak : State → List ℕ → ℕ → Option ℕ
-  firstBreak s [] i = cond (holds d q s) none (some i)
-  firstBreak s (c ∷ cs) i = cond (holds d q s) (firstBreak (step d s c) cs (suc i)) (some i)
+  unfoldable pub firstBreak : Option State → State → List ℕ → ℕ → Option ℕ
+  firstBreak before s [] i = cond (trueAt d q before s) none (some i)
+  firstBreak before s (c ∷ cs) i = cond (trueAt d q before s) (firstBreak (some s) (step d s c) cs (suc i)) (some i)
 
 abbrev pub choicesRight : Design → List ℕ → List Bool
 choicesRight d cs = map (λ (c : ℕ). ltb c (length (movers d))) cs
@@ -89,7 +89,7 @@ abbrev pub replayAnswer : List ℕ → ℕ → List ℕ → Answer (Option ℕ)
 replayAnswer file p cs =
     gate file p (length cs) λ d q.
     need (allRight (choicesRight d cs)) 12 (firstWrong (choicesRight d cs))
-    (answer (firstBreak d q (start d) cs 0))
+    (answer (firstBreak d q none (start d) cs 0))
 
 abbrev pub replayed : Answer (Option ℕ) → Replayed
 replayed (refused number place) = record { refusal = refusedAt number place; broken = false; step = 0 }

@@ -1,8 +1,10 @@
--- What inner functions are given: an accepted file with its table of events and its shape, and a state of its size.
+-- What inner functions are given: an accepted file with its table of events and its shape, and a state of its size, or two.
 use mathlib.Core.Path.{_≡_}
+use mathlib.Core.Bool.{Bool, true, false}
 use mathlib.Core.List.{List}
+use mathlib.Core.Option.{Option, none, some}
 use Prim.Native.Nat.{ℕ, _+_, _<_, _≤_}
-use lib.ListN.{length, getD}
+use lib.ListN.{length, getD, take}
 use Rattle.design.specs.State.{State, slotCount}
 use Rattle.design.specs.Places.{Indexed, MoversIndexed}
 use Rattle.step.specs.Limits.{maxBound}
@@ -12,9 +14,19 @@ pub record ReadyState (file table : List ℕ) (h : Shape) (slots : State) : Type
   pub indexed : Indexed file table h
   pub size : length slots ≡ slotCount h
 
+-- a pair of states, one behind the other: the state before, and the state now
+pub record ReadyPair (file table : List ℕ) (h : Shape) (pair : State) : Type 0 where
+  pub indexed : Indexed file table h
+  pub size : length pair ≡ slotCount h + slotCount h
+
+-- the state before, of a pair of states of so many slots; at the first step there is none
+abbrev pub beforeIn : Bool → ℕ → State → Option State
+beforeIn true n pair = none
+beforeIn false n pair = some (take n pair)
+
 -- what the walk over a list of choices is given: both tables, and choices that are few and name movers
-pub record Replayable (file events cells : List ℕ) (h : Shape) (slots : State) (choices : List ℕ) : Type 0 where
-  pub ready : ReadyState file events h slots
+pub record Replayable (file events cells : List ℕ) (h : Shape) (pair : State) (choices : List ℕ) : Type 0 where
+  pub ready : ReadyPair file events h pair
   pub movers : MoversIndexed file cells h
   pub few : length choices ≤ maxBound
   pub named : (i : ℕ) → i < length choices → getD choices i 0 < h .normals + h .externals

@@ -4,6 +4,7 @@ ghost use mathlib.Core.List.{_++_};
 ghost use Prim.Native.Nat.{_+_, _≤_, _<_};
 ghost use lib.ListN.{length, take, replicate};
 ghost use Rattle.design.specs.Limits.{maxVariables, maxMatrices};
+ghost use Rattle.step.specs.Limits.{lastStateProperty};
 ghost use Rattle.design.specs.Tree.{Design};
 ghost use Rattle.design.specs.State.{slotCount};
 ghost use Rattle.design.specs.Check.{check, accepted};
@@ -22,7 +23,7 @@ use super::interface::give_statuses;
 use super::interface::give_values;
 use super::interface::patterns;
 use super::interface::wrong_entry;
-use super::limits::LAST_PROPERTY;
+use super::limits::LAST_STATE_PROPERTY;
 use super::mover::move_chosen;
 use super::property::property_true;
 use super::replaying::load_start;
@@ -177,7 +178,7 @@ pub fn holds_slots(
     ss: [u16; MAX_MATRICES],
     slots: &mut [u16],
 ) -> bool
-    requires { ⌜ ReadyState (now file) (now events) shape (now slots) ⌝ }
+    requires { ⌜ ReadyState (now file) (now events) shape (now slots) × (property ≤ lastStateProperty) ⌝ }
     ensures { λ r. ⌜ ((d : Design) (parts : Parts (now (file .entry)) d) → r ≡ holdsIn d (propertyOf d property) (take (shape .variables) ps ++ take (shape .matrices) ss)) ⌝ }
 {
     load_entries(shape, ps, ss, slots);
@@ -192,7 +193,7 @@ pub fn holds_right(
     ps: [u16; MAX_VARIABLES],
     ss: [u16; MAX_MATRICES],
 ) -> bool
-    requires { ⌜ Accepted (now file) × Shaped (now file) shape ⌝ }
+    requires { ⌜ Accepted (now file) × Shaped (now file) shape × (property ≤ lastStateProperty) ⌝ }
     ensures { λ r. ⌜ ((d : Design) (parts : Parts (now (file .entry)) d) → r ≡ holdsIn d (propertyOf d property) (take (shape .variables) ps ++ take (shape .matrices) ss)) ⌝ }
 {
     let mut events = [0u16; EVENT_PLACES];
@@ -217,7 +218,7 @@ pub fn holds_accepted(
     if wrong < MAX_SLOTS {
         return refuse_holds(11, wrong);
     }
-    if LAST_PROPERTY < property {
+    if LAST_STATE_PROPERTY < property {
         return refuse_holds(13, 0);
     }
     let holds = holds_right(file, shape, property, ps, statuses);

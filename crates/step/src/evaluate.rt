@@ -1,17 +1,18 @@
 // The values of expressions in a state, over the bytes: a decision over the operator byte, with ranges for operators of one shape.
 // In every function: `text` holds the expression; what is read starts at `at` and does not pass `end`; `shape` has the numbers of variables and
-// matrices; `slots` has the state. The reader has seen the variables' kinds, in whatever file they stand, and the depth: neither is needed again.
+// matrices; `slots` has the state, and behind it the next state where the expression may read it. The reader has seen the variables' kinds, in
+// whatever file they stand, and the depth: neither is needed again.
 ghost use mathlib.Core.Path.{_≡_};
-ghost use mathlib.Core.Bool.{true, cond, _&&_, _||_};
+ghost use mathlib.Core.Bool.{Bool, true, cond, _&&_, _||_};
 ghost use mathlib.Core.List.{List};
 ghost use Prim.Native.Nat.{ℕ, _+_, _≤_};
 ghost use lib.ListN.{length};
 ghost use lib.Dec.{eqb};
-ghost use Rattle.design.specs.Expression.{intExpr, boolExpr};
+ghost use Rattle.design.specs.Expression.{withLater, intExpr, boolExpr};
 ghost use Rattle.design.specs.Check.{namesOf};
-ghost use Rattle.design.specs.State.{slotCount, layoutOf};
+ghost use Rattle.design.specs.State.{layoutOf};
 ghost use Rattle.step.specs.Pattern.{plus, minus, below};
-ghost use Rattle.step.specs.Accepted.{isRead, past, intValue, boolValue};
+ghost use Rattle.step.specs.Accepted.{slotsNeeded, isRead, past, intValue, boolValue};
 use super::number::below16;
 use super::number::minus16;
 use super::number::plus16;
@@ -73,10 +74,11 @@ pub fn compare(op: u8, a: u16, b: u16) -> bool
 
 // The integer expression at `at`, which the reader accepts.
 pub fn eval_int(text: &[u8], at: usize, end: usize, shape: Shape, slots: &[u16]) -> IntAt
-    requires { ⌜ ((file : List ℕ) × (depth : ℕ) × (isRead (intExpr (now text) (namesOf file shape) end depth at) ≡ true)) × (end ≤ length (now text)) × (slotCount shape ≤ length (now slots)) ⌝ }
-    ensures { λ r. ⌜ ((file : List ℕ) (depth : ℕ) → isRead (intExpr (now (text .entry)) (namesOf file shape) end depth at) ≡ true
-        → (r .value ≡ intValue (layoutOf shape) (now (slots .entry)) (intExpr (now (text .entry)) (namesOf file shape) end depth at))
-        × (r .next ≡ past (intExpr (now (text .entry)) (namesOf file shape) end depth at))) ⌝ }
+    requires { ⌜ ((file : List ℕ) × (depth : ℕ) × (later : Bool) × (slotsNeeded later shape ≤ length (now slots))
+        × (isRead (intExpr (now text) (withLater later (namesOf file shape)) end depth at) ≡ true)) × (end ≤ length (now text)) ⌝ }
+    ensures { λ r. ⌜ ((file : List ℕ) (depth : ℕ) (later : Bool) → isRead (intExpr (now (text .entry)) (withLater later (namesOf file shape)) end depth at) ≡ true
+        → (r .value ≡ intValue (layoutOf shape) (now (slots .entry)) (intExpr (now (text .entry)) (withLater later (namesOf file shape)) end depth at))
+        × (r .next ≡ past (intExpr (now (text .entry)) (withLater later (namesOf file shape)) end depth at))) ⌝ }
 {
     let op = text[at];
     let p = at + 1;
@@ -95,16 +97,28 @@ pub fn eval_int(text: &[u8], at: usize, end: usize, shape: Shape, slots: &[u16])
             let b = eval_int(text, a.next, end, shape, slots);
             int_at(arithmetic(op, a.value, b.value), b.next)
         }
+        0x06 => {
+            let v = wide(text[p]);
+            int_at(slots[shape.variables + shape.matrices + v], p + 1)
+        }
+        0x07 => {
+            let m = wide(text[p]);
+            int_at(
+                slots[shape.variables + (shape.variables + shape.matrices + m)],
+                p + 1,
+            )
+        }
         _ => int_at(0, at),
     }
 }
 
 // The Boolean expression at `at`, likewise.
 pub fn eval_bool(text: &[u8], at: usize, end: usize, shape: Shape, slots: &[u16]) -> BoolAt
-    requires { ⌜ ((file : List ℕ) × (depth : ℕ) × (isRead (boolExpr (now text) (namesOf file shape) end depth at) ≡ true)) × (end ≤ length (now text)) × (slotCount shape ≤ length (now slots)) ⌝ }
-    ensures { λ r. ⌜ ((file : List ℕ) (depth : ℕ) → isRead (boolExpr (now (text .entry)) (namesOf file shape) end depth at) ≡ true
-        → (r .value ≡ boolValue (layoutOf shape) (now (slots .entry)) (boolExpr (now (text .entry)) (namesOf file shape) end depth at))
-        × (r .next ≡ past (boolExpr (now (text .entry)) (namesOf file shape) end depth at))) ⌝ }
+    requires { ⌜ ((file : List ℕ) × (depth : ℕ) × (later : Bool) × (slotsNeeded later shape ≤ length (now slots))
+        × (isRead (boolExpr (now text) (withLater later (namesOf file shape)) end depth at) ≡ true)) × (end ≤ length (now text)) ⌝ }
+    ensures { λ r. ⌜ ((file : List ℕ) (depth : ℕ) (later : Bool) → isRead (boolExpr (now (text .entry)) (withLater later (namesOf file shape)) end depth at) ≡ true
+        → (r .value ≡ boolValue (layoutOf shape) (now (slots .entry)) (boolExpr (now (text .entry)) (withLater later (namesOf file shape)) end depth at))
+        × (r .next ≡ past (boolExpr (now (text .entry)) (withLater later (namesOf file shape)) end depth at))) ⌝ }
 {
     let op = text[at];
     let p = at + 1;
@@ -127,6 +141,10 @@ pub fn eval_bool(text: &[u8], at: usize, end: usize, shape: Shape, slots: &[u16]
             let a = eval_int(text, p, end, shape, slots);
             let b = eval_int(text, a.next, end, shape, slots);
             bool_at(compare(op, a.value, b.value), b.next)
+        }
+        0x17 => {
+            let v = wide(text[p]);
+            bool_at(0 < slots[shape.variables + shape.matrices + v], p + 1)
         }
         _ => bool_at(false, at),
     }

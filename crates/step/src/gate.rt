@@ -1,8 +1,8 @@
 // CHECK, 13 and 14: what every call with a property and a bound refuses first.
 ghost use mathlib.Core.Path.{_≡_};
 ghost use Rattle.step.specs.Gate.{gateRefusal};
-use super::limits::LAST_PROPERTY;
 use super::limits::MAX_BOUND;
+use super::limits::last_property;
 use design::Refusal;
 
 // The refusal; number 0 is none. REPLAY's bound is its number of choices.
@@ -13,7 +13,7 @@ pub fn gate(file: &[u8], property: u64, bound: u64) -> Refusal
     if checked.number != 0 {
         return checked;
     }
-    if LAST_PROPERTY < property {
+    if last_property(file) < property {
         return Refusal {
             number: 13,
             place: 0,

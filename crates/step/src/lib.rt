@@ -4,7 +4,7 @@ mod evaluate;
 mod execute;
 pub mod gate;
 mod interface;
-mod limits;
+pub mod limits;
 pub mod mover;
 mod number;
 pub mod property;

@@ -1,18 +1,18 @@
 // Movers: a normal cell or an external, enabled or idle. `events` is the table of events; `p` is where a cell stands.
 ghost use mathlib.Core.Path.{_≡_};
 ghost use mathlib.Core.Bool.{not};
-ghost use mathlib.Core.List.{List};
+ghost use mathlib.Core.List.{List, _++_};
 ghost use Prim.Native.Nat.{ℕ, _+_, _*_, _≤_, _<_};
-ghost use lib.ListN.{length, getD};
+ghost use lib.ListN.{length, getD, drop};
 ghost use Rattle.design.specs.Tree.{Design, cell, raise};
 ghost use Rattle.design.specs.DesignFile.{c-matrix, c-status, c-event, events as eventCount};
 ghost use Rattle.design.specs.Check.{matricesOffset, check, accepted, eventIn};
 ghost use Rattle.design.specs.Places.{MoversIndexed};
-ghost use Rattle.design.specs.State.{Layout, layoutOf};
+ghost use Rattle.design.specs.State.{Layout, layoutOf, slotCount};
 ghost use Rattle.design.specs.Sections.{Parts, CellFields, NormalCell};
 ghost use Rattle.step.specs.Evaluation.{evalBool};
 ghost use Rattle.step.specs.OneStep.{statusAndEvent, enabled, move as moves, step, idle};
-ghost use Rattle.step.specs.Ready.{ReadyState};
+ghost use Rattle.step.specs.Ready.{ReadyState, ReadyPair};
 use super::evaluate::eval_bool;
 use super::execute::run_list;
 use design::bytes::wide;
@@ -23,6 +23,7 @@ use design::limits::EVENT_ROW;
 use design::limits::MAX_MOVERS;
 use design::limits::MAX_NEST;
 use design::shape::Shape;
+use design::shape::slot_count;
 
 // Whether event e of matrix m is true.
 pub fn event_true(
@@ -134,4 +135,35 @@ pub fn move_chosen(
     }
     let v = external(file, shape.variables, choice - shape.normals);
     move_external(v, slots)
+}
+
+// The second of two states of n slots is copied over the first.
+pub fn keep_state(pair: &mut [u16], n: usize)
+    requires { ⌜ length (now pair) ≡ n + n ⌝ }
+    ensures { λ r. ⌜ now (pair .exit) ≡ drop n (now (pair .entry)) ++ drop n (now (pair .entry)) ⌝ }
+{
+    let mut i = 0;
+    while i < n {
+        pair[i] = pair[n + i];
+        i = i + 1;
+    }
+}
+
+// The second state of a pair becomes the first, and the mover that the choice names moves in the second; answers whether it was idle.
+pub fn step_pair(
+    file: &[u8],
+    events: &[u16; EVENT_PLACES],
+    cells: &[u16; MAX_MOVERS],
+    shape: Shape,
+    choice: usize,
+    pair: &mut [u16],
+) -> bool
+    requires { ⌜ ReadyPair (now file) (now events) shape (now pair) × MoversIndexed (now file) (now cells) shape × (choice < shape .normals + shape .externals) ⌝ }
+    ensures { λ r. ⌜ ((d : Design) → check (now (file .entry)) ≡ accepted d
+        → (now (pair .exit) ≡ drop (slotCount shape) (now (pair .entry)) ++ step d (drop (slotCount shape) (now (pair .entry))) choice)
+        × (r ≡ idle d (drop (slotCount shape) (now (pair .entry))) choice)) ⌝ }
+{
+    let n = slot_count(shape);
+    keep_state(pair, n);
+    move_chosen(file, events, cells, shape, choice, &mut pair[n..])
 }

@@ -1,24 +1,30 @@
 // The properties. Parameters are those of movers.
 ghost use mathlib.Core.Path.{_≡_};
 ghost use mathlib.Core.List.{List};
-ghost use Prim.Native.Nat.{ℕ};
+ghost use Prim.Native.Nat.{ℕ, _≤_};
+ghost use lib.ListN.{drop};
 ghost use Rattle.design.specs.Tree.{Design};
-ghost use Rattle.design.specs.State.{layoutOf};
+ghost use Rattle.design.specs.State.{layoutOf, slotCount};
 ghost use Rattle.design.specs.Sections.{Parts};
 ghost use Rattle.step.specs.Evaluation.{evalBool};
 ghost use Rattle.step.specs.Property.{propertyOf};
-ghost use Rattle.step.specs.OneStep.{noInvalid, holds};
-ghost use Rattle.step.specs.Ready.{ReadyState};
+ghost use Rattle.step.specs.Limits.{lastStateProperty};
+ghost use Rattle.step.specs.OneStep.{noInvalid, trueAt, holds};
+ghost use Rattle.step.specs.Ready.{ReadyState, ReadyPair, beforeIn};
 use super::evaluate::eval_bool;
+use super::limits::LAST_STATE_PROPERTY;
 use super::mover::status_and_event;
 use design::bytes::wide;
 use design::bytes::word;
 use design::index::CELLS;
 use design::index::CELLS_AT;
+use design::index::constraint;
+use design::index::has_constraint;
 use design::index::invariant;
 use design::index::trailer_word;
 use design::limits::EVENT_PLACES;
 use design::shape::Shape;
+use design::shape::slot_count;
 
 // Whether the invariant is true.
 pub fn invariant_true(file: &[u8], shape: Shape, slots: &[u16]) -> bool
@@ -50,7 +56,7 @@ pub fn no_invalid(file: &[u8], events: &[u16; EVENT_PLACES], shape: Shape, slots
     true
 }
 
-// Property 0 is the invariant, property 1 is about invalid cells.
+// Property 0 is the invariant, property 1 is about invalid cells: both are true or false of one state.
 pub fn property_true(
     file: &[u8],
     events: &[u16; EVENT_PLACES],
@@ -58,7 +64,7 @@ pub fn property_true(
     property: u64,
     slots: &[u16],
 ) -> bool
-    requires { ⌜ ReadyState (now file) (now events) shape (now slots) ⌝ }
+    requires { ⌜ ReadyState (now file) (now events) shape (now slots) × (property ≤ lastStateProperty) ⌝ }
     ensures { λ r. ⌜ ((d : Design) (parts : Parts (now (file .entry)) d) → r ≡ holds d (propertyOf d property) (now (slots .entry))) ⌝ }
 {
     if property == 0 {
@@ -66,4 +72,41 @@ pub fn property_true(
     } else {
         no_invalid(file, events, shape, slots)
     }
+}
+
+// Whether the constraint is true of a pair of states; where the file has none, it is.
+pub fn constraint_true(file: &[u8], shape: Shape, pair: &[u16]) -> bool
+    requires { ⌜ ((table : List ℕ) × ReadyPair (now file) table shape (now pair)) ⌝ }
+    ensures { λ r. ⌜ ((d : Design) (parts : Parts (now (file .entry)) d) → r ≡ evalBool (layoutOf shape) (now (pair .entry)) (d .constraint)) ⌝ }
+{
+    if !has_constraint(file) {
+        return true;
+    }
+    let stands = constraint(file);
+    let x = eval_bool(file, stands.at, stands.end, shape, pair);
+    x.value
+}
+
+// Whether the property is true in the second state of a pair, the first being the state before it. The first state of a run has none before it: there `first` holds,
+// and the constraint is true.
+pub fn true_at(
+    file: &[u8],
+    events: &[u16; EVENT_PLACES],
+    shape: Shape,
+    property: u64,
+    first: bool,
+    pair: &[u16],
+) -> bool
+    requires { ⌜ ReadyPair (now file) (now events) shape (now pair) ⌝ }
+    ensures { λ r. ⌜ ((d : Design) (parts : Parts (now (file .entry)) d)
+        → r ≡ trueAt d (propertyOf d property) (beforeIn first (slotCount shape) (now (pair .entry))) (drop (slotCount shape) (now (pair .entry)))) ⌝ }
+{
+    if property <= LAST_STATE_PROPERTY {
+        let n = slot_count(shape);
+        return property_true(file, events, shape, property, &pair[n..]);
+    }
+    if first {
+        return true;
+    }
+    constraint_true(file, shape, pair)
 }

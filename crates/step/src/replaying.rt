@@ -3,7 +3,7 @@ ghost use mathlib.Core.Path.{_≡_};
 ghost use mathlib.Core.List.{map};
 ghost use mathlib.Core.Option.{none, some};
 ghost use Prim.Native.Nat.{ℕ, _+_, _≤_, _<_};
-ghost use lib.ListN.{length, getD, replicate};
+ghost use lib.ListN.{length, getD, drop, replicate};
 ghost use lib.Dec.{ltb};
 ghost use Rattle.design.specs.Tree.{Design};
 ghost use Rattle.design.specs.State.{start, slotCount};
@@ -16,8 +16,8 @@ ghost use Rattle.step.specs.Property.{propertyOf};
 ghost use Rattle.step.specs.Operations.{firstBreak, replayed, REPLAY};
 ghost use Rattle.step.specs.Ready.{Replayable};
 use super::Replayed;
-use super::mover::move_chosen;
-use super::property::property_true;
+use super::mover::step_pair;
+use super::property::true_at;
 use design::Refusal;
 use design::bytes::wide;
 use design::bytes::word;
@@ -26,7 +26,7 @@ use design::index::index_events;
 use design::index::shape;
 use design::limits::EVENT_PLACES;
 use design::limits::MAX_MOVERS;
-use design::limits::MAX_SLOTS;
+use design::limits::PAIR_SLOTS;
 use design::shape::Shape;
 use design::shape::slot_count;
 
@@ -83,7 +83,7 @@ pub fn never() -> Replayed
     }
 }
 
-// From the state in `slots`: the first step at which the property is false. Each choice acts on the slots in place.
+// From the second state of `pair` on, the first state of the run: the first step at which the property is false. Each choice acts on the pair in place.
 pub fn first_break(
     file: &[u8],
     events: &[u16; EVENT_PLACES],
@@ -91,20 +91,21 @@ pub fn first_break(
     shape: Shape,
     property: u64,
     choices: &[u8],
-    slots: &mut [u16],
+    pair: &mut [u16],
 ) -> Replayed
-    requires { ⌜ Replayable (now file) (now events) (now cells) shape (now slots) (now choices) ⌝ }
-    ensures { λ r. ⌜ ((d : Design) → check (now (file .entry)) ≡ accepted d → r ≡ replayed (answer (firstBreak d (propertyOf d property) (now (slots .entry)) (now (choices .entry)) 0))) ⌝ }
+    requires { ⌜ Replayable (now file) (now events) (now cells) shape (now pair) (now choices) ⌝ }
+    ensures { λ r. ⌜ ((d : Design) → check (now (file .entry)) ≡ accepted d
+        → r ≡ replayed (answer (firstBreak d (propertyOf d property) none (drop (slotCount shape) (now (pair .entry))) (now (choices .entry)) 0))) ⌝ }
 {
     let mut i = 0;
     while i < choices.len() {
-        if !property_true(file, events, shape, property, slots) {
+        if !true_at(file, events, shape, property, i == 0, pair) {
             return broken_at(i);
         }
-        move_chosen(file, events, cells, shape, wide(choices[i]), slots);
+        step_pair(file, events, cells, shape, wide(choices[i]), pair);
         i = i + 1;
     }
-    if property_true(file, events, shape, property, slots) {
+    if true_at(file, events, shape, property, i == 0, pair) {
         return never();
     }
     broken_at(i)
@@ -118,13 +119,14 @@ pub fn replay_slots(
     shape: Shape,
     property: u64,
     choices: &[u8],
-    slots: &mut [u16],
+    pair: &mut [u16],
 ) -> Replayed
-    requires { ⌜ Replayable (now file) (now events) (now cells) shape (now slots) (now choices) × (now slots ≡ replicate (slotCount shape) 0) ⌝ }
-    ensures { λ r. ⌜ ((d : Design) → check (now (file .entry)) ≡ accepted d → r ≡ replayed (answer (firstBreak d (propertyOf d property) (start d) (now (choices .entry)) 0))) ⌝ }
+    requires { ⌜ Replayable (now file) (now events) (now cells) shape (now pair) (now choices) × (now pair ≡ replicate (slotCount shape + slotCount shape) 0) ⌝ }
+    ensures { λ r. ⌜ ((d : Design) → check (now (file .entry)) ≡ accepted d → r ≡ replayed (answer (firstBreak d (propertyOf d property) none (start d) (now (choices .entry)) 0))) ⌝ }
 {
-    load_start(file, shape, slots);
-    first_break(file, events, cells, shape, property, choices, slots)
+    let n = slot_count(shape);
+    load_start(file, shape, &mut pair[n..]);
+    first_break(file, events, cells, shape, property, choices, pair)
 }
 
 pub fn refuse_replay(number: u8, place: usize) -> Replayed
@@ -137,9 +139,9 @@ pub fn refuse_replay(number: u8, place: usize) -> Replayed
     }
 }
 
-// On an accepted file, with a right property and few choices: the tables are filled once, and no state is copied.
+// On an accepted file, with a right property and few choices: the tables are filled once, and each step keeps the state before it.
 pub fn replay_accepted(file: &[u8], property: u64, choices: &[u8]) -> Replayed
-    requires { ⌜ Accepted (now file) × (property ≤ lastProperty) × (length (now choices) ≤ maxBound) ⌝ }
+    requires { ⌜ Accepted (now file) × (property ≤ lastProperty (now file)) × (length (now choices) ≤ maxBound) ⌝ }
     ensures { λ r. ⌜ r ≡ REPLAY (now (file .entry)) property (now (choices .entry)) ⌝ }
 {
     let mut cells = [0u16; MAX_MOVERS];
@@ -151,8 +153,9 @@ pub fn replay_accepted(file: &[u8], property: u64, choices: &[u8]) -> Replayed
     }
     let mut events = [0u16; EVENT_PLACES];
     index_events(file, &mut events);
-    let mut all = [0u16; MAX_SLOTS];
+    let mut all = [0u16; PAIR_SLOTS];
     let n = slot_count(shape);
+    let end = n + n;
     replay_slots(
         file,
         &events,
@@ -160,6 +163,6 @@ pub fn replay_accepted(file: &[u8], property: u64, choices: &[u8]) -> Replayed
         shape,
         property,
         choices,
-        &mut all[..n],
+        &mut all[..end],
     )
 }

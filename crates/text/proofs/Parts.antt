@@ -173,7 +173,7 @@ module _ (file : List ℕ) (p k : ℕ) where
       refused-so n q (partWords d i) (words (formula d (propertyOf d p) k)) (fits d i) (noneOver d (propertyOf d p) k (k + 3) 0) (one-over d i (k + 3) 0 (omega arith) (omega arith))
       (sym (not-15 i _ l) ∙ e)
 
-  module _ (d : Design) (e : check file ≡ Checked.accepted d) (low : p ≤ lastProperty) (few : k ≤ maxBound) (h : (i : ℕ) → i < k + 3 → isRefused (wordsToWrite file p k i maxWords) ≡ false) where
+  module _ (d : Design) (e : check file ≡ Checked.accepted d) (low : p ≤ lastProperty file) (few : k ≤ maxBound) (h : (i : ℕ) → i < k + 3 → isRefused (wordsToWrite file p k i maxWords) ≡ false) where
     part-in : (i : ℕ) → i < k + 3 → wordsToWrite file p k i maxWords ≡ need (fits d i) 16 0 (answer (partWords d i))
     unfolding wordsToWrite
     part-in i l = gate-in file p k _ d e low few ∙ not-15 i _ l

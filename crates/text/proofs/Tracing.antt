@@ -6,10 +6,10 @@ use mathlib.Core.Option.{Option, none, some}
 use Prim.Native.Nat.{ℕ, suc, _+_, _*_, _-_, _<_, _≤_}
 use native.Mathlib.Omega.{arith}
 use native.Mathlib.Numerals.{add-one}
-use lib.Dec.{leb, ltb}
+use lib.Dec.{eqb, leb, ltb}
 use lib.IntN.{pos}
 use lib.ListN.{length, getD, take, drop, drop-of-length-le, length-drop, length-map}
-use lib.Seq.{drop-cons, take-all}
+use lib.Seq.{drop-cons, take-at, drop-at, take-all}
 use borrow.Author.Tests.{eq-eqb, ne-eqb, le-leb, lt-leb, leb-true, leb-false, eqb-true}
 use Rattle.design.specs.Tree.{Design, movers}
 use Rattle.design.specs.State.{State, Layout, layout, statusesIn, start}
@@ -25,10 +25,12 @@ use Rattle.design.proofs.Widths.{layout-is}
 use Rattle.step.specs.Gate.{gate, refusalOf}
 use Rattle.step.specs.Pattern.{signed}
 use Rattle.step.specs.Interface.{firstWrong}
-use Rattle.step.specs.OneStep.{step, idle, holds}
+use Rattle.step.specs.OneStep.{step, idle, trueAt}
 use Rattle.step.specs.Operations.{refusedAt, allRight, firstBreak, choicesRight, replayed, REPLAY}
 use Rattle.step.specs.declared.Replayed.{Replayed}
+use Rattle.step.specs.Ready.{beforeIn}
 use Rattle.step.proofs.Answering.{all-below}
+use Rattle.step.proofs.Pairs.{second-long}
 use Rattle.design.specs.declared.shape.Shape.{Shape}
 use Rattle.design.proofs.Indexed.{count-movers}
 use Rattle.step.proofs.Gates.{in-range, zero-passed}
@@ -44,13 +46,14 @@ choices-below file cs r cells h s m i l =
     let t = read file (r .design) in
     omega (arith, r .below (t .tree) (t .is) i l, count-movers file cells h s m (t .tree) (t .is))
 
--- the line of a state, by the numbers of variables and matrices in the file
-pub state-written : (file : List ℕ) (d : Design) → Parts file d → (nv nm : ℕ) (p : Property) (i mover : ℕ) (idled held : Bool) (s : State) {xs ys zs : List ℕ} {at m r : ℕ}
-    → nv ≡ variableCount file → nm ≡ matrixCount file → held ≡ holds d p s
-    → TextWritten (head i mover idled held) xs ys at m → TextWritten (slotsText nv nm s) ys zs m r
-    → TextWritten (stateLine d p i mover idled s) xs zs at r
+-- the line of a state, by the numbers of variables and matrices in the file; its slots are lent as part of a pair
+pub state-written : (file : List ℕ) (d : Design) → Parts file d → (nv nm : ℕ) (p : Property) (i mover : ℕ) (idled held : Bool) (before : Option State) (s : State) {xs ys zs : List ℕ} {at m r : ℕ}
+    → nv ≡ variableCount file → nm ≡ matrixCount file → held ≡ trueAt d p before s
+    → TextWritten (head i mover idled held) xs ys at m → (lent : State) → lent ≡ s → TextWritten (slotsText nv nm lent) ys zs m r
+    → TextWritten (stateLine d p i mover idled before s) xs zs at r
 unfolding stateLine line
-state-written file d w nv nm p i mover idled held s {xs} {ys} {zs} {at} {m} {r} e q h g k =
+state-written file d w nv nm p i mover idled held before s {xs} {ys} {zs} {at} {m} {r} e q h g lent z k′ =
+    let k = subst (λ (x : State). TextWritten (slotsText nv nm x) ys zs m r) z k′ in
     let L = layout-is file d w nv nm e q in
     let n : nm ≡ nv + nm - nv = omega arith in
     subst (λ (b : Bool). TextWritten (line i mover idled b (take (length (d .variables)) (map signed s)) (map pos (statusesIn (layout d) s))) xs zs at r) h
@@ -58,45 +61,61 @@ state-written file d w nv nm p i mover idled held s {xs} {ys} {zs} {at} {m} {r} 
     (subst (λ (v : ℕ). TextWritten (line i mover idled held (take v (map signed s)) (map pos (take (nv + nm - nv) (drop nv s)))) xs zs at r) (e ∙ sym (w .variable-count))
     (subst (λ (j : ℕ). TextWritten (line i mover idled held (take nv (map signed s)) (map pos (take j (drop nv s)))) xs zs at r) n (written-then g k))))
 
--- what is left of the choices, printed now, is the whole printed at the start
-pub record Printing (file : List ℕ) (p : ℕ) (cs : List ℕ) (s₀ : State) (xs : List ℕ) (at i : ℕ) (s : State) (ys : List ℕ) (q : ℕ) : Type 0 where
+-- what is left of the choices, printed now, is the whole printed at the start; `pair` has the state before and the state now, of n slots each
+pub record Printing (file : List ℕ) (p n : ℕ) (cs : List ℕ) (pair₀ : State) (xs : List ℕ) (at i : ℕ) (pair : State) (ys : List ℕ) (q : ℕ) : Type 0 where
   pub inside : i ≤ length cs
-  pub state : length s ≡ length s₀
+  pub state : length pair ≡ length pair₀
   pub near : q ≤ at + maxLine * i
   pub size : length ys ≡ length xs
-  pub rest : (d : Design) → check file ≡ accepted d → Rest (nextLines d (propertyOf d p) i s (drop i cs)) (nextLines d (propertyOf d p) 0 s₀ cs) xs ys at q
+  pub rest : (d : Design) → check file ≡ accepted d → Rest (nextLines d (propertyOf d p) i (drop n pair) (drop i cs)) (nextLines d (propertyOf d p) 0 (drop n pair₀) cs) xs ys at q
 
-pub printing-start : (file : List ℕ) (p : ℕ) (cs : List ℕ) (s : State) (xs : List ℕ) (at : ℕ) → Printing file p cs s xs at 0 s xs at
-printing-start file p cs s xs at = record { inside = omega arith; state = refl; near = omega arith; size = refl; rest = λ d e. rest-start (nextLines d (propertyOf d p) 0 s cs) xs at }
+pub printing-start : (file : List ℕ) (p n : ℕ) (cs : List ℕ) (pair : State) (xs : List ℕ) (at : ℕ) → Printing file p n cs pair xs at 0 pair xs at
+printing-start file p n cs pair xs at =
+    record { inside = omega arith; state = refl; near = omega arith; size = refl; rest = λ d e. rest-start (nextLines d (propertyOf d p) 0 (drop n pair) cs) xs at }
 
-module _ (file : List ℕ) (p : ℕ) (cs : List ℕ) (s₀ : State) (xs : List ℕ) (at i : ℕ) (s : State) (ys : List ℕ) (q : ℕ) (g : Printing file p cs s₀ xs at i s ys q) where
-  next-lines : (d : Design) (c : ℕ) (s′ : State) (u : Bool) → i < length cs → c ≡ getD cs i 0 → (s′ ≡ step d s c) × (u ≡ idle d s c)
-      → nextLines d (propertyOf d p) i s (drop i cs) ≡ stateLine d (propertyOf d p) (suc i) c u s′ ++ nextLines d (propertyOf d p) (suc i) s′ (drop (suc i) cs)
+module _ (file : List ℕ) (p n : ℕ) (cs : List ℕ) (pair₀ : State) (xs : List ℕ) (at i : ℕ) (pair : State) (ys : List ℕ) (q : ℕ) (g : Printing file p n cs pair₀ xs at i pair ys q) where
+  abbrev now : State
+  now = drop n pair
+
+  -- the state now is kept as the one before, and the step out of it stands behind it
+  next-lines : (d : Design) (c : ℕ) (pair′ : State) (u : Bool) → length pair₀ ≡ n + n → i < length cs → c ≡ getD cs i 0 → (pair′ ≡ now ++ step d now c) × (u ≡ idle d now c)
+      → nextLines d (propertyOf d p) i now (drop i cs)
+      ≡ stateLine d (propertyOf d p) (suc i) c u (beforeIn (eqb (suc i) 0) n pair′) (drop n pair′) ++ nextLines d (propertyOf d p) (suc i) (drop n pair′) (drop (suc i) cs)
   unfolding nextLines
-  next-lines d c s′ u l e k =
-      ap (nextLines d (propertyOf d p) i s) (drop-cons cs i 0 l ∙ ap (λ (x : ℕ). x ∷ drop (suc i) cs) (sym e))
-      ∙ ap₂ (λ (b : Bool) (t : State). stateLine d (propertyOf d p) (suc i) c b t ++ nextLines d (propertyOf d p) (suc i) t (drop (suc i) cs)) (sym (k .1)) (sym (k .0))
+  next-lines d c pair′ u z l e k =
+      let long : length now ≡ n = second-long n pair (g .state ∙ z) in
+      let x = step d now c in
+      let kept : take n pair′ ≡ now = ap (take n) (k .0) ∙ take-at now x n long in
+      let moved : drop n pair′ ≡ x = ap (drop n) (k .0) ∙ drop-at now x n long in
+      let first : beforeIn (eqb (suc i) 0) n pair′ ≡ some now = ap (λ (b : Bool). beforeIn b n pair′) (ne-eqb (suc i) 0 (λ o. omega arith)) ∙ ap some kept in
+      ap (nextLines d (propertyOf d p) i now) (drop-cons cs i 0 l ∙ ap (λ (y : ℕ). y ∷ drop (suc i) cs) (sym e))
+      ∙ ap (λ (b : Bool). stateLine d (propertyOf d p) (suc i) c b (some now) x ++ nextLines d (propertyOf d p) (suc i) x (drop (suc i) cs)) (sym (k .1))
+      ∙ ap₂ (λ (a : Option State) (y : State). stateLine d (propertyOf d p) (suc i) c u a y ++ nextLines d (propertyOf d p) (suc i) y (drop (suc i) cs)) (sym first) (sym moved)
 
-  pub printing-on : i < length cs → (c : ℕ) → c ≡ getD cs i 0 → (s′ : State) (u : Bool) → length s′ ≡ length s → ((d : Design) → check file ≡ accepted d → (s′ ≡ step d s c) × (u ≡ idle d s c)) → (zs : List ℕ) (r : ℕ)
-      → ((d : Design) (w : Parts file d) → TextWritten (stateLine d (propertyOf d p) (i + 1) c u s′) ys zs q r) → r ≤ q + maxLine → length zs ≡ length ys → Printing file p cs s₀ xs at (i + 1) s′ zs r
-  printing-on l c e s′ u n k zs r h m z = rw (add-one i) (record {
+  pub printing-on : length pair₀ ≡ n + n → i < length cs → (c : ℕ) → c ≡ getD cs i 0 → (pair′ : State) (u : Bool) → length pair′ ≡ length pair
+      → ((d : Design) → check file ≡ accepted d → (pair′ ≡ now ++ step d now c) × (u ≡ idle d now c)) → (zs : List ℕ) (r : ℕ)
+      → ((d : Design) (w : Parts file d) → TextWritten (stateLine d (propertyOf d p) (i + 1) c u (beforeIn (eqb (i + 1) 0) n pair′) (drop n pair′)) ys zs q r)
+      → r ≤ q + maxLine → length zs ≡ length ys → Printing file p n cs pair₀ xs at (i + 1) pair′ zs r
+  printing-on y l c e pair′ u m k zs r h b z = rw (add-one i) (record {
     inside = omega arith;
-    state = n ∙ g .state;
+    state = m ∙ g .state;
     near = omega (arith, g .near);
     size = z ∙ g .size;
     rest = λ d t.
-        rest-next (stateLine d (propertyOf d p) (suc i) c u s′) (nextLines d (propertyOf d p) (suc i) s′ (drop (suc i) cs)) (next-lines d c s′ u l e (k d t)) (g .rest d t)
-        (subst (λ (j : ℕ). TextWritten (stateLine d (propertyOf d p) j c u s′) ys zs q r) (add-one i) (h d (whole file d t .parts)));
+        rest-next (stateLine d (propertyOf d p) (suc i) c u (beforeIn (eqb (suc i) 0) n pair′) (drop n pair′)) (nextLines d (propertyOf d p) (suc i) (drop n pair′) (drop (suc i) cs))
+        (next-lines d c pair′ u y l e (k d t)) (g .rest d t)
+        (subst (λ (j : ℕ). TextWritten (stateLine d (propertyOf d p) j c u (beforeIn (eqb j 0) n pair′) (drop n pair′)) ys zs q r) (add-one i) (h d (whole file d t .parts)));
   })
 
-  pub printing-end : length cs ≤ i → (d : Design) → check file ≡ accepted d → TextWritten (nextLines d (propertyOf d p) 0 s₀ cs) xs ys at q
+  pub printing-end : length cs ≤ i → (d : Design) → check file ≡ accepted d → TextWritten (nextLines d (propertyOf d p) 0 (drop n pair₀) cs) xs ys at q
   unfolding nextLines
-  printing-end l d e = rest-end (ap (nextLines d (propertyOf d p) i s) (drop-of-length-le cs l)) (g .rest d e)
+  printing-end l d e = rest-end (ap (nextLines d (propertyOf d p) i now) (drop-of-length-le cs l)) (g .rest d e)
 
 -- the first state's line and the others
-pub states-written : (d : Design) (p : Property) (cs : List ℕ) (s : State) {xs ys zs : List ℕ} {m r : ℕ} → s ≡ start d → TextWritten (stateLine d p 0 0 false s) xs ys 0 m → TextWritten (nextLines d p 0 s cs) ys zs m r → TextWritten (stateLines d p cs) xs zs 0 r
+pub states-written : (d : Design) (p : Property) (cs : List ℕ) (s : State) {xs ys zs : List ℕ} {m r : ℕ} → s ≡ start d
+    → TextWritten (stateLine d p 0 0 false none s) xs ys 0 m → TextWritten (nextLines d p 0 s cs) ys zs m r → TextWritten (stateLines d p cs) xs zs 0 r
 unfolding stateLines
-states-written d p cs s {xs} {ys} {zs} {m} {r} e g h = subst (λ (t : State). TextWritten (stateLine d p 0 0 false t ++ nextLines d p 0 t cs) xs zs 0 r) e (written-then g h)
+states-written d p cs s {xs} {ys} {zs} {m} {r} e g h = subst (λ (t : State). TextWritten (stateLine d p 0 0 false none t ++ nextLines d p 0 t cs) xs zs 0 r) e (written-then g h)
 
 -- a refusal, by the number that is printed
 pub refusal-as : (n number place : ℕ) {xs ys : List ℕ} {at r : ℕ} → n ≡ number → TextWritten (refusalText (refusedAt n place)) xs ys at r → TextWritten (refusalText (refusedAt number place)) xs ys at r
@@ -110,7 +129,7 @@ result-as b t i {xs} {ys} {at} {r} e w = subst (λ (u : Bool). TextWritten (resu
 module _ (file : List ℕ) (p : ℕ) (cs : List ℕ) where
   -- what REPLAY asks of a design, past the gate
   abbrev asked : Design → Property → Answer (Option ℕ)
-  asked d q = need (allRight (choicesRight d cs)) 12 (firstWrong (choicesRight d cs)) (answer (firstBreak d q (start d) cs 0))
+  asked d q = need (allRight (choicesRight d cs)) 12 (firstWrong (choicesRight d cs)) (answer (firstBreak d q none (start d) cs 0))
 
   same-refusal : (a : Answer (Option ℕ)) → replayed a .refusal ≡ refusalOf a
   same-refusal (Answer.refused n k) = refl

@@ -2,6 +2,7 @@
 use mathlib.Core.Path.{_≡_, refl}
 use mathlib.Core.Bool.{Bool, true, false, cond}
 use mathlib.Core.List.{List, [], _∷_, _++_, map}
+use mathlib.Core.Option.{Option, none, some}
 use Prim.Native.Nat.{ℕ, suc, _+_}
 use lib.Dec.{eqb, leb}
 use lib.IntN.{pos}
@@ -16,25 +17,25 @@ use Rattle.design.specs.declared.Refusal.{Refusal}
 use Rattle.step.specs.Property.{Property, propertyOf}
 use Rattle.step.specs.Gate.{gate}
 use Rattle.step.specs.Pattern.{signed}
-use Rattle.step.specs.OneStep.{step, idle, holds, stepping}
+use Rattle.step.specs.OneStep.{step, idle, trueAt, stepping}
 use Rattle.step.specs.Operations.{refusedAt, firstBreak, REPLAY}
 use Rattle.step.specs.declared.Replayed.{Replayed}
 use Rattle.text.specs.Text.{digits, decimal}
 use Rattle.text.specs.Line.{spaced, head, tail, line}
 
 module _ (d : Design) (q : Property) where
-  -- the line of a state, with the step and the mover that led to it: variables as signed numbers, then statuses
-  unfoldable pub stateLine : ℕ → ℕ → Bool → State → List ℕ
-  stateLine i mover idled s = line i mover idled (holds d q s) (take (length (d .variables)) (map signed s)) (map pos (statusesIn (layout d) s))
+  -- the line of a state, with the step and the mover that led to it, and the state before: variables as signed numbers, then statuses
+  unfoldable pub stateLine : ℕ → ℕ → Bool → Option State → State → List ℕ
+  stateLine i mover idled before s = line i mover idled (trueAt d q before s) (take (length (d .variables)) (map signed s)) (map pos (statusesIn (layout d) s))
 
   -- the lines after step i: "Every choice is printed, past a break too."
   unfoldable pub nextLines : ℕ → State → List ℕ → List ℕ
   nextLines i s [] = []
-  nextLines i s (c ∷ cs) = stateLine (suc i) c (idle d s c) (step d s c) ++ nextLines (suc i) (step d s c) cs
+  nextLines i s (c ∷ cs) = stateLine (suc i) c (idle d s c) (some s) (step d s c) ++ nextLines (suc i) (step d s c) cs
 
-  -- the first state, and the state after each choice
+  -- the first state, and the state after each choice; property 2 is about two states, and "traces show true at step 0"
   unfoldable pub stateLines : List ℕ → List ℕ
-  stateLines cs = stateLine 0 0 false (start d) ++ nextLines 0 (start d) cs
+  stateLines cs = stateLine 0 0 false none (start d) ++ nextLines 0 (start d) cs
 
 -- "broken at N", "holds", "refused N at P"; each ends with a newline
 unfoldable pub resultText : Bool → ℕ → List ℕ

@@ -1,7 +1,8 @@
 // What the Replay program prints, into a lent buffer.
 ghost use mathlib.Core.Path.{_≡_};
 ghost use Prim.Native.Nat.{ℕ, _+_, _*_, _≤_, _<_};
-ghost use lib.ListN.{length, getD, replicate};
+ghost use lib.Dec.{eqb};
+ghost use lib.ListN.{length, getD, drop, replicate};
 ghost use Rattle.design.specs.Tree.{Design};
 ghost use Rattle.design.specs.Check.{check, accepted};
 ghost use Rattle.design.specs.Places.{MoversIndexed};
@@ -9,7 +10,7 @@ ghost use Rattle.design.specs.State.{slotCount};
 ghost use Rattle.design.specs.Sections.{Parts};
 ghost use Rattle.step.specs.Property.{propertyOf};
 ghost use Rattle.step.specs.Operations.{refusedAt};
-ghost use Rattle.step.specs.Ready.{ReadyState};
+ghost use Rattle.step.specs.Ready.{ReadyPair, beforeIn};
 ghost use Rattle.text.specs.Text.{TextWritten, maxLine, maxText};
 ghost use Rattle.text.specs.Trace.{stateLine, nextLines, stateLines, resultText, refusalText, trace, replayText};
 ghost use Rattle.text.specs.Ready.{ReplayInput};
@@ -25,11 +26,11 @@ use design::index::index_events;
 use design::index::shape;
 use design::limits::EVENT_PLACES;
 use design::limits::MAX_MOVERS;
-use design::limits::MAX_SLOTS;
+use design::limits::PAIR_SLOTS;
 use design::shape::Shape;
 use design::shape::slot_count;
-use step::mover::move_chosen;
-use step::property::property_true;
+use step::mover::step_pair;
+use step::property::true_at;
 use step::replaying::load_start;
 
 // `refused N at P`, at the front.
@@ -57,7 +58,7 @@ pub fn put_result(out: &mut [u8], at: usize, broken: bool, step: usize) -> usize
     put_bytes(out, at, b"holds\n")
 }
 
-// The line of the state in `slots`.
+// The line of the second state of `pair`; the first is the state before it, but for step 0.
 pub fn put_state(
     file: &[u8],
     events: &[u16; EVENT_PLACES],
@@ -66,21 +67,23 @@ pub fn put_state(
     step: usize,
     mover: usize,
     idle: bool,
-    slots: &[u16],
+    pair: &[u16],
     out: &mut [u8],
     at: usize,
 ) -> usize
-    requires { ⌜ ReadyState (now file) (now events) shape (now slots) × (at + maxLine ≤ length (now out)) ⌝ }
+    requires { ⌜ ReadyPair (now file) (now events) shape (now pair) × (at + maxLine ≤ length (now out)) ⌝ }
     ensures { λ r. ⌜ ((d : Design) (parts : Parts (now (file .entry)) d)
-        → TextWritten (stateLine d (propertyOf d property) step mover idle (now (slots .entry))) (now (out .entry)) (now (out .exit)) at r)
+        → TextWritten (stateLine d (propertyOf d property) step mover idle (beforeIn (eqb step 0) (slotCount shape) (now (pair .entry)))
+        (drop (slotCount shape) (now (pair .entry)))) (now (out .entry)) (now (out .exit)) at r)
         × (r ≤ at + maxLine) × (length (now (out .exit)) ≡ length (now (out .entry))) ⌝ }
 {
-    let holds = property_true(file, events, shape, property, slots);
+    let holds = true_at(file, events, shape, property, step == 0, pair);
     let a = put_head(out, at, step, mover, idle, holds);
-    put_tail(out, a, shape.variables, shape.matrices, slots)
+    let n = slot_count(shape);
+    put_tail(out, a, shape.variables, shape.matrices, &pair[n..])
 }
 
-// The lines after the state in `slots`: each choice acts on the slots in place.
+// The lines after the second state of `pair`: each choice acts on the pair in place.
 pub fn put_next(
     file: &[u8],
     events: &[u16; EVENT_PLACES],
@@ -88,24 +91,24 @@ pub fn put_next(
     shape: Shape,
     property: u64,
     choices: &[u8],
-    slots: &mut [u16],
+    pair: &mut [u16],
     out: &mut [u8],
     at: usize,
 ) -> usize
-    requires { ⌜ ReadyState (now file) (now events) shape (now slots) × MoversIndexed (now file) (now cells) shape
+    requires { ⌜ ReadyPair (now file) (now events) shape (now pair) × MoversIndexed (now file) (now cells) shape
         × (at + maxLine * length (now choices) ≤ length (now out)) × ((i : ℕ) → i < length (now choices)
         → getD (now choices) i 0 < shape .normals + shape .externals) ⌝ }
     ensures { λ r. ⌜ ((d : Design) → check (now (file .entry)) ≡ accepted d
-        → TextWritten (nextLines d (propertyOf d property) 0 (now (slots .entry)) (now (choices .entry))) (now (out .entry)) (now (out .exit)) at r)
+        → TextWritten (nextLines d (propertyOf d property) 0 (drop (slotCount shape) (now (pair .entry))) (now (choices .entry))) (now (out .entry)) (now (out .exit)) at r)
         × (r ≤ at + maxLine * length (now (choices .entry))) × (length (now (out .exit)) ≡ length (now (out .entry))) ⌝ }
 {
     let mut p = at;
     let mut i = 0;
     while i < choices.len() {
         let c = wide(choices[i]);
-        let idle = move_chosen(file, events, cells, shape, c, slots);
+        let idle = step_pair(file, events, cells, shape, c, pair);
         i = i + 1;
-        p = put_state(file, events, shape, property, i, c, idle, slots, out, p);
+        p = put_state(file, events, shape, property, i, c, idle, pair, out, p);
     }
     p
 }
@@ -118,19 +121,20 @@ pub fn put_states(
     shape: Shape,
     property: u64,
     choices: &[u8],
-    slots: &mut [u16],
+    pair: &mut [u16],
     out: &mut [u8],
 ) -> usize
-    requires { ⌜ ReadyState (now file) (now events) shape (now slots) × MoversIndexed (now file) (now cells) shape
+    requires { ⌜ ReadyPair (now file) (now events) shape (now pair) × MoversIndexed (now file) (now cells) shape
         × (maxLine + maxLine * length (now choices) ≤ length (now out)) × ((i : ℕ) → i < length (now choices)
-        → getD (now choices) i 0 < shape .normals + shape .externals) × (now slots ≡ replicate (slotCount shape) 0) ⌝ }
+        → getD (now choices) i 0 < shape .normals + shape .externals) × (now pair ≡ replicate (slotCount shape + slotCount shape) 0) ⌝ }
     ensures { λ r. ⌜ ((d : Design) → check (now (file .entry)) ≡ accepted d
         → TextWritten (stateLines d (propertyOf d property) (now (choices .entry))) (now (out .entry)) (now (out .exit)) 0 r)
         × (r ≤ maxLine + maxLine * length (now (choices .entry))) × (length (now (out .exit)) ≡ length (now (out .entry))) ⌝ }
 {
-    load_start(file, shape, slots);
-    let a = put_state(file, events, shape, property, 0, 0, false, slots, out, 0);
-    put_next(file, events, cells, shape, property, choices, slots, out, a)
+    let n = slot_count(shape);
+    load_start(file, shape, &mut pair[n..]);
+    let a = put_state(file, events, shape, property, 0, 0, false, pair, out, 0);
+    put_next(file, events, cells, shape, property, choices, pair, out, a)
 }
 
 // The lines of all states, for a call of REPLAY that is not refused.
@@ -145,8 +149,9 @@ pub fn put_run(file: &[u8], property: u64, choices: &[u8], out: &mut [u8]) -> us
     let shape = shape(file, normals);
     let mut events = [0u16; EVENT_PLACES];
     index_events(file, &mut events);
-    let mut all = [0u16; MAX_SLOTS];
+    let mut all = [0u16; PAIR_SLOTS];
     let n = slot_count(shape);
+    let end = n + n;
     put_states(
         file,
         &events,
@@ -154,7 +159,7 @@ pub fn put_run(file: &[u8], property: u64, choices: &[u8], out: &mut [u8]) -> us
         shape,
         property,
         choices,
-        &mut all[..n],
+        &mut all[..end],
         out,
     )
 }

@@ -84,7 +84,7 @@ module _ (d : Design) (p : Property) (k : ℕ) (lent : Memory) where
 
 -- what a call that answers was given, and what it left
 pub record Answered (file : List ℕ) (d : Design) (p k budget : ℕ) (lent : Memory) (told : Told) : Type 0 where
-  pub property : p ≤ lastProperty
+  pub property : p ≤ lastProperty file
   pub bound : k ≤ maxBound
   pub room : Room d (propertyOf d p) k lent
   pub same : (judge d (propertyOf d p) k budget) .told ≡ told
@@ -113,7 +113,7 @@ module _ (file : List ℕ) (d : Design) (e : check file ≡ Checked.accepted d) 
         memory = ap (λ (x : After). x .memory) verdict-is ∙ a .2 ∙ ap (λ (x : Told × Memory). x .1) (sym q);
       }
 
-  module _ (low : p ≤ lastProperty) (few : k ≤ maxBound) where
+  module _ (low : p ≤ lastProperty file) (few : k ≤ maxBound) where
     verdict-in : verdict file p k budget lent ≡ afterCall lent (asked d (propertyOf d p))
     verdict-in = verdict-is ∙ ap (afterCall lent) (gate-in file p k asked d e low few)
 
@@ -135,7 +135,7 @@ size-refused file p k budget lent number place h = ap (afterCall lent) (gate-bot
 pub record Sized (file : List ℕ) (p k : ℕ) (s : Sizes) : Type 0 where
   pub design : Design
   pub accepted : check file ≡ Checked.accepted design
-  pub property : p ≤ lastProperty
+  pub property : p ≤ lastProperty file
   pub bound : k ≤ maxBound
   pub sizes : sizesOf design (propertyOf design p) k ≡ s
 

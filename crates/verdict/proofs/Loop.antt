@@ -187,7 +187,7 @@ module _ (d : Design) (wf : WellFormed d) (number k budget : ℕ) (lent : Memory
           λ h. record { clauses = ws h; values = vs h; trail = ts h; choices = cs h }
 
       -- what the call comes to, where the verdict is v
-      module _ (file : List ℕ) (e : check file ≡ Checked.accepted d) (low : number ≤ lastProperty) (few : k ≤ maxBound) where
+      module _ (file : List ℕ) (e : check file ≡ Checked.accepted d) (low : number ≤ lastProperty file) (few : k ≤ maxBound) where
         ends : (v : Verdict) (choices′ : List ℕ) → judge d p k budget ≡ judged v (t + r .tries) i o → choices′ ≡ choicesLeft file d number v values′ (lent .choices)
             → record { reply = Done (record { verdict = declaredVerdict v; tries = t + r .tries }); memory = record { clauses = clauses′; values = values′; trail = trail′; choices = choices′ } }
             ≡ exit (verdict file number k budget lent)

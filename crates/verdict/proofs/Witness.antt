@@ -41,7 +41,7 @@ values-hold m ss rest = record {
       ∙ bit-true (valueOf ss (suc i));
 }
 
-module _ (file : List ℕ) (d : Design) (e : check file ≡ Checked.accepted d) (p : ℕ) (low : p ≤ lastProperty) where
+module _ (file : List ℕ) (d : Design) (e : check file ≡ Checked.accepted d) (p : ℕ) (low : p ≤ lastProperty file) where
   -- past the other refusals DECODE looks at the flags
   abbrev asked : ℕ → List ℕ → ℕ → Design → Property → Answer (List ℕ)
   asked i values room d q = need (leb (n d q i) (length values) && leb i room) 16 0 (chosenFrom d q values i 0)

@@ -1,6 +1,6 @@
 -- Demand 3 of document 01, whole: "one claim about such lists as wholes, not one for each choice". A list's choices are movers' numbers,
 -- idle ones included (`AllBelow (length (movers d)) cs`). `Breaking d q k cs`: cs is a list of just k choices that breaks property q; `Breakable d q k`: some
--- list of at most k does. `p` is the number of a property.
+-- list of at most k does. `p` is the number of a property: 0, 1, and 2 for the constraint of a version 2 file (document 02, R-1: "Demand 3 covers it.").
 use mathlib.Core.Path.{_≡_}
 use mathlib.Core.Logic.{_↔_}
 use mathlib.Core.Bool.{true}
@@ -116,7 +116,7 @@ module _ (d : Design) (q : Property) where
 -- of a file and its design
 pub record Demand3 (file : List ℕ) (d : Design) : Type 0 where
   pub formula : (p k : ℕ) → OfFormula d (propertyOf d p) k
-  -- for every call that is not refused for its property or bound: "13 property over 1", "14 bound over 100"
-  pub decode : (p k : ℕ) → p ≤ lastProperty → k ≤ maxBound → Decodes file d p k
+  -- for every call that is not refused for its property or bound: "13 property over 1", with a constraint over 2; "14 bound over 100"
+  pub decode : (p k : ℕ) → p ≤ lastProperty file → k ≤ maxBound → Decodes file d p k
   pub verdict : (p k budget : ℕ) (lent : Memory) (told : Told) → (verdict file p k budget lent) .answer ≡ answer told
       → OfVerdict d (propertyOf d p) k budget told (lent .choices) ((verdict file p k budget lent) .memory .choices)

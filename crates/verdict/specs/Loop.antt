@@ -22,7 +22,7 @@ pub record ReadyMemory (file : List ℕ) (p k : ℕ) (lent : Memory) : Type 0 wh
   pub design : Design
   pub accepted : check file ≡ Checked.accepted design
   pub bytes : (i : ℕ) → getD file i 0 < 256
-  pub property : p ≤ lastProperty
+  pub property : p ≤ lastProperty file
   pub bound : k ≤ maxBound
   pub room : roomFor design (propertyOf design p) k lent ≡ true
 

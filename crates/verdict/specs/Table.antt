@@ -1,54 +1,72 @@
--- Document 01's cases marked *, as one table over the definitions (its section "Design A"). That it holds is one theorem (proofs/Table.antt).
+-- Document 01's cases marked *, as one table over the definitions (its section "Design A"), and cases of the requests of document 02. That it holds is one theorem
+-- (proofs/Table.antt).
 use mathlib.Core.Path.{_≡_}
 use mathlib.Core.Bool.{true, false}
 use mathlib.Core.List.{List, [], _∷_}
-use mathlib.Core.Option.{some}
+use mathlib.Core.Option.{none, some}
 use Prim.Native.Nat.{ℕ}
 use lib.IntN.{ℤ, pos, negℤ}
 use lib.ListN.{length, replicate}
+use Rattle.design.specs.Tree.{Design}
 use Rattle.design.specs.Check.{accepted, check}
 use Rattle.design.specs.State.{start}
 use Rattle.design.specs.DesignA.{bytesA, designA}
+use Rattle.design.specs.Constrained.{bytesMoved, designMoved, bytesNoIdle, designNoIdle}
 use Rattle.step.specs.Property.{Property, propertyOf}
 use Rattle.step.specs.Pattern.{plus, minus, signed, wrap}
 use Rattle.step.specs.OneStep.{breaksAt, breaks}
 use Rattle.step.specs.Operations.{firstBreak}
-use Rattle.clauses.specs.Formula.{S, P, w, G, F, n, formula}
+use Rattle.clauses.specs.Formula.{S, P, w, G, F, n, lastClause, formula}
 use Rattle.clauses.specs.Theorem.{Model, Exactly}
 use Rattle.search.specs.Solve.{solve}
 use Rattle.search.specs.declared.Answered.{Answered}
 use Rattle.search.specs.declared.Answered.the-variants.{Sat, Unsat, Spent}
 use Rattle.search.specs.declared.Reply.the-variants.{Done}
 
--- property 0 of Design A
-abbrev invariantA : Property
-invariantA = propertyOf designA 0
+-- what a case is about: a design, and a property of it
+pub record Subject : Type 0 where
+  pub design : Design
+  pub property : Property
+
+-- property 0 of Design A, and property 2 of the designs with a constraint
+abbrev invariantA : Subject
+invariantA = record { design = designA; property = propertyOf designA 0 }
+
+abbrev movedBelow : Subject
+movedBelow = record { design = designMoved; property = propertyOf designMoved 2 }
+
+abbrev noIdleStep : Subject
+noIdleStep = record { design = designNoIdle; property = propertyOf designNoIdle 2 }
 
 pub data Case : Type 0 where
-  -- the bytes of Design A give its tree
-  design : Case
-  -- S, P, w, G and F of Design A, property 0
-  frame : ℕ → ℕ → ℕ → ℕ → ℕ → Case
+  -- the bytes of a file give its tree
+  reads : List ℕ → Design → Case
+  -- S, P, w, G and F
+  frame : Subject → ℕ → ℕ → ℕ → ℕ → ℕ → Case
   -- of a bound: n, and the number of clauses
-  bound : ℕ → ℕ → ℕ → Case
+  bound : Subject → ℕ → ℕ → ℕ → Case
+  -- the last clause of a bound's formula has so many literals
+  last : Subject → ℕ → ℕ → Case
   -- these choices break at this step, and not before; these never
-  broken : List ℕ → ℕ → Case
-  never : List ℕ → Case
+  broken : Subject → List ℕ → ℕ → Case
+  never : Subject → List ℕ → Case
   -- a bound has so many models
-  models : ℕ → ℕ → Case
+  models : Subject → ℕ → ℕ → Case
   -- two integers, and their sum or difference
   sum difference : ℤ → ℤ → ℤ → Case
   -- SOLVE: n, words, budget; answer, tries and the values left
   solves : ℕ → List ℤ → ℕ → Answered → ℕ → List ℕ → Case
 
 abbrev pub Holds : Case → Type 0
-Holds design = check bytesA ≡ accepted designA
-Holds (frame bits gates movers stepGates size) =
-    (S designA ≡ bits) × (P designA invariantA ≡ gates) × (w designA ≡ movers) × (G designA invariantA ≡ stepGates) × (F designA invariantA ≡ size)
-Holds (bound k variables clauses) = (n designA invariantA k ≡ variables) × (length (formula designA invariantA k) ≡ clauses)
-Holds (broken cs i) = (breaksAt designA invariantA cs i ≡ true) × (firstBreak designA invariantA (start designA) cs 0 ≡ some i)
-Holds (never cs) = breaks designA invariantA cs ≡ false
-Holds (models k count) = Exactly (Model designA invariantA k) count
+Holds (reads file d) = check file ≡ accepted d
+Holds (frame s bits gates movers stepGates size) =
+    (S (s .design) ≡ bits) × (P (s .design) (s .property) ≡ gates) × (w (s .design) ≡ movers) × (G (s .design) (s .property) ≡ stepGates) × (F (s .design) (s .property) ≡ size)
+Holds (bound s k variables clauses) = (n (s .design) (s .property) k ≡ variables) × (length (formula (s .design) (s .property) k) ≡ clauses)
+Holds (last s k literals) = length (lastClause (s .design) (s .property) k) ≡ literals
+Holds (broken s cs i) =
+    (breaksAt (s .design) (s .property) cs i ≡ true) × (firstBreak (s .design) (s .property) none (start (s .design)) cs 0 ≡ some i)
+Holds (never s cs) = breaks (s .design) (s .property) cs ≡ false
+Holds (models s k count) = Exactly (Model (s .design) (s .property) k) count
 Holds (sum a b c) = signed (plus (wrap a) (wrap b)) ≡ c
 Holds (difference a b c) = signed (minus (wrap a) (wrap b)) ≡ c
 Holds (solves variables words budget answer tries values) =
@@ -65,18 +83,36 @@ four = pos 1 ∷ pos 2 ∷ pos 0 ∷ negℤ (pos 1) ∷ pos 2 ∷ pos 0 ∷ pos 
 
 abbrev pub table : List Case
 table =
-    design
+    reads bytesA designA
     -- "S=21, P=80, w=3, G=371, F=475."
-    ∷ frame 21 80 3 371 475
+    ∷ frame invariantA 21 80 3 371 475
     -- "Bound 0: n=102, 295 clauses." "Bound 3: n=1527, 5413 clauses."
-    ∷ bound 0 102 295
-    ∷ bound 3 1527 5413
+    ∷ bound invariantA 0 102 295
+    ∷ bound invariantA 3 1527 5413
     -- "Choices 2,0,1 break at 3"; "0,1,2 never."
-    ∷ broken (2 ∷ 0 ∷ 1 ∷ []) 3
-    ∷ never (0 ∷ 1 ∷ 2 ∷ [])
+    ∷ broken invariantA (2 ∷ 0 ∷ 1 ∷ []) 3
+    ∷ never invariantA (0 ∷ 1 ∷ 2 ∷ [])
     -- "Bound 3 has 1 model; bound 4 has 9."
-    ∷ models 3 1
-    ∷ models 4 9
+    ∷ models invariantA 3 1
+    ∷ models invariantA 4 9
+    -- Property 2 (document 02, R-1). The constraint has 146 gates, which are added to Design A's 371 of the step, and "P is 0".
+    ∷ reads bytesMoved designMoved
+    ∷ frame movedBelow 21 0 3 517 541
+    ∷ bound movedBelow 0 22 23
+    ∷ bound movedBelow 3 1645 5831
+    -- "at bound 0 the last clause is empty"; "the last clause takes frames 0 to k-1", and with another property "frames 0..k"
+    ∷ last movedBelow 0 0
+    ∷ last movedBelow 3 3
+    ∷ last invariantA 3 4
+    ∷ broken movedBelow (2 ∷ 0 ∷ 1 ∷ []) 3
+    ∷ never movedBelow (0 ∷ 1 ∷ 2 ∷ [])
+    ∷ models movedBelow 3 1
+    -- an idle step is judged too, and the first state is not
+    ∷ reads bytesNoIdle designNoIdle
+    ∷ broken noIdleStep (0 ∷ 1 ∷ []) 1
+    ∷ never noIdleStep (1 ∷ 0 ∷ 0 ∷ [])
+    ∷ never noIdleStep []
+    ∷ models noIdleStep 2 3
     -- "32767+1 is -32768"; "0-(-32768) is -32768."
     ∷ sum (pos 32767) (pos 1) (negℤ (pos 32768))
     ∷ difference (pos 0) (negℤ (pos 32768)) (negℤ (pos 32768))

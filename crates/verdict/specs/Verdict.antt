@@ -104,7 +104,8 @@ abbrev pub afterCall : Memory → Answer (Told × Memory) → After
 afterCall lent (refused number place) = record { answer = refused number place; memory = lent }
 afterCall lent (answer (told, left)) = record { answer = answer told; memory = left }
 
--- "VERDICT: 13; 14; 16 clauses, values, trail or choices short for the full bound." 13 is "property over 1", 14 "bound over 100". "Places not named are 0."
+-- "VERDICT: 13; 14; 16 clauses, values, trail or choices short for the full bound." 13 is "property over 1", with a constraint over 2; 14 is
+-- "bound over 100". "Places not named are 0."
 unfoldable pub verdict : List ℕ → ℕ → ℕ → ℕ → Memory → After
 verdict file p k budget lent =
     afterCall lent (

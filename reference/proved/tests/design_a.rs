@@ -22,7 +22,7 @@ fn solve(operations: &mut impl Operations, n: u64, words: &[i32], budget: u64) -
 
 fn formula(bound: u64) -> (u64, Vec<i32>) {
     let design = design_a();
-    let formula = Formula::new(Query::new(&design, 0), bound);
+    let formula = Formula::new(Query::new(&design, 0), bound).unwrap();
     let mut words = vec![0; formula.size().words as usize];
     let mut at = 0;
     for part in 0..=formula.last_part() {

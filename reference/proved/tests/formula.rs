@@ -30,7 +30,7 @@ fn sizes_of_document_01() {
 #[test]
 fn parts_are_the_second_implementations() {
     let (design, bound) = (design_a(), 4);
-    let formula = Formula::new(Query::new(&design, 0), bound);
+    let formula = Formula::new(Query::new(&design, 0), bound).unwrap();
     let length = formula.size().words as usize;
     let file = file_bytes(&design);
     for part in 0..=formula.last_part() {

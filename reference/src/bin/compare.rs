@@ -1,7 +1,9 @@
 //! Sends the same generated requests to two serving programs and compares
 //! their replies line by line.
 //!
-//! compare A B [--seed N] [--count N] [--operations check,..] [--require 1,2,..]
+//! compare A B [--seed N] [--count N] [--operations check,..] [--require 1,2,..] [--properties 0,1,..]
+//!
+//! It fails too where a refusal of --require was never given, or a property of --properties never answered.
 
 use reference::client::Program;
 use reference::generator::{all_operations, Generator};
@@ -12,8 +14,8 @@ use std::sync::mpsc::{sync_channel, Receiver, SyncSender};
 use std::sync::Arc;
 use std::thread;
 
-const USAGE: &str =
-    "usage: compare A B [--seed N] [--count N] [--operations check,..] [--require 1,2,..]";
+const USAGE: &str = "usage: compare A B [--seed N] [--count N] [--operations check,..] \
+                     [--require 1,2,..] [--properties 0,1,..]";
 /// Requests under way towards each program.
 const QUEUE: usize = 256;
 
@@ -23,6 +25,7 @@ struct Settings {
     count: u64,
     operations: Vec<String>,
     require: Vec<u64>,
+    properties: Vec<u64>,
 }
 
 fn main() -> ExitCode {
@@ -47,6 +50,7 @@ fn settings() -> Option<Settings> {
         count: 20_000,
         operations: all_operations().iter().map(|s| s.to_string()).collect(),
         require: vec![],
+        properties: vec![],
     };
     while let Some(name) = arguments.next() {
         let value = arguments.next()?;
@@ -54,14 +58,16 @@ fn settings() -> Option<Settings> {
             "--seed" => settings.seed = value.parse().ok()?,
             "--count" => settings.count = value.parse().ok()?,
             "--operations" => settings.operations = value.split(',').map(String::from).collect(),
-            "--require" => {
-                settings.require =
-                    value.split(',').map(|n| n.parse().ok()).collect::<Option<_>>()?
-            }
+            "--require" => settings.require = numbers(&value)?,
+            "--properties" => settings.properties = numbers(&value)?,
             _ => return None,
         }
     }
     Some(settings)
+}
+
+fn numbers(list: &str) -> Option<Vec<u64>> {
+    list.split(',').map(|n| n.parse().ok()).collect()
 }
 
 fn compare(settings: &Settings) -> Result<(), String> {
@@ -77,7 +83,8 @@ fn compare(settings: &Settings) -> Result<(), String> {
     }
     let compared = compared?;
     seen.print();
-    seen.check_required(&settings.require)?;
+    required(&settings.require, &seen.refusals, "refusal")?;
+    required(&settings.properties, &seen.properties, "answer on property")?;
     if compared != settings.count {
         return Err(format!("only {compared} requests were made"));
     }
@@ -147,18 +154,26 @@ struct Seen {
     requests: BTreeMap<String, u64>,
     answers: BTreeMap<String, u64>,
     refusals: BTreeMap<u64, u64>,
+    /// Calls that were answered, by their property.
+    properties: BTreeMap<u64, u64>,
 }
 
 impl Seen {
     fn add(&mut self, request: &str, reply: &str) {
-        let operation = request.split(' ').next().unwrap_or("");
+        let fields: Vec<&str> = request.split(' ').collect();
+        let operation = fields[0];
         *self.requests.entry(operation.to_string()).or_default() += 1;
         let words: Vec<&str> = reply.split(' ').collect();
         if words[0] == "refused" {
             let number = words.get(1).and_then(|n| n.parse().ok()).unwrap_or(0);
             *self.refusals.entry(number).or_default() += 1;
-        } else if let Some(answer) = named_answer(operation, &words) {
+            return;
+        }
+        if let Some(answer) = named_answer(operation, &words) {
             *self.answers.entry(answer).or_default() += 1;
+        }
+        if let Some(property) = property(&fields) {
+            *self.properties.entry(property).or_default() += 1;
         }
     }
 
@@ -172,15 +187,28 @@ impl Seen {
         for (number, count) in &self.refusals {
             println!("refusals {number}: {count}");
         }
-    }
-
-    fn check_required(&self, required: &[u64]) -> Result<(), String> {
-        let missing = required.iter().find(|n| !self.refusals.contains_key(n));
-        match missing {
-            Some(number) => Err(format!("refusal {number} was never seen")),
-            None => Ok(()),
+        for (number, count) in &self.properties {
+            println!("answers on property {number}: {count}");
         }
     }
+}
+
+/// Whether all of these were seen.
+fn required(wanted: &[u64], seen: &BTreeMap<u64, u64>, name: &str) -> Result<(), String> {
+    match wanted.iter().find(|number| !seen.contains_key(number)) {
+        Some(number) => Err(format!("{name} {number} was never seen")),
+        None => Ok(()),
+    }
+}
+
+/// The property that a request asks about.
+fn property(fields: &[&str]) -> Option<u64> {
+    let at = match fields[0] {
+        "check" | "start" | "step" | "solve" => return None,
+        "holds" => 4,
+        _ => 2,
+    };
+    fields.get(at)?.parse().ok()
 }
 
 /// A name for answers worth counting apart.

@@ -2,8 +2,9 @@
 
 use super::terms::*;
 use crate::design::{Boolean, Cell, Design, Integer, Kind, Matrix, Statement};
+use crate::query::{CONSTRAINT, INVARIANT};
 
-/// The properties of source 001 that one state decides.
+/// The properties of source 001. DYN is about two successive states.
 #[derive(Clone, Copy, Debug, PartialEq, Eq)]
 pub enum Property {
     Uic1,
@@ -12,16 +13,22 @@ pub enum Property {
     Stc2,
     Fstc1,
     Fstc2,
+    Dyn,
 }
 
-pub const ALL_PROPERTIES: [Property; 6] = [
+pub const ALL_PROPERTIES: [Property; 7] = [
     Property::Uic1,
     Property::Uic2,
     Property::Stc1,
     Property::Stc2,
     Property::Fstc1,
     Property::Fstc2,
+    Property::Dyn,
 ];
+
+/// What source 001 asks of the original design.
+pub const ORIGINAL_PROPERTIES: [Property; 5] =
+    [Property::Uic1, Property::Uic2, Property::Stc1, Property::Stc2, Property::Dyn];
 
 impl Property {
     pub fn name(self) -> &'static str {
@@ -32,6 +39,7 @@ impl Property {
             Property::Stc2 => "stc2",
             Property::Fstc1 => "fstc1",
             Property::Fstc2 => "fstc2",
+            Property::Dyn => "dyn",
         }
     }
 
@@ -43,6 +51,20 @@ impl Property {
             Property::Stc2 => implies(status_is(CHANGER, 1), status_is(RETURNER, 0)),
             Property::Fstc1 => implies(status_is(CHANGER, 2), status_is(RETURNER, 0)),
             Property::Fstc2 => implies(status_is(CHANGER, 2), status_is(RETURNER, 1)),
+            Property::Dyn => truth(true),
+        }
+    }
+
+    fn constraint(self) -> Option<Boolean> {
+        let moved = and(status_is(CHANGER, 1), next_status_is(CHANGER, 2));
+        (self == Property::Dyn).then(|| implies(moved, next_status_is(RETURNER, 0)))
+    }
+
+    /// The number of the property in its file.
+    pub fn number(self) -> u64 {
+        match self {
+            Property::Dyn => CONSTRAINT,
+            _ => INVARIANT,
         }
     }
 }
@@ -87,6 +109,7 @@ pub fn money_changer(version: Version, property: Property) -> Design {
         ],
         cells,
         invariant: property.invariant(),
+        constraint: property.constraint(),
     }
 }
 

@@ -20,6 +20,9 @@ pub fn all() -> Vec<(&'static str, Design)> {
         ("lock", lock()),
         ("wide", wide()),
         ("longest", longest()),
+        ("moved", moved()),
+        ("no-idle", no_idle()),
+        ("crossing-turns", crossing_turns()),
     ]
 }
 
@@ -35,6 +38,7 @@ pub fn design_a() -> Design {
             normal((0, 1, 0), 0, Some(below_two.clone()), vec![count]),
         ],
         invariant: below_two,
+        constraint: None,
     }
 }
 
@@ -45,6 +49,7 @@ pub fn first_state() -> Design {
         matrices: vec![matrix(1, vec![truth(true)])],
         cells: vec![invalid((0, 0, 0))],
         invariant: is(0),
+        constraint: None,
     }
 }
 
@@ -63,6 +68,7 @@ pub fn turnstile() -> Design {
             normal((0, OPEN, 1), LOCKED, None, vec![assign(PUSH, false)]),
         ],
         invariant: truth(true),
+        constraint: None,
     }
 }
 
@@ -82,6 +88,7 @@ pub fn crossing() -> Design {
         matrices: vec![matrix(2, vec![truth(true)]), matrix(2, vec![truth(true)])],
         cells: [light(0, 1), light(1, 0)].concat(),
         invariant: not(both_green),
+        constraint: None,
     }
 }
 
@@ -102,6 +109,7 @@ pub fn mutex() -> Design {
         matrices: vec![matrix(3, vec![truth(true)]), matrix(3, vec![truth(true)])],
         cells: [process(0, 1), process(1, 0)].concat(),
         invariant: not(and(status_is(0, INSIDE as i16), status_is(1, INSIDE as i16))),
+        constraint: None,
     }
 }
 
@@ -128,6 +136,7 @@ pub fn peterson() -> Design {
         matrices: vec![matrix(4, vec![truth(true)]), matrix(4, vec![truth(true)])],
         cells: [process(0, 1), process(1, 0)].concat(),
         invariant: not(and(status_is(0, INSIDE as i16), status_is(1, INSIDE as i16))),
+        constraint: None,
     }
 }
 
@@ -142,6 +151,7 @@ pub fn wrap() -> Design {
         matrices: vec![matrix(1, vec![truth(true), truth(true)])],
         cells: vec![normal((0, 0, 0), 0, None, vec![up]), normal((0, 0, 1), 0, None, vec![down])],
         invariant: less(number(DOWN), number(UP)),
+        constraint: None,
     }
 }
 
@@ -164,6 +174,7 @@ pub fn nested_ifs() -> Design {
         matrices: vec![matrix(1, vec![is(PLAY)])],
         cells: vec![normal((0, 0, 0), 0, None, vec![score, grade])],
         invariant: not(is(TOP)),
+        constraint: None,
     }
 }
 
@@ -180,6 +191,7 @@ pub fn old_status() -> Design {
             normal((0, 2, 0), 2, None, keep()),
         ],
         invariant: less(number(LAST), status(0)),
+        constraint: None,
     }
 }
 
@@ -213,6 +225,7 @@ pub fn operators() -> Design {
             is(B),
             not(equal(minus(number(X), number(Y)), plus(status(0), constant(-6)))),
         ),
+        constraint: None,
     }
 }
 
@@ -227,6 +240,7 @@ pub fn lock() -> Design {
         matrices: vec![matrix(4, buttons)],
         cells: vec![press(0, 2), press(1, 0), press(2, 1)],
         invariant: not(status_is(0, 3)),
+        constraint: None,
     }
 }
 
@@ -248,7 +262,39 @@ pub fn wide() -> Design {
         cells: (0..MATRICES).flat_map(cells).collect(),
         invariant: (1..MATRICES)
             .fold(not(status_is(0, 7)), |all, m| and(all, not(status_is(m, 7)))),
+        constraint: None,
     }
+}
+
+/// Design A with a constraint that says of a step what the invariant says of a state: when the matrix has just moved back to
+/// status 0, c is still below 2.
+pub fn moved() -> Design {
+    let moved_back = and(status_is(0, 1), next_status_is(0, 0));
+    let below_two = less(next_number(1), constant(2));
+    Design { constraint: Some(implies(moved_back, below_two)), ..design_a() }
+}
+
+/// Every step changes the state: only an idle step breaks that, and it does so at step 1 already.
+pub fn no_idle() -> Design {
+    const ALLOWED: u8 = 0;
+    const COUNT: u8 = 1;
+    let count = assign_integer(COUNT, plus(number(COUNT), constant(1)));
+    let same_count = equal(number(COUNT), next_number(COUNT));
+    Design {
+        variables: vec![external(), integer_from(0)],
+        matrices: vec![matrix(1, vec![is(ALLOWED)])],
+        cells: vec![normal((0, 0, 0), 0, None, vec![count])],
+        invariant: truth(true),
+        constraint: Some(not(and(same_count, same(is(ALLOWED), is_next(ALLOWED))))),
+    }
+}
+
+/// The two lights of `crossing`: when one has just turned green, the other stands red. It never breaks.
+pub fn crossing_turns() -> Design {
+    let turns = |own: u8, other: u8| {
+        implies(and(status_is(own, 0), next_status_is(own, 1)), next_status_is(other, 0))
+    };
+    Design { constraint: Some(and(turns(0, 1), turns(1, 0))), ..crossing() }
 }
 
 /// A file of the greatest length, by an invariant of constants that is true.

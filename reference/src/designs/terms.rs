@@ -17,6 +17,15 @@ pub fn status(matrix: u8) -> Integer {
     Integer::Status(matrix)
 }
 
+/// In the next state.
+pub fn next_number(variable: u8) -> Integer {
+    Integer::NextVariable(variable)
+}
+
+pub fn next_status(matrix: u8) -> Integer {
+    Integer::NextStatus(matrix)
+}
+
 pub fn plus(a: Integer, b: Integer) -> Integer {
     Integer::Sum(Box::new(a), Box::new(b))
 }
@@ -31,6 +40,11 @@ pub fn truth(value: bool) -> Boolean {
 
 pub fn is(variable: u8) -> Boolean {
     Boolean::Variable(variable)
+}
+
+/// In the next state.
+pub fn is_next(variable: u8) -> Boolean {
+    Boolean::NextVariable(variable)
 }
 
 pub fn not(a: Boolean) -> Boolean {
@@ -49,6 +63,11 @@ pub fn implies(a: Boolean, b: Boolean) -> Boolean {
     or(not(a), b)
 }
 
+/// Both are true or both are false.
+pub fn same(a: Boolean, b: Boolean) -> Boolean {
+    or(and(a.clone(), b.clone()), and(not(a), not(b)))
+}
+
 pub fn equal(a: Integer, b: Integer) -> Boolean {
     Boolean::Equal(a, b)
 }
@@ -59,6 +78,10 @@ pub fn less(a: Integer, b: Integer) -> Boolean {
 
 pub fn status_is(matrix: u8, value: i16) -> Boolean {
     equal(status(matrix), constant(value))
+}
+
+pub fn next_status_is(matrix: u8, value: i16) -> Boolean {
+    equal(next_status(matrix), constant(value))
 }
 
 pub fn assign(variable: u8, value: bool) -> Statement {

@@ -4,6 +4,7 @@ use super::circuit::{constant_word, Circuit, FALSE, TRUE};
 use super::sink::Sink;
 use super::state::STATUS_WIDTH;
 use crate::design::{Cell, CellKind, Design, Mover, Statement};
+use crate::pair::Pair;
 
 impl<S: Sink> Circuit<'_, S> {
     fn list(&mut self, state: Vec<i32>, list: &[Statement]) -> Vec<i32> {
@@ -13,18 +14,18 @@ impl<S: Sink> Circuit<'_, S> {
     fn statement(&mut self, mut state: Vec<i32>, statement: &Statement) -> Vec<i32> {
         match statement {
             Statement::AssignInteger(v, e) => {
-                let word = self.integer(&state, e);
+                let word = self.integer(Pair::one(&state), e);
                 let first = self.bits.variables[*v as usize];
                 state[first..first + 16].copy_from_slice(&word);
                 state
             }
             Statement::AssignBoolean(v, e) => {
-                let literal = self.boolean(&state, e);
+                let literal = self.boolean(Pair::one(&state), e);
                 state[self.bits.variables[*v as usize]] = literal;
                 state
             }
             Statement::If(condition, then, other) => {
-                let c = self.boolean(&state, condition);
+                let c = self.boolean(Pair::one(&state), condition);
                 let a = self.list(state.clone(), then);
                 let b = self.list(state, other);
                 self.muxes(c, &a, &b)
@@ -36,7 +37,7 @@ impl<S: Sink> Circuit<'_, S> {
     pub fn at_place(&mut self, design: &Design, state: &[i32], cell: &Cell) -> i32 {
         let status = self.status_word(state, cell.matrix);
         let equal = self.equal(&status, &constant_word(cell.status as i16));
-        let event = self.boolean(state, design.event_of(cell));
+        let event = self.boolean(Pair::one(state), design.event_of(cell));
         self.and(equal, event)
     }
 
@@ -58,7 +59,7 @@ impl<S: Sink> Circuit<'_, S> {
             return (FALSE, state.to_vec());
         };
         let place = self.at_place(design, state, cell);
-        let guard = guard.as_ref().map_or(TRUE, |g| self.boolean(state, g));
+        let guard = guard.as_ref().map_or(TRUE, |g| self.boolean(Pair::one(state), g));
         let enable = self.and(place, guard);
         let mut effect = self.list(state.to_vec(), action);
         let first = self.bits.statuses[cell.matrix as usize];

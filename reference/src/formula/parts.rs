@@ -4,7 +4,8 @@ use super::circuit::{Circuit, TRUE};
 use super::sink::{Count, Sink, Writer};
 use super::state::BitPlaces;
 use crate::design::{refusal, CellKind, Design, Mover, Refusal};
-use crate::query::Query;
+use crate::pair::Pair;
+use crate::query::{Claim, Query};
 
 /// What SIZE answers.
 #[derive(Clone, Copy, Debug, PartialEq, Eq)]
@@ -36,7 +37,8 @@ impl Size {
 /// The formula of one query and bound. Every frame has the same shape, so the
 /// gates of one frame are counted once.
 pub struct Formula<'a> {
-    query: Query<'a, Design>,
+    design: &'a Design,
+    claim: Claim<'a>,
     bound: u64,
     bits: BitPlaces,
     movers: Vec<Mover>,
@@ -46,10 +48,22 @@ pub struct Formula<'a> {
     step_count: Count,
 }
 
+/// What the step gates of a frame come to.
+struct StepGates {
+    /// The state bits after each mover.
+    results: Vec<Vec<i32>>,
+    /// The constraint's literal, where that is the property.
+    constraint: Option<i32>,
+    gates: u64,
+}
+
 impl<'a> Formula<'a> {
-    pub fn new(query: Query<'a, Design>, bound: u64) -> Formula<'a> {
+    /// 13, 14.
+    pub fn new(query: Query<'a, Design>, bound: u64) -> Result<Formula<'a>, Refusal> {
+        let claim = query.check_bound(bound)?;
         let mut formula = Formula {
-            query,
+            design: query.design,
+            claim,
             bound,
             bits: BitPlaces::new(query.design),
             movers: query.design.movers(),
@@ -58,13 +72,19 @@ impl<'a> Formula<'a> {
             step_gates: 0,
             step_count: Count::default(),
         };
+        formula.count_gates();
+        Ok(formula)
+    }
+
+    /// Counts the gates of frame 0. Before they are counted its literals are
+    /// not known, but their number is.
+    fn count_gates(&mut self) {
         let mut count = Count::default();
-        formula.property_gates = formula.write_property(0, &mut count).1;
-        formula.property_count = count;
+        self.property_gates = self.write_property(0, &mut count).1;
+        self.property_count = count;
         let mut count = Count::default();
-        formula.step_gates = formula.write_step_gates(0, &mut count).1;
-        formula.step_count = count;
-        formula
+        self.step_gates = self.write_step_gates(0, &mut count).gates;
+        self.step_count = count;
     }
 
     fn state_bits(&self) -> u64 {
@@ -121,7 +141,7 @@ impl<'a> Formula<'a> {
     }
 
     fn last_part_count(&self) -> Count {
-        Count { clauses: 1, words: self.bound + 2 }
+        Count { clauses: 1, words: self.judged_frames() + 1 }
     }
 
     fn full_frame_count(&self) -> Count {
@@ -154,7 +174,7 @@ impl<'a> Formula<'a> {
     fn write_first_part(&self, sink: &mut impl Sink) {
         sink.clause(&[TRUE]);
         let state = self.frame_state(0);
-        let initial = self.bits.initial(self.query.design);
+        let initial = self.bits.initial(self.design);
         for (bit, value) in state.iter().zip(initial) {
             sink.clause(&[if value { *bit } else { -bit }]);
         }
@@ -172,17 +192,34 @@ impl<'a> Formula<'a> {
                 sink.clause(&[-f, -h]);
             }
         }
-        let (results, _) = self.write_step_gates(frame, sink);
+        let step = self.write_step_gates(frame, sink);
         let next = self.frame_state(frame + 1);
-        for (f, result) in flags.iter().zip(&results) {
+        for (f, result) in flags.iter().zip(&step.results) {
             write_ties(*f, result, &next, sink);
         }
     }
 
     fn write_last_part(&self, sink: &mut impl Sink) {
-        let (first, _) = self.write_property(0, &mut Count::default());
-        let clause: Vec<i32> = (0..=self.bound).map(|j| -self.in_frame(first, j)).collect();
+        let first = self.first_literal();
+        let frames = 0..self.judged_frames();
+        let clause: Vec<i32> = frames.map(|j| -self.in_frame(first, j)).collect();
         sink.clause(&clause);
+    }
+
+    /// The frames that have a literal of the property: for a constraint only
+    /// those that a step leads out of.
+    fn judged_frames(&self) -> u64 {
+        match self.claim {
+            Claim::Constraint(_) => self.bound,
+            _ => self.bound + 1,
+        }
+    }
+
+    /// The property's literal in frame 0.
+    fn first_literal(&self) -> i32 {
+        let unseen = &mut Count::default();
+        let state_literal = self.write_property(0, unseen).0;
+        state_literal.or(self.write_step_gates(0, unseen).constraint).unwrap_or(TRUE)
     }
 
     /// A literal of frame 0 in another frame; the constants have no frame.
@@ -212,38 +249,43 @@ impl<'a> Formula<'a> {
         (first..first + self.movers.len() as i32).collect()
     }
 
-    /// The property's literal in a frame and the number of its gates.
-    fn write_property(&self, frame: u64, sink: &mut impl Sink) -> (i32, u64) {
+    /// The property's literal in a frame, where one state decides it, and the
+    /// number of its gates there.
+    fn write_property(&self, frame: u64, sink: &mut impl Sink) -> (Option<i32>, u64) {
         let first = self.frame_start(frame) + self.bits.total as i32;
         let state = self.frame_state(frame);
         let mut circuit = Circuit { bits: &self.bits, next: first, sink };
-        let literal = match self.query.property {
-            0 => circuit.boolean(&state, &self.query.design.invariant),
-            _ => self.write_unreached(&mut circuit, &state),
+        let literal = match self.claim {
+            Claim::Invariant(e) => Some(circuit.boolean(Pair::one(&state), e)),
+            Claim::NoInvalidCell => Some(self.write_unreached(&mut circuit, &state)),
+            Claim::Constraint(_) => None,
         };
         (literal, (circuit.next - first) as u64)
     }
 
     fn write_unreached<S: Sink>(&self, circuit: &mut Circuit<S>, state: &[i32]) -> i32 {
         let mut chain = TRUE;
-        for cell in self.query.design.cells.iter().filter(|c| c.kind == CellKind::Invalid) {
-            let reached = circuit.at_place(self.query.design, state, cell);
+        for cell in self.design.cells.iter().filter(|c| c.kind == CellKind::Invalid) {
+            let reached = circuit.at_place(self.design, state, cell);
             chain = circuit.and(chain, -reached);
         }
         chain
     }
 
-    /// The state after each mover, and the number of gates.
-    fn write_step_gates(&self, frame: u64, sink: &mut impl Sink) -> (Vec<Vec<i32>>, u64) {
+    /// Every mover, and then the constraint over this frame and the next one.
+    fn write_step_gates(&self, frame: u64, sink: &mut impl Sink) -> StepGates {
         let first = self.first_flag(frame) + self.movers.len() as i32;
-        let state = self.frame_state(frame);
+        let (earlier, next) = (self.frame_state(frame), self.frame_state(frame + 1));
         let mut circuit = Circuit { bits: &self.bits, next: first, sink };
-        let results = self
-            .movers
-            .iter()
-            .map(|mover| circuit.mover(self.query.design, &state, *mover))
-            .collect();
-        (results, (circuit.next - first) as u64)
+        let results =
+            self.movers.iter().map(|mover| circuit.mover(self.design, &earlier, *mover)).collect();
+        let constraint = match self.claim {
+            Claim::Constraint(e) => {
+                Some(circuit.boolean(Pair { earlier: &earlier[..], next: &next }, e))
+            }
+            _ => None,
+        };
+        StepGates { results, constraint, gates: (circuit.next - first) as u64 }
     }
 
     /// The mover with the one flag of each frame.

@@ -1,12 +1,14 @@
 //! Requests for the operations on a design.
 
 use super::files::{any_design, any_file, design_to_encode, small_design};
-use super::near::{affordable_bound, budget_near, exact_tries, length_near, MAX_TRIES};
+use super::near::{
+    affordable_bound, budget_near, exact_tries, formula_of, length_near, property_of, MAX_TRIES,
+};
 use super::trees::number;
 use crate::design::{Design, Kind, MAX_MATRICES, MAX_VARIABLES};
 use crate::formula::Formula;
 use crate::protocol::{hex, list_text};
-use crate::query::{Query, MAX_BOUND, MAX_PROPERTY};
+use crate::query::{Query, MAX_BOUND};
 use crate::random::Random;
 use crate::step::State;
 
@@ -35,7 +37,7 @@ pub fn step(random: &mut Random) -> String {
 
 pub fn holds(random: &mut Random) -> String {
     let (design, file) = any_design(random);
-    let property = any_property(random);
+    let property = any_property(random, &design);
     format!("holds {} {} {property}", hex(&file), state_fields(random, &design))
 }
 
@@ -45,25 +47,27 @@ pub fn replay(random: &mut Random, operation: &str) -> String {
     if operation == "trace" && random.chance(1) {
         file.resize(random.pick(&[16_385, 16_386, 16_390]), 0);
     }
-    let property = if operation == "trace" { property_byte(random) } else { any_property(random) };
+    let property = match operation {
+        "trace" => property_byte(random, &design),
+        _ => any_property(random, &design),
+    };
     let choices = any_choices(random, design.movers().len());
     format!("{operation} {} {property} {}", hex(&file), list_text(&choices))
 }
 
 pub fn size(random: &mut Random) -> String {
-    let (_, file) = any_design(random);
+    let (design, file) = any_design(random);
     let bound = any_bound(random);
-    format!("size {} {} {bound}", hex(&file), any_property(random))
+    format!("size {} {} {bound}", hex(&file), any_property(random, &design))
 }
 
 pub fn encode(random: &mut Random) -> String {
     let (design, file) = design_to_encode(random);
-    let (property, bound) = (any_property(random), any_bound(random));
+    let (property, bound) = (any_property(random, &design), any_bound(random));
     let part = any_part(random, bound);
-    let words = if property > MAX_PROPERTY || bound > MAX_BOUND || part > bound + 2 {
-        random.between(0, 20) as u64
-    } else {
-        Formula::new(Query::new(&design, property), bound).part_count(part).words
+    let words = match Formula::new(Query::new(&design, property), bound) {
+        Ok(formula) if part <= formula.last_part() => formula.part_count(part).words,
+        _ => random.between(0, 20) as u64,
     };
     let length = length_near(random, words.min(MAX_PART) as usize);
     format!("encode {} {property} {bound} {part} {length}", hex(&file))
@@ -71,8 +75,8 @@ pub fn encode(random: &mut Random) -> String {
 
 pub fn decode(random: &mut Random) -> String {
     let (design, file) = design_to_encode(random);
-    let property = any_property(random);
-    let query = Query::new(&design, property & 1);
+    let property = any_property(random, &design);
+    let query = taken(random, Query::new(&design, property));
     let bound = affordable_bound(query, random.between(0, 6), |n, _| n <= MAX_VALUES);
     let mut values = flagged_values(random, query, bound);
     if random.chance(30) {
@@ -85,11 +89,11 @@ pub fn decode(random: &mut Random) -> String {
 
 pub fn verdict(random: &mut Random) -> String {
     let (design, file) = small_design(random);
-    let property = any_property(random);
+    let property = any_property(random, &design);
     let cheap = |n, words| n * words <= MAX_SEARCH;
-    let query = Query::new(&design, property & 1);
+    let query = taken(random, Query::new(&design, property));
     let bound = affordable_bound(query, random.pick(&[0, 1, 2, 3, 3, 4, 4]), cheap);
-    let size = Formula::new(query, bound).size();
+    let size = formula_of(query, bound).size();
     let exact = exact_tries(query, bound);
     let budget = match exact {
         Some(tries) => budget_near(random, tries),
@@ -98,6 +102,15 @@ pub fn verdict(random: &mut Random) -> String {
     let bound = if random.chance(3) { far_bound(random) } else { bound };
     let lengths = verdict_lengths(random, size.words, size.variables, bound);
     format!("verdict {} {property} {bound} {budget} {}", hex(&file), lengths)
+}
+
+/// The query, or with another property where its own is refused: the sizes of
+/// such a request are then those of a right one.
+fn taken<'a>(random: &mut Random, query: Query<'a, Design>) -> Query<'a, Design> {
+    match query.check_property() {
+        Ok(_) => query,
+        Err(_) => Query::new(query.design, property_of(random, query.design)),
+    }
 }
 
 /// Lengths of clauses, values, trail and choices: mostly enough.
@@ -118,17 +131,21 @@ fn verdict_lengths(random: &mut Random, words: u64, variables: u64, bound: u64) 
 /// Numbers over a byte. Cut to one, most of them would be taken.
 const OVER_A_BYTE: [u64; 6] = [256, 257, 300, 1 << 32, (1 << 32) + 1, u64::MAX];
 
-fn any_property(random: &mut Random) -> u64 {
+fn any_property(random: &mut Random, design: &Design) -> u64 {
     if random.chance(4) {
         random.pick(&OVER_A_BYTE)
     } else {
-        property_byte(random)
+        property_byte(random, design)
     }
 }
 
-/// A property as a program reads it.
-fn property_byte(random: &mut Random) -> u64 {
-    random.pick(&[0, 0, 0, 0, 0, 0, 0, 0, 1, 1, 1, 1, 1, 1, 1, 2, 255])
+/// A property as a program reads it: mostly one that the design has.
+fn property_byte(random: &mut Random, design: &Design) -> u64 {
+    if random.chance(85) {
+        property_of(random, design)
+    } else {
+        random.pick(&[2, 2, 2, 3, 255])
+    }
 }
 
 fn any_bound(random: &mut Random) -> u64 {
@@ -231,7 +248,7 @@ fn state_fault(random: &mut Random, design: &Design, state: &mut State) {
 /// Values with one flag set in each frame, except for some faults. Values
 /// that are no flags may be anything.
 fn flagged_values(random: &mut Random, query: Query<Design>, bound: u64) -> Vec<u8> {
-    let size = Formula::new(query, bound).size();
+    let size = formula_of(query, bound).size();
     let mut values: Vec<u8> = (0..size.variables).map(|_| random.word() as u8).collect();
     let movers = size.movers as usize;
     let first = 1 + (size.state_bits + size.property_gates) as usize;

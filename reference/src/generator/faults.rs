@@ -4,13 +4,14 @@
 use super::trees::{design, Plan, Trees};
 use crate::builder::{file_with_places, Places};
 use crate::design::{
-    Boolean, CellKind, Design, Statement, MAX_FILE, MAX_VARIABLES, TRAILER_LENGTH,
+    Boolean, CellKind, Design, Integer, Statement, CONSTRAINT_FIELD, CONSTRAINT_VERSION, MAX_FILE,
+    MAX_VARIABLES, TRAILER_LENGTH,
 };
 use crate::random::Random;
 
-const OPERATORS: [u8; 18] = [
-    0x00, 0x01, 0x02, 0x03, 0x04, 0x05, 0x06, 0x0f, 0x10, 0x11, 0x12, 0x13, 0x14, 0x15, 0x16, 0x17,
-    0x20, 0x21,
+const OPERATORS: [u8; 20] = [
+    0x00, 0x01, 0x02, 0x03, 0x04, 0x05, 0x06, 0x07, 0x08, 0x0f, 0x10, 0x11, 0x12, 0x13, 0x14, 0x15,
+    0x16, 0x17, 0x20, 0x21,
 ];
 
 /// The file of a design of this plan, with up to three faults.
@@ -28,7 +29,8 @@ pub fn faulty_file(random: &mut Random, plan: Plan) -> Vec<u8> {
 
 /// A file at or beyond an end of the permitted lengths.
 pub fn file_of_edge_length(random: &mut Random) -> Vec<u8> {
-    let length = random.pick(&[0, 1, 15, 16, 17, MAX_FILE - 1, MAX_FILE, MAX_FILE + 1, 16_400]);
+    let lengths = [0, 1, 15, 16, 17, 18, 19, 25, 27, MAX_FILE - 1, MAX_FILE, MAX_FILE + 1, 16_400];
+    let length = random.pick(&lengths);
     let mut file = vec![0; length];
     for byte in &mut file {
         *byte = random.pick(&OPERATORS);
@@ -36,6 +38,7 @@ pub fn file_of_edge_length(random: &mut Random) -> Vec<u8> {
     if length >= TRAILER_LENGTH && random.chance(70) {
         let at = length - TRAILER_LENGTH;
         file[at..].copy_from_slice(&[1, 0, 0, 0, 0, 0, 1, 0, 2, 0, 5, 0, 0, 0, 5, 0]);
+        file[at] = random.pick(&[1, 2, 2, 3]);
         file[..at.min(2)].fill(1);
     }
     file
@@ -48,11 +51,16 @@ fn tree_fault(random: &mut Random, tree: &mut Design) {
     let mut trees = Trees::new(random, &tree.variables, tree.matrices.len());
     let deep = trees.boolean(depth);
     let list = trees.list(2, 2, 0);
-    let deep = if random.chance(30) { unnamed(random) } else { deep };
-    match random.below(4) {
+    let deep = match random.below(10) {
+        0..=2 => unnamed(random),
+        3..=5 => next_read(random),
+        _ => deep,
+    };
+    match random.below(5) {
         0 => tree.invariant = deep,
         1 => *random_event(random, tree) = deep,
         2 => set_guard(random, tree, deep),
+        3 => tree.constraint = Some(deep),
         _ => set_action(random, tree, deep, nested_ifs(ifs, list)),
     }
 }
@@ -60,6 +68,17 @@ fn tree_fault(random: &mut Random, tree: &mut Design) {
 /// A variable that mostly does not exist or is of another kind.
 fn unnamed(random: &mut Random) -> Boolean {
     Boolean::Variable(random.pick(&[0, 1, 2, MAX_VARIABLES as u8 - 1, MAX_VARIABLES as u8, 255]))
+}
+
+/// An expression that reads the next state, which only a constraint may. It
+/// may also name what does not exist.
+fn next_read(random: &mut Random) -> Boolean {
+    let name = random.pick(&[0, 0, 1, 2, 7, 8, MAX_VARIABLES as u8]);
+    match random.below(3) {
+        0 => Boolean::NextVariable(name),
+        1 => Boolean::Less(Integer::NextVariable(name), Integer::Constant(0)),
+        _ => Boolean::Equal(Integer::Constant(0), Integer::NextStatus(name)),
+    }
 }
 
 fn random_event<'a>(random: &mut Random, tree: &'a mut Design) -> &'a mut Boolean {
@@ -105,8 +124,10 @@ fn nested_ifs(ifs: usize, inner: Vec<Statement>) -> Statement {
 
 /// Changes the file in one way; the file may have other faults already.
 fn byte_fault(random: &mut Random, file: &mut Vec<u8>, places: &Places) {
-    match random.below(14) {
+    match random.below(17) {
         0 | 1 => trailer_fault(random, file),
+        14 | 15 => constraint_fault(random, file, places),
+        16 => version_fault(random, file),
         2 => nudge_item(random, file, &places.variables, 3),
         3 => nudge_item(random, file, &places.matrices, 2),
         4 => nudge_item(random, file, &places.events, 1),
@@ -148,6 +169,31 @@ fn trailer_fault(random: &mut Random, file: &mut [u8]) {
     nudge(random, file, trailer + byte);
 }
 
+/// The version becomes another one; the rest of the file stays.
+fn version_fault(random: &mut Random, file: &mut [u8]) {
+    if let Some(trailer) = file.len().checked_sub(TRAILER_LENGTH) {
+        file[trailer] = random.pick(&[0, 1, 1, 2, 2, 2, 3]);
+    }
+}
+
+/// The constraint is empty, or its offset is at or next to one of its limits or
+/// far away.
+fn constraint_fault(random: &mut Random, file: &mut Vec<u8>, places: &Places) {
+    let Some(constraint) = places.constraint else {
+        return version_fault(random, file);
+    };
+    let Some(end) = file.len().checked_sub(TRAILER_LENGTH + CONSTRAINT_FIELD) else {
+        return;
+    };
+    if constraint < end && random.chance(20) {
+        file.drain(constraint..end);
+        return;
+    }
+    let near = random.pick(&[places.invariant, constraint, end]) + random.below(3);
+    let offset = random.pick(&[near, near, near, near, 1, end + 3, 0x1_0000]) - 1;
+    file[end..end + CONSTRAINT_FIELD].copy_from_slice(&(offset as u16).to_le_bytes());
+}
+
 /// Any byte after the matrices takes the value of an operator.
 fn expression_fault(random: &mut Random, file: &mut [u8], places: &Places) {
     let start = places.events.first().copied().unwrap_or(0);
@@ -168,13 +214,21 @@ fn change_length(random: &mut Random, file: &mut Vec<u8>) {
     }
 }
 
+/// Where the items end, by the version that the file tells.
+fn items_end(file: &[u8]) -> Option<usize> {
+    let trailer = file.len().checked_sub(TRAILER_LENGTH)?;
+    let version = u16::from_le_bytes([file[trailer], file[trailer + 1]]);
+    let constraint = if version == CONSTRAINT_VERSION { CONSTRAINT_FIELD } else { 0 };
+    trailer.checked_sub(constraint)
+}
+
 /// Inserts or removes a byte and moves the offsets after it, so that the
 /// sections still abut.
 fn move_byte(random: &mut Random, file: &mut Vec<u8>) {
-    if file.len() <= TRAILER_LENGTH {
+    let Some(end) = items_end(file).filter(|end| *end > 0) else {
         return;
-    }
-    let at = random.below(file.len() - TRAILER_LENGTH);
+    };
+    let at = random.below(end);
     let added = random.chance(50);
     if added {
         file.insert(at, random.pick(&OPERATORS));
@@ -184,6 +238,10 @@ fn move_byte(random: &mut Random, file: &mut Vec<u8>) {
     let trailer = file.len() - TRAILER_LENGTH;
     for field in [2, 4, 5, 7] {
         move_offset(&mut file[trailer + 2 * field..trailer + 2 * field + 2], at, added);
+    }
+    let end = if added { end + 1 } else { end - 1 };
+    if end < trailer {
+        move_offset(&mut file[end..trailer], at, added);
     }
 }
 

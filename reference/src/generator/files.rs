@@ -1,5 +1,6 @@
 //! Design files for requests, good and bad ones.
 
+use super::constraints::breakable_constraint;
 use super::faults;
 use super::trees::{
     any_plan, breakable, chain_design, crowded_plan, deep_plan, design, lengthen, tiny_plan, Plan,
@@ -63,6 +64,9 @@ fn tiny_design(random: &mut Random) -> Design {
     let mut design = accepted(random, plan);
     if random.chance(60) {
         design.invariant = breakable(random, &design);
+    }
+    if design.constraint.is_some() && random.chance(60) {
+        design.constraint = Some(breakable_constraint(random, &design));
     }
     design
 }

@@ -1,17 +1,16 @@
 //! Requests on the known designs, and whole series of requests: every part of a formula, every kind of budget and memory.
 
 use super::files::design_to_encode;
-use super::near::exact_tries;
+use super::near::{exact_tries, formula_of, property_of};
 use crate::builder::file_bytes;
 use crate::design::{check, Design};
 use crate::designs::all_files;
-use crate::formula::Formula;
 use crate::protocol::hex;
 use crate::query::Query;
 use crate::random::Random;
 
 /// Small designs and the bounds up to which a verdict on them takes few tries.
-const VERDICTS: [(&str, u64); 10] = [
+const VERDICTS: [(&str, u64); 13] = [
     ("design-a.stm", 4),
     ("first-state.stm", 4),
     ("turnstile.stm", 4),
@@ -22,6 +21,9 @@ const VERDICTS: [(&str, u64); 10] = [
     ("old-status.stm", 4),
     ("operators.stm", 3),
     ("lock.stm", 2),
+    ("moved.stm", 4),
+    ("no-idle.stm", 4),
+    ("crossing-turns.stm", 3),
 ];
 
 fn design_for_verdict(random: &mut Random) -> (Design, u64) {
@@ -35,8 +37,8 @@ fn design_for_verdict(random: &mut Random) -> (Design, u64) {
 /// Every part of a formula, each into memory that is short by one, just suffices, and is longer.
 pub fn all_parts(random: &mut Random) -> Vec<String> {
     let (design, file) = design_to_encode(random);
-    let (property, bound) = (random.below(2) as u64, random.between(0, 3) as u64);
-    let formula = Formula::new(Query::new(&design, property), bound);
+    let (property, bound) = (property_of(random, &design), random.between(0, 3) as u64);
+    let formula = formula_of(Query::new(&design, property), bound);
     let mut requests = vec![];
     for part in 0..=formula.last_part() {
         let words = formula.part_count(part).words;
@@ -50,9 +52,9 @@ pub fn all_parts(random: &mut Random) -> Vec<String> {
 /// A verdict with no try, one too few, just enough and more; then each memory short by one, and all of it longer.
 pub fn all_budgets(random: &mut Random) -> Vec<String> {
     let (design, bound) = design_for_verdict(random);
-    let property = random.below(2) as u64;
+    let property = property_of(random, &design);
     let query = Query::new(&design, property);
-    let size = Formula::new(query, bound).size();
+    let size = formula_of(query, bound).size();
     let tries = exact_tries(query, bound).unwrap_or(20);
     let exact = [size.words, size.variables, size.variables, bound];
     let mut requests = vec![];

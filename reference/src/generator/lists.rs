@@ -1,8 +1,7 @@
 //! Requests for SOLVE: short clause lists, good and bad ones.
 
-use super::near::{budget_near, length_near};
+use super::near::{budget_near, formula_of, length_near, property_of};
 use super::trees::chain_design;
-use crate::formula::Formula;
 use crate::protocol::list_text;
 use crate::query::Query;
 use crate::random::Random;
@@ -39,8 +38,8 @@ fn any_list(random: &mut Random) -> (usize, Vec<i32>) {
 
 fn formula_list(random: &mut Random) -> (usize, Vec<i32>) {
     let design = chain_design(random);
-    let query = Query::new(&design, random.below(2) as u64);
-    let formula = Formula::new(query, random.between(0, 2) as u64);
+    let query = Query::new(&design, property_of(random, &design));
+    let formula = formula_of(query, random.between(0, 2) as u64);
     let mut words = vec![0; formula.size().words as usize];
     let mut at = 0;
     for part in 0..=formula.last_part() {

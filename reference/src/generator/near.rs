@@ -3,12 +3,23 @@
 
 use crate::design::Design;
 use crate::formula::Formula;
-use crate::query::Query;
+use crate::query::{Query, CONSTRAINT, NO_INVALID_CELL};
 use crate::random::Random;
 use crate::verdict::{verdict, Lent};
 
 /// A search that takes more tries is not made.
 pub const MAX_TRIES: u64 = 80;
+
+/// A property that the design has.
+pub fn property_of(random: &mut Random, design: &Design) -> u64 {
+    let last = if design.constraint.is_some() { CONSTRAINT } else { NO_INVALID_CELL };
+    random.between(0, last as usize) as u64
+}
+
+/// The formula of a query and a bound that are taken.
+pub fn formula_of(query: Query<Design>, bound: u64) -> Formula {
+    Formula::new(query, bound).expect("a property and a bound that are taken")
+}
 
 /// The greatest bound up to `bound` whose formula is affordable, or 0.
 pub fn affordable_bound(
@@ -17,7 +28,7 @@ pub fn affordable_bound(
     affordable: impl Fn(u64, u64) -> bool,
 ) -> u64 {
     let fits = |k: &u64| {
-        let size = Formula::new(query, *k).size();
+        let size = formula_of(query, *k).size();
         affordable(size.variables, size.words)
     };
     (0..=bound as u64).rev().find(fits).unwrap_or(0)
@@ -25,7 +36,7 @@ pub fn affordable_bound(
 
 /// The tries of VERDICT with no budget set, where they are few.
 pub fn exact_tries(query: Query<Design>, bound: u64) -> Option<u64> {
-    let size = Formula::new(query, bound).size();
+    let size = formula_of(query, bound).size();
     let n = size.variables as usize;
     let lent = Lent {
         clauses: &mut vec![0; size.words as usize],

@@ -1,5 +1,6 @@
 //! Designs that CHECK accepts, or that miss only by their number of movers.
 
+use super::constraints::breakable_constraint;
 use crate::builder::{boolean_bytes, file_bytes};
 use crate::design::{
     Boolean, Cell, CellKind, Design, Integer, Kind, Matrix, Statement, Variable, MAX_FILE,
@@ -20,6 +21,8 @@ pub struct Plan {
     pub depth: usize,
     pub statements: usize,
     pub ifs: usize,
+    /// Whether there is a constraint, and the file so of version 2.
+    pub constraint: bool,
 }
 
 /// Few movers and few bits, so that a search over it is short.
@@ -35,6 +38,7 @@ pub fn tiny_plan(random: &mut Random) -> Plan {
         depth: random.between(1, 3),
         statements: random.between(0, 2),
         ifs: random.pick(&[0, 0, 1]),
+        constraint: random.chance(50),
     }
 }
 
@@ -50,6 +54,7 @@ pub fn middle_plan(random: &mut Random) -> Plan {
         depth: random.between(1, 6),
         statements: random.between(0, 4),
         ifs: random.between(0, 4),
+        constraint: random.chance(50),
     }
 }
 
@@ -66,6 +71,7 @@ pub fn wide_plan(random: &mut Random) -> Plan {
         depth: random.pick(&[1, 2, 15, 16]),
         statements: random.between(0, 4),
         ifs: random.between(0, 4),
+        constraint: random.chance(50),
     }
 }
 
@@ -82,6 +88,7 @@ pub fn deep_plan(random: &mut Random) -> Plan {
         depth: random.between(8, 16),
         statements: 2,
         ifs: 4,
+        constraint: random.chance(50),
     }
 }
 
@@ -98,6 +105,7 @@ pub fn crowded_plan(random: &mut Random) -> Plan {
         depth: 1,
         statements: 1,
         ifs: 0,
+        constraint: random.chance(50),
     }
 }
 
@@ -131,7 +139,8 @@ fn one_design(random: &mut Random, plan: &Plan) -> Design {
     let normal = plan.movers.saturating_sub(externals);
     let cells = trees.cells(plan, &matrices, normal);
     let invariant = trees.short_boolean(plan.depth);
-    Design { variables, matrices, cells, invariant }
+    let constraint = plan.constraint.then(|| trees.constraint(plan.depth));
+    Design { variables, matrices, cells, invariant, constraint }
 }
 
 fn variables(random: &mut Random, plan: &Plan) -> Vec<Variable> {
@@ -173,6 +182,8 @@ pub struct Trees<'a> {
     integers: Vec<u8>,
     booleans: Vec<u8>,
     matrices: usize,
+    /// Whether leaves may read the next state.
+    next_state: bool,
 }
 
 impl<'a> Trees<'a> {
@@ -181,7 +192,8 @@ impl<'a> Trees<'a> {
             let fits = |i: &usize| (variables[*i].kind == Kind::Integer) == integer;
             (0..variables.len()).filter(fits).map(|i| i as u8).collect()
         };
-        Trees { random, integers: of(true), booleans: of(false), matrices }
+        let (integers, booleans) = (of(true), of(false));
+        Trees { random, integers, booleans, matrices, next_state: false }
     }
 
     fn matrix(&mut self, plan: &Plan) -> Matrix {
@@ -209,6 +221,19 @@ impl<'a> Trees<'a> {
             }
             depth -= 1;
         }
+    }
+
+    /// An expression whose leaves may read the next state.
+    pub fn constraint(&mut self, depth: usize) -> Boolean {
+        self.next_state = true;
+        let constraint = self.short_boolean(depth);
+        self.next_state = false;
+        constraint
+    }
+
+    /// Whether a leaf is to read the next state.
+    fn reads_next(&mut self) -> bool {
+        self.next_state && self.random.chance(50)
     }
 
     fn cells(&mut self, plan: &Plan, matrices: &[Matrix], normal: usize) -> Vec<Cell> {
@@ -304,7 +329,12 @@ impl<'a> Trees<'a> {
         if self.booleans.is_empty() || self.random.chance(20) {
             return Boolean::Constant(self.random.chance(60));
         }
-        Boolean::Variable(self.random.pick(&self.booleans))
+        let variable = self.random.pick(&self.booleans);
+        if self.reads_next() {
+            Boolean::NextVariable(variable)
+        } else {
+            Boolean::Variable(variable)
+        }
     }
 
     fn booleans(&mut self, depth: usize) -> (Boolean, Boolean) {
@@ -332,10 +362,14 @@ impl<'a> Trees<'a> {
 
     fn integer_leaf(&mut self) -> Integer {
         if !self.integers.is_empty() && self.random.chance(50) {
-            return Integer::Variable(self.random.pick(&self.integers));
+            let variable = self.random.pick(&self.integers);
+            let leaf = if self.reads_next() { Integer::NextVariable } else { Integer::Variable };
+            return leaf(variable);
         }
         if self.random.chance(40) {
-            return Integer::Status(self.random.below(self.matrices) as u8);
+            let matrix = self.random.below(self.matrices) as u8;
+            let leaf = if self.reads_next() { Integer::NextStatus } else { Integer::Status };
+            return leaf(matrix);
         }
         Integer::Constant(number(self.random))
     }
@@ -384,8 +418,10 @@ pub fn chain_design(random: &mut Random) -> Design {
         cells.push(cell_at((0, statuses - 1, 0), CellKind::Invalid));
     }
     let matrices = vec![Matrix { statuses, events: vec![event] }];
-    let mut design = Design { variables, matrices, cells, invariant: Boolean::Constant(true) };
+    let invariant = Boolean::Constant(true);
+    let mut design = Design { variables, matrices, cells, invariant, constraint: None };
     design.invariant = breakable(random, &design);
+    design.constraint = random.chance(50).then(|| breakable_constraint(random, &design));
     design
 }
 
@@ -442,9 +478,14 @@ pub fn boolean_of_length(random: &mut Random, length: usize) -> Boolean {
     }
 }
 
-/// Lengthens the invariant until the file has exactly `length` bytes. The
-/// invariant becomes one of constants, so that its depth stays small.
+/// Lengthens the invariant, or the constraint, until the file has exactly
+/// `length` bytes. It becomes one of constants, so that its depth stays small.
 pub fn lengthen(random: &mut Random, design: &mut Design, length: usize) {
-    let rest = file_bytes(design).len() - boolean_bytes(&design.invariant).len();
-    design.invariant = boolean_of_length(random, length - rest);
+    let file = file_bytes(design).len();
+    let lengthened = match &mut design.constraint {
+        Some(constraint) if random.chance(50) => constraint,
+        _ => &mut design.invariant,
+    };
+    let rest = file - boolean_bytes(lengthened).len();
+    *lengthened = boolean_of_length(random, length - rest);
 }

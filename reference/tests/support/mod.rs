@@ -3,9 +3,10 @@
 #![allow(dead_code)]
 
 use reference::builder::file_bytes;
-use reference::design::{check, Design};
+use reference::design::{check, Boolean, Design, Integer};
 use reference::formula::Formula;
-use reference::query::Query;
+use reference::query::{Query, CONSTRAINT};
+use reference::random::Random;
 use reference::search::{solve, Outcome, Solved};
 use reference::step::{holds, start, step, State};
 use reference::verdict::{verdict, Lent, Verdict};
@@ -27,12 +28,52 @@ pub fn all_lists(movers: usize, length: usize) -> Vec<Vec<u8>> {
 /// Whether a list breaks the property, step by step.
 pub fn breaks(design: &Design, property: u64, choices: &[u8]) -> bool {
     let mut state = start(design);
-    let mut broken = !holds(Query::new(design, property), &state).unwrap();
+    let mut broken = property != CONSTRAINT && bad_step(design, property, &state, &state);
     for &choice in choices {
-        state = step(design, &state, choice as u64).unwrap().state;
-        broken |= !holds(Query::new(design, property), &state).unwrap();
+        let after = step(design, &state, choice as u64).unwrap().state;
+        broken |= bad_step(design, property, &state, &after);
+        state = after;
     }
     broken
+}
+
+/// Whether the property is false of a step's two states.
+fn bad_step(design: &Design, property: u64, before: &State, after: &State) -> bool {
+    match &design.constraint {
+        Some(constraint) if property == CONSTRAINT => !says(constraint, before, after),
+        _ => !holds(Query::new(design, property), after).unwrap(),
+    }
+}
+
+/// What an expression says of two states.
+pub fn says(e: &Boolean, before: &State, after: &State) -> bool {
+    let of = |a: &Boolean| says(a, before, after);
+    let number = |a: &Integer| number_in(a, before, after);
+    match e {
+        Boolean::Constant(c) => *c,
+        Boolean::Variable(v) => before.values[*v as usize] != 0,
+        Boolean::NextVariable(v) => after.values[*v as usize] != 0,
+        Boolean::Not(a) => !of(a),
+        Boolean::And(a, b) => of(a) & of(b),
+        Boolean::Or(a, b) => of(a) | of(b),
+        Boolean::Equal(a, b) => number(a) == number(b),
+        Boolean::Less(a, b) => number(a) < number(b),
+    }
+}
+
+/// By remainders, where the code under test wraps.
+fn number_in(e: &Integer, before: &State, after: &State) -> i32 {
+    let of = |a: &Integer| number_in(a, before, after);
+    let wrapped = |n: i32| (n + 32_768).rem_euclid(65_536) - 32_768;
+    match e {
+        Integer::Constant(c) => *c as i32,
+        Integer::Variable(v) => before.values[*v as usize] as i32,
+        Integer::Status(m) => before.statuses[*m as usize] as i32,
+        Integer::NextVariable(v) => after.values[*v as usize] as i32,
+        Integer::NextStatus(m) => after.statuses[*m as usize] as i32,
+        Integer::Sum(a, b) => wrapped(of(a) + of(b)),
+        Integer::Difference(a, b) => wrapped(of(a) - of(b)),
+    }
 }
 
 pub fn breaking_lists(design: &Design, property: u64, length: usize) -> Vec<Vec<u8>> {
@@ -43,11 +84,16 @@ pub fn breaking_lists(design: &Design, property: u64, length: usize) -> Vec<Vec<
 
 /// The fewest steps to a state where `bad` is true of a step's two states, by
 /// breadth-first search over STEP; `None` where every reachable one is good.
-pub fn first_bad_step(design: &Design, bad: impl Fn(&State, &State) -> bool) -> Option<usize> {
+/// `from_start` asks the first state, too.
+pub fn first_bad_step(
+    design: &Design,
+    from_start: bool,
+    bad: impl Fn(&State, &State) -> bool,
+) -> Option<usize> {
     let first = start(design);
     let mut seen = HashSet::from([first]);
     let mut level = vec![first];
-    if bad(&first, &first) {
+    if from_start && bad(&first, &first) {
         return Some(0);
     }
     for depth in 1.. {
@@ -72,12 +118,23 @@ pub fn first_bad_step(design: &Design, bad: impl Fn(&State, &State) -> bool) -> 
 }
 
 pub fn first_break(design: &Design, property: u64) -> Option<usize> {
-    first_bad_step(design, |_, after| !holds(Query::new(design, property), after).unwrap())
+    first_bad_step(design, property != CONSTRAINT, |before, after| {
+        bad_step(design, property, before, after)
+    })
+}
+
+pub fn formula_of(design: &Design, property: u64, bound: u64) -> Formula<'_> {
+    Formula::new(Query::new(design, property), bound).unwrap()
+}
+
+/// A property that the design has.
+pub fn property_of(random: &mut Random, design: &Design) -> u64 {
+    random.between(0, 1 + design.constraint.is_some() as usize) as u64
 }
 
 /// The words of a part, or of all parts joined.
 pub fn part_words(design: &Design, property: u64, bound: u64, part: u64) -> Vec<i32> {
-    let formula = Formula::new(Query::new(design, property), bound);
+    let formula = formula_of(design, property, bound);
     let mut words = vec![0; formula.part_count(part).words as usize];
     assert_eq!(formula.write_part(part, &mut words), words.len() as u64);
     words
@@ -89,7 +146,7 @@ pub fn formula_words(design: &Design, property: u64, bound: u64) -> Vec<i32> {
 }
 
 pub fn variables(design: &Design, property: u64, bound: u64) -> usize {
-    Formula::new(Query::new(design, property), bound).variables() as usize
+    formula_of(design, property, bound).variables() as usize
 }
 
 /// SOLVE on memory of its own: the answer and the values.
@@ -102,7 +159,7 @@ pub fn solved(n: usize, words: &[i32], budget: u64) -> (Solved, Vec<u8>) {
 
 /// VERDICT on memory of its own: the answer and the choices.
 pub fn verdict_of(design: &Design, property: u64, bound: u64, budget: u64) -> (Verdict, Vec<u8>) {
-    let size = Formula::new(Query::new(design, property), bound).size();
+    let size = formula_of(design, property, bound).size();
     let n = size.variables as usize;
     let mut choices = vec![255; bound as usize];
     let lent = Lent {

@@ -112,12 +112,17 @@ fn main() {
     size("design-a", 0, 100);
     size("money-changer-uic1", 0, 100);
     size("wide", 1, 100);
+    size("money-changer-dyn", 2, 100);
     encode("design-a", 0, 3);
     encode("design-a", 0, 100);
     encode("money-changer-uic1", 0, 21);
     encode("wide", 1, 1);
+    encode("money-changer-dyn", 2, 21);
     verdict("design-a", 0, 3);
     verdict("crossing", 0, 3);
     verdict("mutex", 0, 3);
     verdict("money-changer-uic1", 1, 1);
+    verdict("moved", 2, 3);
+    verdict("crossing-turns", 2, 3);
+    verdict("money-changer-dyn", 2, 2);
 }

@@ -9,7 +9,7 @@ use reference::designs::{all_files, design_a, money_changer, Property, Version};
 use reference::formula::Formula;
 use reference::generator::trees::{crowded_plan, design, Plan};
 use reference::operations::{Answer, Operations, Reference};
-use reference::query::{Query, MAX_BOUND};
+use reference::query::{Query, CONSTRAINT, INVARIANT, MAX_BOUND};
 use reference::random::Random;
 use reference::search::Solved;
 use std::hint::black_box;
@@ -23,12 +23,12 @@ fn check(name: &str, design: &[u8]) {
 }
 
 /// REPLAY of as many choices as it takes; a list that breaks nothing, so that no side may stop early.
-fn replay(name: &str, design: &Design) {
+fn replay(name: &str, design: &Design, property: u64) {
     let file = file_bytes(design);
     let movers = design.movers().len();
     let mut random = Random::new(1);
     let choices: Vec<u8> = (0..MAX_BOUND).map(|_| random.below(movers) as u8).collect();
-    let query = Query::new(&file[..], 0);
+    let query = Query::new(&file[..], property);
     assert_eq!(Proved.replay(query, &choices), Answer::Done(None));
     let [proved, reference] = seconds([
         &mut || make(Proved.replay(black_box(query), black_box(&choices))),
@@ -52,7 +52,7 @@ fn clean_a() -> Design {
 
 /// The words of a formula and its number of variables.
 fn formula(design: &Design, bound: u64) -> (u64, Vec<i32>) {
-    let formula = Formula::new(Query::new(design, 0), bound);
+    let formula = Formula::new(Query::new(design, INVARIANT), bound).expect("a formula");
     let mut words = vec![0; formula.size().words as usize];
     let mut at = 0;
     for part in 0..=formula.last_part() {
@@ -114,9 +114,10 @@ fn main() {
     for (name, design) in all_files().iter().take(2) {
         check(name, design);
     }
-    replay("design-a, clean", &clean_a());
-    replay("money-changer, revised", &money_changer(Version::Revised, Property::Uic1));
-    replay("64 movers", &crowded());
+    replay("design-a, clean", &clean_a(), INVARIANT);
+    replay("money-changer, revised", &money_changer(Version::Revised, Property::Uic1), INVARIANT);
+    replay("money-changer, revised, DYN", &money_changer(Version::Revised, Property::Dyn), CONSTRAINT);
+    replay("64 movers", &crowded(), INVARIANT);
     for bound in 1..=6 {
         solve("design-a", &design_a(), bound);
     }

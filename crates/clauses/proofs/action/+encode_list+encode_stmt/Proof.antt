@@ -1,3 +1,4 @@
+use mathlib.Core.Bool.{false}
 use native.Mathlib.Omega.{arith}
 use mathlib.Core.Path.{_≡_, refl, sym, _∙_}
 use Prim.Native.Nat.{_+_, _-_, _*_}
@@ -145,7 +146,7 @@ encode-stmt-add-encode-bool t c =
 encode-stmt-encode-bool-requires : (t : ℕ) → encode-stmt-lts.Need-encode-bool-requires (encode-stmt-claims t) (encode-stmt-at t) encode-stmt.Post
 encode-stmt-encode-bool-requires t c κs =
     let entry = c .before .before .before .before .before .before in
-    ((entry .pre .1 .0), if-test-here (entry .args .file .now) (entry .args .shape) (entry .pre .1 .2) (c .before .before .before .if1 .left))
+    (false, (entry .pre .1 .0), if-test-here (entry .args .file .now) (entry .args .shape) (entry .pre .1 .2) (c .before .before .before .if1 .left))
 
 encode-stmt-encode-list-requires : (t : ℕ) → encode-stmt-lts.Need-encode-list-requires (encode-stmt-claims t) (encode-stmt-at t) encode-stmt.Post
 encode-stmt-encode-list-requires t c κs =
@@ -159,13 +160,13 @@ encode-stmt-encode-list-requires t c κs =
         entry .pre .0,
         stmt-here file shape (entry .pre .1 .2),
         if-first-on file shape (entry .pre .1 .2) (at-if1 .if1 .left) (entry .args
-            .state .now) (at-encode-bool .encode-bool .ensures),
+            .state .now) (at-encode-bool .encode-bool .ensures false),
       ),
       (
         (entry .pre .1 .0),
         (entry .pre .1 .1),
         if-first-here file shape (entry .pre .1 .2)
-            (at-if1 .if1 .left) (entry .args .state .now) (at-encode-bool .encode-bool .ensures),
+            (at-if1 .if1 .left) (entry .args .state .now) (at-encode-bool .encode-bool .ensures false),
       ),
     )
 
@@ -182,12 +183,12 @@ encode-stmt-encode-list-requires-2 t c κs =
         entry .pre .0,
         stmt-here file shape (entry .pre .1 .2),
         if-second-on file shape (entry .pre .1 .2) (at-if1 .if1 .left) (entry .args
-            .state .now) (at-encode-bool .encode-bool .ensures) (at-encode-list .encode-list .ensures .0),
+            .state .now) (at-encode-bool .encode-bool .ensures false) (at-encode-list .encode-list .ensures .0),
       ),
       (
         (entry .pre .1 .0),
         (entry .pre .1 .1),
-        if-second-here file shape (entry .pre .1 .2) (at-if1 .if1 .left) (entry .args .state .now) (at-encode-bool .encode-bool .ensures)
+        if-second-here file shape (entry .pre .1 .2) (at-if1 .if1 .left) (entry .args .state .now) (at-encode-bool .encode-bool .ensures false)
             (at-encode-list .encode-list .ensures .0),
       ),
     )
@@ -207,7 +208,7 @@ encode-stmt-returns-2 t c =
     let at-encode-bool = at-encode-list .before .before .before .before .before in
     let at-if1 = at-encode-bool .before .before .before .before in
     let entry = at-if1 .before .before .before in (
-      if-node (entry .args .file .now) (entry .args .shape) (entry .args .state .now) _ _ _ (at-if1 .if1 .left) (at-encode-bool .encode-bool .ensures)
+      if-node (entry .args .file .now) (entry .args .shape) (entry .args .state .now) _ _ _ (at-if1 .if1 .left) (at-encode-bool .encode-bool .ensures false)
           (at-encode-list .encode-list .ensures .0) (c .before .before .before .before .before .before .encode-list2 .ensures .0) (c .before .muxes
           .ensures .0 (entry .args .file .now) ((entry .pre .1 .0) .sum)),
       c .before .muxes .ensures .1,

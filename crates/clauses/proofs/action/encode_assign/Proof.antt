@@ -1,3 +1,4 @@
+use mathlib.Core.Bool.{false}
 use native.Mathlib.Omega.{arith}
 use Prim.Native.Nat.{ℕ, _*_}
 use mathlib.Core.Path.{_≡_, refl, subst, _∙_}
@@ -38,6 +39,7 @@ add-encode-int c =
 encode-int-requires : tie.Need-encode-int-requires
 encode-int-requires c κs =
     let entry = c .before .before .before .before .before .before .before .before .before in (
+      false,
       entry .pre .0,
       assign-int-here (entry .args .file .now) (entry .args .shape) (entry .pre .2) (subst (λ (v : ℕ). getD (entry .args .file .now) (3 * v)
           0 ≡ 1) (c .before .before .before .before .before .before .wide .ensures .0) (c .before .before .before .if1 .taken)),
@@ -77,6 +79,7 @@ add-encode-bool c =
 encode-bool-requires : tie.Need-encode-bool-requires
 encode-bool-requires c κs =
     let entry = c .before .before .before .before .before .before .before .before .before in (
+      false,
       entry .pre .0,
       assign-flag-here (entry .args .file .now) (entry .args .shape) (entry .pre .2) (subst (λ (v : ℕ). getD (entry .args .file .now) (3 *
           v) 0 ≡ 1 → ⊥) (c .before .before .before .before .before .before .wide .ensures .0) (c .before .before .before .if1 .left)),
@@ -121,7 +124,7 @@ returns c = (
       .state .now) _ (c .before .before .before .before .before .encode-int .result .lits) (subst (λ (v : ℕ). getD (c .before .before .before
       .before .before .before .before .before .before .before .before .before .before .before .before .args .file .now) (3 * v) 0 ≡ 1) (c .before
       .before .before .before .before .before .before .before .before .before .before .before .wide .ensures .0) (c .before .before .before .before
-      .before .before .before .before .before .if1 .taken)) (c .before .before .before .before .before .encode-int .ensures) (integer-set (c .before
+      .before .before .before .before .before .if1 .taken)) (c .before .before .before .before .before .encode-int .ensures false) (integer-set (c .before
       .before .before .before .before .before .before .before .before .before .before .before .before .before .before .args .file .now) (c .before
       .before .before .before .before .before .before .before .before .before .before .before .before .before .before .args .shape) (getD (c .before
       .before .before .before .before .before .before .before .before .before .before .before .before .before .before .args .file .now) (c .before
@@ -155,7 +158,7 @@ returns-2 c =
     let shape = entry .args .shape in
     let state = entry .args .state .now in (
       assign-flag-node file shape state _ (c .before .before .encode-bool .result .lit) (subst (λ (v : ℕ). getD file (3 * v) 0 ≡ 1 → ⊥) (at-wide .wide
-          .ensures .0) (at-if1 .if1 .left)) (c .before .before .encode-bool .ensures) (boolean-set file shape (getD file (entry .args .at) 0) (at-wide
+          .ensures .0) (at-if1 .if1 .left)) (c .before .before .encode-bool .ensures false) (boolean-set file shape (getD file (entry .args .at) 0) (at-wide
           .wide .result) (at-offset .offset .result) state (at-wide .wide .ensures .0) ((assign-here file shape (entry .pre .2)) .1) (at-offset .offset
           .ensures) (entry .pre .0 .bits) _ _ (subst (λ (v : ℕ). getD file (3 * v) 0 ≡ 1 → ⊥) (at-wide .wide .ensures .0) (at-if1 .if1 .left)) refl),
       length-set state (at-offset .offset .result) (c .before .before .encode-bool .result .lit) ∙ entry .pre .1,

@@ -1,3 +1,4 @@
+use mathlib.Core.Bool.{false}
 use native.Mathlib.Omega.{arith}
 use Rattle.design.specs.Limits.{maxDepth}
 use Rattle.clauses.proofs.CellCounts.{sizes, event-slot, event-inside, event-reads, event-gates}
@@ -60,7 +61,7 @@ add-size-bool c =
 size-bool-requires : tie.Need-size-bool-requires
 size-bool-requires c κs =
     let entry = c .before .before .before .before in (
-      (entry .args .file .now, maxDepth, event-reads _ _ _ (entry .pre .0) _ _ (entry .pre .1) (entry .pre .2) _ (c .wide .ensures .0)),
+      (entry .args .file .now, maxDepth, false, event-reads _ _ _ (entry .pre .0) _ _ (entry .pre .1) (entry .pre .2) _ (c .wide .ensures .0)),
       omega (
         arith,
         c .wide .ensures .0,
@@ -82,7 +83,7 @@ returns c =
     let entry = c .before .before .before .before .before in
     let length = c .before .wide .ensures .0 in
     let reads = event-reads _ _ _ (entry .pre .0) _ _ (entry .pre .1) (entry .pre .2) _ length in
-    event-gates _ _ _ (entry .pre .0) _ _ (entry .pre .1) (entry .pre .2) _ length _ (c .size-bool .ensures (entry .args .file .now) maxDepth reads)
+    event-gates _ _ _ (entry .pre .0) _ _ (entry .pre .1) (entry .pre .2) _ length _ (c .size-bool .ensures (entry .args .file .now) maxDepth false reads)
 
 pub size-event-spec : {M : Type 1} → statement M
 size-event-spec =

@@ -1,3 +1,4 @@
+use mathlib.Core.Bool.{false}
 use native.Mathlib.Omega.{arith}
 use Rattle.design.specs.Limits.{maxDepth}
 use Rattle.clauses.proofs.TextGates.{bool-few}
@@ -45,7 +46,7 @@ size-bool-requires c κs =
     let (table, ready) = entry .pre .0 in
     let length = c .before .wide .ensures .0 in
     let inside = guard-inside _ _ _ ready _ (entry .pre .1) _ length in (
-      (entry .args .file .now, maxDepth, guard-reads _ _ _ ready _ (entry .pre .1) _ length (c .if1 .left)),
+      (entry .args .file .now, maxDepth, false, guard-reads _ _ _ ready _ (entry .pre .1) _ length (c .if1 .left)),
       omega (arith, inside, sizes (ready .shaped)),
       omega (arith, inside, sizes (ready .shaped)),
     )
@@ -57,7 +58,7 @@ returns-2 c =
     let length = c .before .before .wide .ensures .0 in
     let inside = guard-inside _ _ _ ready _ (entry .pre .1) _ length in
     let reads = guard-reads _ _ _ ready _ (entry .pre .1) _ length (c .before .if1 .left) in
-    let counted = c .size-bool .ensures (entry .args .file .now) maxDepth reads in (
+    let counted = c .size-bool .ensures (entry .args .file .now) maxDepth false reads in (
       few-gates _ (bool-few _ _ _ (omega (arith, inside, sizes (ready .shaped))) _ _ _ counted),
       λ x. guard-gates _ _ _ ready _ x _ length (c .before .if1 .left) _ counted,
     )

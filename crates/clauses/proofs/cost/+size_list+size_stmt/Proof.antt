@@ -1,3 +1,4 @@
+use mathlib.Core.Bool.{false}
 use native.Mathlib.Omega.{arith}
 use Prim.Native.Nat.{ℕ, _<_, _-_}
 use mathlib.Core.Path.{ap}
@@ -126,7 +127,7 @@ size-stmt-add-size-bool t c = omega (arith, stmt-live _ _ _ _ _ (c .before .befo
 size-stmt-size-bool-requires : (t : ℕ) → size-stmt-lts.Need-size-bool-requires (size-stmt-claims t) (size-stmt-at t) size-stmt.Post
 size-stmt-size-bool-requires t c κs =
     let entry = c .before .before .before .before .before in
-    ((entry .args .file .now, maxDepth, if-test _ _ _ _ _ (entry .pre .1 .0) (c .if3 .left)), omega arith, omega arith)
+    ((entry .args .file .now, maxDepth, false, if-test _ _ _ _ _ (entry .pre .1 .0) (c .if3 .left)), omega arith, omega arith)
 
 size-stmt-sub-size-list : (t : ℕ) → size-stmt-lts.Need-sub-size-list (size-stmt-claims t) (size-stmt-at t) size-stmt.Post
 size-stmt-sub-size-list t c = omega (arith, if-deep _ _ _ _ _ (c .before .before .before .before .before .before .pre .1 .0) (c .before .if3 .left))
@@ -136,7 +137,7 @@ size-stmt-size-list-requires t c κs =
     let entry = c .before .before .before .before .before .before in
     let h = entry .pre .1 .0 in
     let ne = c .before .if3 .left in
-    let test = c .size-bool .ensures (entry .args .file .now) maxDepth (if-test _ _ _ _ _ h ne) in (
+    let test = c .size-bool .ensures (entry .args .file .now) maxDepth false (if-test _ _ _ _ _ h ne) in (
       omega (arith, first-on _ _ _ _ _ h ne _ test),
       (if-first _ _ _ _ _ h ne _ test, (omega arith, omega arith, omega arith, omega arith)),
     )
@@ -150,7 +151,7 @@ size-stmt-size-list-requires-2 t c κs =
     let entry = c .before .before .before .before .before .before .before in
     let h = entry .pre .1 .0 in
     let ne = c .before .before .if3 .left in
-    let test = c .before .size-bool .ensures (entry .args .file .now) maxDepth (if-test _ _ _ _ _ h ne) in (
+    let test = c .before .size-bool .ensures (entry .args .file .now) maxDepth false (if-test _ _ _ _ _ h ne) in (
       omega (arith, second-on _ _ _ _ _ h ne _ test _ _ (c .size-list .ensures)),
       (if-second _ _ _ _ _ h ne _ test _ _ (c .size-list .ensures), (omega arith, omega arith, omega arith, omega arith)),
     )
@@ -160,7 +161,7 @@ size-stmt-join-requires t c κs =
     let entry = c .before .before .before .before .before .before .before .before in
     let h = entry .pre .1 .0 in
     let ne = c .before .before .before .if3 .left in
-    let test = c .before .before .size-bool .ensures (entry .args .file .now) maxDepth (if-test _ _ _ _ _ h ne) in
+    let test = c .before .before .size-bool .ensures (entry .args .file .now) maxDepth false (if-test _ _ _ _ _ h ne) in
     let f = bool-few _ _ _ (entry .pre .1 .1 .1) _ _ _ test in
     let g = list-few _ _ _ (entry .pre .1 .1 .1) _ (entry .pre .1 .1 .3) _ _ _ (c .before .size-list .ensures) in
     (omega (arith, f .ands, g .ands), omega (arith, f .wides, g .wides))
@@ -170,7 +171,7 @@ size-stmt-join-requires-2 t c κs =
     let entry = c .before .before .before .before .before .before .before .before .before in
     let h = entry .pre .1 .0 in
     let ne = c .before .before .before .before .if3 .left in
-    let test = c .before .before .before .size-bool .ensures (entry .args .file .now) maxDepth (if-test _ _ _ _ _ h ne) in
+    let test = c .before .before .before .size-bool .ensures (entry .args .file .now) maxDepth false (if-test _ _ _ _ _ h ne) in
     let f = bool-few _ _ _ (entry .pre .1 .1 .1) _ _ _ test in
     let g = list-few _ _ _ (entry .pre .1 .1 .1) _ (entry .pre .1 .1 .3) _ _ _ (c .before .before .size-list .ensures) in
     let k = list-few _ _ _ (entry .pre .1 .1 .1) _ (entry .pre .1 .1 .3) _ _ _ (c .before .size-list2 .ensures) in
@@ -187,7 +188,7 @@ size-stmt-returns-2 t c =
     let entry = c .before .before .before .before .before .before .before .before .before .before in
     let h = entry .pre .1 .0 in
     let ne = c .before .before .before .before .before .if3 .left in
-    let test = c .before .before .before .before .size-bool .ensures (entry .args .file .now) maxDepth (if-test _ _ _ _ _ h ne) in
+    let test = c .before .before .before .before .size-bool .ensures (entry .args .file .now) maxDepth false (if-test _ _ _ _ _ h ne) in
     let first = c .before .before .before .size-list .ensures in
     let second = c .before .before .size-list2 .ensures in
     if-joined _ _ _ _ _ h ne _ test _ _ first _ _ _ second (c .before .join .ensures) (c .join2 .ensures)

@@ -1,3 +1,4 @@
+use mathlib.Core.Bool.{false}
 use native.Mathlib.Omega.{arith}
 use Prim.Native.Nat.{ℕ, _*_}
 use lib.ListN.{getD}
@@ -33,7 +34,7 @@ size-int-requires : tie.Need-size-int-requires
 size-int-requires c κs =
     let entry = c .before .before .before .before .before in
     let kind = sym (ap (λ (v : ℕ). getD (entry .args .file .now) (3 * v) 0) (c .before .before .wide .ensures .0)) ∙ c .if1 .taken in
-    ((entry .args .file .now, maxDepth, assign-int _ _ _ _ (entry .pre .0) kind), omega arith, omega arith)
+    ((entry .args .file .now, maxDepth, false, assign-int _ _ _ _ (entry .pre .0) kind), omega arith, omega arith)
 
 add-size-bool : tie.Need-add-size-bool
 add-size-bool c = omega (arith, assign-inside _ _ _ _ (c .before .before .before .before .before .pre .0) .0)
@@ -43,20 +44,20 @@ size-bool-requires c κs =
     let entry = c .before .before .before .before .before in
     let kind : getD (entry .args .file .now) (3 * getD (entry .args .file .now) (entry .args .at) 0) 0 ≡ 1 → ⊥ =
     λ e. c .if1 .left (ap (λ (v : ℕ). getD (entry .args .file .now) (3 * v) 0) (c .before .before .wide .ensures .0) ∙ e) in
-    ((entry .args .file .now, maxDepth, assign-bool _ _ _ _ (entry .pre .0) kind), omega arith, omega arith)
+    ((entry .args .file .now, maxDepth, false, assign-bool _ _ _ _ (entry .pre .0) kind), omega arith, omega arith)
 
 returns : tie.Need-returns
 returns c =
     let entry = c .before .before .before .before .before .before in
     let kind = sym (ap (λ (v : ℕ). getD (entry .args .file .now) (3 * v) 0) (c .before .before .before .wide .ensures .0)) ∙ c .before .if1 .taken in
-    λ bits. assigned-int _ _ _ _ (entry .pre .0) _ bits kind (c .size-int .ensures (entry .args .file .now) maxDepth (assign-int _ _ _ _ (entry .pre .0) kind))
+    λ bits. assigned-int _ _ _ _ (entry .pre .0) _ bits kind (c .size-int .ensures (entry .args .file .now) maxDepth false (assign-int _ _ _ _ (entry .pre .0) kind))
 
 returns-2 : tie.Need-returns-2
 returns-2 c =
     let entry = c .before .before .before .before .before .before in
     let kind : getD (entry .args .file .now) (3 * getD (entry .args .file .now) (entry .args .at) 0) 0 ≡ 1 → ⊥ =
     λ e. c .before .if1 .left (ap (λ (v : ℕ). getD (entry .args .file .now) (3 * v) 0) (c .before .before .before .wide .ensures .0) ∙ e) in
-    λ bits. assigned-bool _ _ _ _ (entry .pre .0) _ bits kind (c .size-bool .ensures (entry .args .file .now) maxDepth (assign-bool _ _ _ _ (entry .pre .0) kind))
+    λ bits. assigned-bool _ _ _ _ (entry .pre .0) _ bits kind (c .size-bool .ensures (entry .args .file .now) maxDepth false (assign-bool _ _ _ _ (entry .pre .0) kind))
 
 pub size-assign-spec : {M : Type 1} → statement M
 size-assign-spec =

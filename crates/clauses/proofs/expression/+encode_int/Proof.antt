@@ -1,22 +1,22 @@
 use native.Mathlib.Omega.{arith}
-use mathlib.Core.Path.{_≡_}
+use mathlib.Core.Logic.{inl, inr}
 use Prim.Native.Nat.{_-_}
 use lib.ListN.{length, getD}
+use Rattle.step.proofs.Values.{arithmeticOf}
 use Rattle.clauses.specs.Expression.{int! }
 use Rattle.clauses.specs.Piece.{arithmetic! }
-use Rattle.clauses.specs.FlatState.{slotsOf, layoutOf}
+use Rattle.clauses.specs.FlatState.{readSlots, layoutOf}
 use Rattle.clauses.specs.Encoders.{intsAt}
-use Rattle.clauses.proofs.EmitReads.{arithmeticOf}
 use Rattle.clauses.proofs.EmitExpressions.{int-byte, ints-ahead, arithmetic-pair, first-here, second-here, second-on, pair-node, arithmetic-tree}
+use borrow.Author.Needs.{needs}
 use Prim.Native.Nat.{ℕ, _<_}
 use borrow.Fn.Kinds.{In}
 use borrow.Fn.PlainCycle.{Measures, is, falls, and}
-use borrow.Author.Needs.{needs}
 use Rattle.clauses.proofs.expression.encode_int.Reads as encode-int
 use Rattle.clauses.proofs.expression.encode_int.Kinds as encode-int-kinds
 use Rattle.clauses.proofs.expression.+encode_int.Lts-encode_int as encode-int-lts
-use Rattle.clauses.proofs.expression.int_leaf.Reads as int-leaf-reads
 use Rattle.clauses.proofs.expression.arithmetic.Reads as arithmetic-reads
+use Rattle.clauses.proofs.expression.int_leaf.Reads as int-leaf-reads
 use Rattle.clauses.proofs.expression.+encode_int.{statement}
 use Rattle.clauses.proofs.expression.+encode_int.Tie.{close}
 
@@ -37,57 +37,77 @@ encode-int-claims t = (int-leaf-reads.Asked, int-leaf-reads.Learnt, encode-int-b
 encode-int-shared-slice-read-op : (t : ℕ) → encode-int-lts.Need-shared-slice-read-op (encode-int-claims t) (encode-int-at t) encode-int.Post
 encode-int-shared-slice-read-op t c =
     let entry = c .before .before .before .before in
-    omega (arith, int-byte (entry .args .text .now) (entry .args .file .now) (entry .args .shape) (entry .args .at) (entry .pre .1 .1))
+    let text = entry .args .text .now in
+    let file = entry .args .file .now in
+    let shape = entry .args .shape in
+    let at = entry .args .at in
+    let (later, slots, here) = entry .pre .1 in
+    omega (arith, int-byte text file shape later at here)
 
 encode-int-int-leaf-requires : (t : ℕ) → encode-int-lts.Need-int-leaf-requires (encode-int-claims t) (encode-int-at t) encode-int.Post
-encode-int-int-leaf-requires t c κs =
-    let entry = c .before .before .before .before .before in
-    (entry .pre .1 .0, (entry .pre .1 .1), c .if1 .taken)
+encode-int-int-leaf-requires t c κs = (c .before .before .before .before .before .pre .1, inl (c .if1 .taken))
 
 encode-int-returns : (t : ℕ) → encode-int-lts.Need-returns (encode-int-claims t) (encode-int-at t) encode-int.Post
-encode-int-returns t c = c .int-leaf .ensures _
+encode-int-returns t c = λ later. c .int-leaf .ensures later _
+
+encode-int-int-leaf-requires-2 : (t : ℕ) → encode-int-lts.Need-int-leaf-requires-2 (encode-int-claims t) (encode-int-at t) encode-int.Post
+encode-int-int-leaf-requires-2 t c κs = (c .before .before .before .before .before .before .pre .1, inr (c .if2 .taken))
+
+encode-int-returns-2 : (t : ℕ) → encode-int-lts.Need-returns-2 (encode-int-claims t) (encode-int-at t) encode-int.Post
+encode-int-returns-2 t c = λ later. c .int-leaf2 .ensures later _
 
 encode-int-add-encode-int : (t : ℕ) → encode-int-lts.Need-add-encode-int (encode-int-claims t) (encode-int-at t) encode-int.Post
 encode-int-add-encode-int t c =
-    let entry = c .before .before .before .before .before in
-    omega (arith, int-byte (entry .args .text .now) (entry .args .file .now) (entry .args .shape) (entry .args .at) (entry .pre .1 .1))
+    let entry = c .before .before .before .before .before .before in
+    let text = entry .args .text .now in
+    let file = entry .args .file .now in
+    let shape = entry .args .shape in
+    let at = entry .args .at in
+    let (later, slots, here) = entry .pre .1 in
+    omega (arith, int-byte text file shape later at here)
 
 encode-int-encode-int-requires : (t : ℕ) → encode-int-lts.Need-encode-int-requires (encode-int-claims t) (encode-int-at t) encode-int.Post
 encode-int-encode-int-requires t c κs =
-    let entry = c .before .before .before .before .before .before in
-    let at = entry .args .at in
+    let entry = c .before .before .before .before .before .before .before in
+    let text = entry .args .text .now in
     let file = entry .args .file .now in
     let shape = entry .args .shape in
-    let text = entry .args .text .now in (
-      omega (arith, entry .pre .0, int-byte text file shape at (entry .pre .1 .1)),
+    let at = entry .args .at in
+    let (later, slots, here) = entry .pre .1 in (
+      omega (arith, entry .pre .0, int-byte text file shape later at here),
       (
-        entry .pre .1 .0,
-        first-here (intsAt text file shape) (intsAt text
-            file shape) (arithmeticOf (getD text at 0)) (arithmetic-pair text file shape at (c .before .if1 .left)) (entry .pre .1 .1),
+        later,
+        slots,
+        first-here (intsAt text file shape later) (intsAt text file shape later)
+            (arithmeticOf (getD text at 0)) (arithmetic-pair text file shape later at (c .before .before .if1 .left) (c .before .if2 .left)) here,
       ),
     )
 
 encode-int-encode-int-requires-2 : (t : ℕ) → encode-int-lts.Need-encode-int-requires-2 (encode-int-claims t) (encode-int-at t) encode-int.Post
 encode-int-encode-int-requires-2 t c κs =
-    let at-if1 = c .before .before .before .before in
+    let at-if2 = c .before .before .before .before in
+    let at-if1 = at-if2 .before in
     let entry = at-if1 .before .before .before .before .before in
-    let at = entry .args .at in
+    let text = entry .args .text .now in
     let file = entry .args .file .now in
     let shape = entry .args .shape in
-    let text = entry .args .text .now in (
+    let at = entry .args .at in
+    let (later, slots, here) = entry .pre .1 in
+    let first = c .before .before .encode-int .ensures later in (
       omega (
         arith,
         entry .pre .0,
-        int-byte text file shape at (entry .pre .1 .1),
-        second-on (intsAt text file shape) (intsAt text file shape)
-            (arithmeticOf (getD text at 0)) (int! (layoutOf shape) (slotsOf file shape (entry .args .bits .now))) (arithmetic-pair text file shape at
-            (at-if1 .if1 .left)) (c .before .before .encode-int .ensures) (entry .pre .1 .1) (ints-ahead text file shape at),
+        int-byte text file shape later at here,
+        second-on (intsAt text file shape later) (intsAt text file shape later) (arithmeticOf (getD text
+            at 0)) (int! (layoutOf shape) (readSlots later file shape (entry .args .bits .now))) (arithmetic-pair text file shape later at (at-if1 .if1 .left) (at-if2 .if2
+            .left)) first here (ints-ahead text file shape later at),
       ),
       (
-        entry .pre .1 .0,
-        second-here (intsAt text file shape) (intsAt text file shape) (arithmeticOf (getD text at 0)) (int! (layoutOf shape) (slotsOf file shape
-            (entry .args .bits .now))) (arithmetic-pair text file shape at (at-if1 .if1 .left)) (c .before .before .encode-int .ensures) (entry .pre .1
-            .1),
+        later,
+        slots,
+        second-here (intsAt text file shape later) (intsAt text file shape later) (arithmeticOf
+            (getD text at 0)) (int! (layoutOf shape) (readSlots later file shape (entry .args .bits .now))) (arithmetic-pair text file shape later at (at-if1 .if1 .left) (at-if2
+            .if2 .left)) first here,
       ),
     )
 
@@ -97,31 +117,41 @@ encode-int-arithmetic-requires t c κs = search needs
 encode-int-same-length : (t : ℕ) → encode-int-lts.Need-same-length (encode-int-claims t) (encode-int-at t) encode-int.Post
 encode-int-same-length t c = search needs
 
-encode-int-returns-2 : (t : ℕ) → encode-int-lts.Need-returns-2 (encode-int-claims t) (encode-int-at t) encode-int.Post
-encode-int-returns-2 t c =
+encode-int-returns-3 : (t : ℕ) → encode-int-lts.Need-returns-3 (encode-int-claims t) (encode-int-at t) encode-int.Post
+encode-int-returns-3 t c =
     let at-encode-int = c .before .before .before .before .before .before .before .before in
-    let at-if1 = at-encode-int .before .before in
+    let at-if2 = at-encode-int .before .before in
+    let at-if1 = at-if2 .before in
     let entry = at-if1 .before .before .before .before .before in
-    let at = entry .args .at in
     let bits = entry .args .bits .now in
+    let text = entry .args .text .now in
     let file = entry .args .file .now in
     let shape = entry .args .shape in
-    let text = entry .args .text .now in
-    pair-node (intsAt text file shape) (intsAt text file shape) (arithmeticOf (getD text at 0)) (arithmetic-pair text file shape at (at-if1 .if1 .left))
-    (int! (layoutOf shape) (slotsOf file shape bits)) (int! (layoutOf shape) (slotsOf file shape bits)) (arithmetic! (getD text at 0))
-    (arithmetic-tree (layoutOf shape) (slotsOf file shape bits) (getD text at 0)) _ _ (at-encode-int .encode-int .ensures) (c .before .before
-    .before .before .before .encode-int2 .ensures) (c .before .arithmetic .ensures)
+    let at = entry .args .at in
+    λ later. pair-node (intsAt text file shape later) (intsAt text file shape later) (arithmeticOf (getD text at 0)) (arithmetic-pair text file shape later at (at-if1
+    .if1 .left) (at-if2 .if2 .left)) (int! (layoutOf shape) (readSlots later file shape bits)) (int! (layoutOf shape) (readSlots later file shape bits)) (arithmetic!
+    (getD text at 0)) (arithmetic-tree (layoutOf shape) (readSlots later file shape bits) (getD text at 0)) _ _ (at-encode-int .encode-int .ensures later) (c .before
+    .before .before .before .before .encode-int2 .ensures later) (c .before .arithmetic .ensures)
 
 pub +encode-int-spec : {M : Type 1} → statement M
-+encode-int-spec = close μ-encode-int (λ t. encode-int-lts.spec (int-leaf-reads.Asked, int-leaf-reads.Learnt, encode-int-below t, encode-int.Post, arithmetic-reads.Asked, arithmetic-reads.Learnt)
++encode-int-spec = close μ-encode-int λ t. encode-int-lts.spec (
+  int-leaf-reads.Asked,
+  int-leaf-reads.Learnt,
+  encode-int-below t,
+  encode-int.Post,
+  arithmetic-reads.Asked,
+  arithmetic-reads.Learnt,
+)
     (encode-int-at t)
     encode-int.Post
     (encode-int-shared-slice-read-op t)
     (encode-int-int-leaf-requires t)
     (encode-int-returns t)
+    (encode-int-int-leaf-requires-2 t)
+    (encode-int-returns-2 t)
     (encode-int-add-encode-int t)
     (encode-int-encode-int-requires t)
     (encode-int-encode-int-requires-2 t)
     (encode-int-arithmetic-requires t)
     (encode-int-same-length t)
-    (encode-int-returns-2 t))
+    (encode-int-returns-3 t)

@@ -1,10 +1,10 @@
 use native.Mathlib.Omega.{arith}
 use lib.ListN.{getD}
+use Rattle.step.proofs.Values.{compareOf}
 use Rattle.clauses.specs.Expression.{int!, bool! }
 use Rattle.clauses.specs.Piece.{compare! }
-use Rattle.clauses.specs.FlatState.{slotsOf, layoutOf}
+use Rattle.clauses.specs.FlatState.{readSlots, layoutOf}
 use Rattle.clauses.specs.Encoders.{intsAt, boolsAt}
-use Rattle.clauses.proofs.EmitReads.{compareOf}
 use Rattle.clauses.proofs.EmitExpressions.{bool-byte, compare-pair, first-here, second-here, pair-node, compare-tree}
 use borrow.Author.Needs.{needs}
 use Rattle.clauses.proofs.expression.encode_compare.Statement.{statement}
@@ -15,35 +15,38 @@ use Rattle.clauses.proofs.expression.encode_compare.Lts as lts
 add-encode-int : tie.Need-add-encode-int
 add-encode-int c =
     let entry = c .before .before .before in
-    omega (arith, bool-byte (entry .args .text .now) (entry .args .file .now) (entry .args .shape) (entry .args .at) (entry .pre .1))
+    let (later, slots, here) = entry .pre .0 in
+    omega (arith, bool-byte (entry .args .text .now) (entry .args .file .now) (entry .args .shape) later (entry .args .at) here)
 
 encode-int-requires : tie.Need-encode-int-requires
 encode-int-requires c κs =
     let entry = c .before .before .before .before in
+    let text = entry .args .text .now in
     let file = entry .args .file .now in
     let shape = entry .args .shape in
-    let text = entry .args .text .now in (
-      entry .pre .0,
-      first-here (intsAt text file shape) (boolsAt text file shape) (compareOf (getD text (entry .args .at) 0)) (compare-pair text file
-          shape (entry .args .at) (entry .pre .2)) (entry .pre .1),
-    )
+    let at = entry .args .at in
+    let (later, slots, here) = entry .pre .0 in
+    (later, slots, first-here (intsAt text file shape later) (boolsAt text file shape later) (compareOf (getD text at 0)) (compare-pair text file shape later at (entry .pre .1) (entry .pre .2)) here)
 
 encode-int-requires-2 : tie.Need-encode-int-requires-2
 encode-int-requires-2 c κs =
     let entry = c .before .before .before .before .before .before .before in
+    let text = entry .args .text .now in
     let file = entry .args .file .now in
     let shape = entry .args .shape in
-    let text = entry .args .text .now in (
-      entry .pre .0,
-      second-here (intsAt text file shape) (boolsAt text file shape) (compareOf (getD text (entry .args .at) 0)) (int! (layoutOf shape)
-          (slotsOf file shape (entry .args .bits .now))) (compare-pair text file shape (entry .args .at) (entry .pre .2)) (c .before .before .encode-int
-          .ensures) (entry .pre .1),
+    let at = entry .args .at in
+    let (later, slots, here) = entry .pre .0 in (
+      later,
+      slots,
+      second-here (intsAt text file shape later) (boolsAt text file shape later) (compareOf (getD text at 0)) (int! (layoutOf shape) (readSlots later file shape (entry .args .bits .now)))
+          (compare-pair text file shape later at (entry .pre .1) (entry .pre .2)) (c .before .before .encode-int .ensures later) here,
     )
 
 shared-slice-read-compare : tie.Need-shared-slice-read-compare
 shared-slice-read-compare c =
     let entry = c .before .before .before .before .before .before .before .before .before .before .before in
-    omega (arith, bool-byte (entry .args .text .now) (entry .args .file .now) (entry .args .shape) (entry .args .at) (entry .pre .1))
+    let (later, slots, here) = entry .pre .0 in
+    omega (arith, bool-byte (entry .args .text .now) (entry .args .file .now) (entry .args .shape) later (entry .args .at) here)
 
 compare-requires : tie.Need-compare-requires
 compare-requires c κs = search needs
@@ -55,15 +58,14 @@ returns : tie.Need-returns
 returns c =
     let at-encode-int = c .before .before .before .before .before .before .before .before .before in
     let entry = at-encode-int .before .before .before .before .before in
-    let at = entry .args .at in
-    let bits = entry .args .bits .now in
+    let text = entry .args .text .now in
     let file = entry .args .file .now in
     let shape = entry .args .shape in
-    let text = entry .args .text .now in
-    pair-node (intsAt text file shape) (boolsAt text file shape) (compareOf (getD text at 0)) (compare-pair text file shape at (entry .pre .2)) (int!
-    (layoutOf shape) (slotsOf file shape bits)) (bool! (layoutOf shape) (slotsOf file shape bits)) (compare! (getD text at 0)) (compare-tree
-    (layoutOf shape) (slotsOf file shape bits) (getD text at 0)) _ _ (at-encode-int .encode-int .ensures) (c .before .before .before .before
-    .before .before .encode-int2 .ensures) (c .before .compare .ensures)
+    let at = entry .args .at in
+    let bits = entry .args .bits .now in
+    λ later. pair-node (intsAt text file shape later) (boolsAt text file shape later) (compareOf (getD text at 0)) (compare-pair text file shape later at (entry .pre .1) (entry .pre .2))
+    (int! (layoutOf shape) (readSlots later file shape bits)) (bool! (layoutOf shape) (readSlots later file shape bits)) (compare! (getD text at 0))
+    (compare-tree (layoutOf shape) (readSlots later file shape bits) (getD text at 0)) _ _ (at-encode-int .encode-int .ensures later) (c .before .before .before .before .before .before .encode-int2 .ensures later) (c .before .compare .ensures)
 
 pub encode-compare-spec : {M : Type 1} → statement M
 encode-compare-spec =

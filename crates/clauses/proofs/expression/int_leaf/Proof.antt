@@ -1,36 +1,40 @@
 use native.Mathlib.Omega.{arith}
-use mathlib.Core.Path.{_≡_, refl, sym, subst}
-use Prim.Native.Nat.{ℕ, _*_}
-use lib.ListN.{getD}
-use Rattle.clauses.proofs.EmitExpressions.{int-byte, constant-here, variable-here, status-is, status-here, constant-leaf, variable-leaf, status-leaf}
+use mathlib.Core.Path.{refl}
+use mathlib.Core.Bool.{true, false}
+use Rattle.clauses.proofs.EmitExpressions.{int-byte, constant-here, slot-here, status-is, variable-here, status-here, int-outs, constant-leaf, variable-leaf, status-leaf}
 use borrow.Author.Needs.{needs}
 use Rattle.clauses.proofs.expression.int_leaf.Statement.{statement}
 use Rattle.clauses.proofs.expression.int_leaf.Tie as tie
-use Rattle.clauses.proofs.expression.int_leaf.Reads as reads
-use Rattle.clauses.proofs.expression.int_leaf.Lts as lts
 
 shared-slice-read-op : tie.Need-shared-slice-read-op
 shared-slice-read-op c =
     let entry = c .before .before .before .before in
-    omega (arith, int-byte (entry .args .text .now) (entry .args .file .now) (entry .args .shape) (entry .args .at) (entry .pre .1))
+    let text = entry .args .text .now in
+    let file = entry .args .file .now in
+    let shape = entry .args .shape in
+    let at = entry .args .at in
+    let (later, slots, here) = entry .pre .0 in
+    omega (arith, int-byte text file shape later at here)
 
 add-word : tie.Need-add-word
 add-word c =
     let entry = c .before .before .before .before .before in
-    omega (
-      arith,
-      (constant-here (entry .args .text .now) (entry .args .file .now) (entry .args .shape) (entry .args .at) (entry .pre .1) (c .if1
-          .taken)),
-    )
+    let text = entry .args .text .now in
+    let file = entry .args .file .now in
+    let shape = entry .args .shape in
+    let at = entry .args .at in
+    let (later, slots, here) = entry .pre .0 in
+    omega (arith, constant-here text file shape later at here (c .if1 .taken))
 
 word-requires : tie.Need-word-requires
 word-requires c κs =
     let entry = c .before .before .before .before .before in
-    omega (
-      arith,
-      (constant-here (entry .args .text .now) (entry .args .file .now) (entry .args .shape) (entry .args .at) (entry .pre .1) (c .if1
-          .taken)),
-    )
+    let text = entry .args .text .now in
+    let file = entry .args .file .now in
+    let shape = entry .args .shape in
+    let at = entry .args .at in
+    let (later, slots, here) = entry .pre .0 in
+    omega (arith, constant-here text file shape later at here (c .if1 .taken))
 
 cast-constant : tie.Need-cast-constant
 cast-constant c = search needs
@@ -38,38 +42,48 @@ cast-constant c = search needs
 constant-requires : tie.Need-constant-requires
 constant-requires c κs = search needs
 
-add-t14 : tie.Need-add-t14
-add-t14 c =
+add-int-out : tie.Need-add-int-out
+add-int-out c =
     let entry = c .before .before .before .before .before .before .before in
-    omega (
-      arith,
-      (constant-here (entry .args .text .now) (entry .args .file .now) (entry .args .shape) (entry .args .at) (entry .pre .1) (c .before
-          .before .if1 .taken)),
-    )
+    let text = entry .args .text .now in
+    let file = entry .args .file .now in
+    let shape = entry .args .shape in
+    let at = entry .args .at in
+    let (later, slots, here) = entry .pre .0 in
+    omega (arith, constant-here text file shape later at here (c .before .before .if1 .taken))
+
+int-out-requires : tie.Need-int-out-requires
+int-out-requires c κs = search needs
 
 returns : tie.Need-returns
 returns c =
-    let entry = c .before .before .before .before .before .before .before in
-    λ xs. constant-leaf (entry .args .text .now) (entry .args .file .now) (entry .args .shape) (entry .args .at) (entry .args .bits .now) (c .before
-    .before .if1 .taken) (c .before .word .ensures .0) (c .constant .ensures) refl
+    let entry = c .before .before .before .before .before .before .before .before in
+    let text = entry .args .text .now in
+    let file = entry .args .file .now in
+    let shape = entry .args .shape in
+    let at = entry .args .at in
+    λ later xs. int-outs _ (c .int-out .ensures) (constant-leaf text file shape later at (entry .args .bits .now) (c .before .before .before .if1 .taken) (c .before
+    .before .word .ensures .0) (c .before .constant .ensures) refl)
 
 add-wide : tie.Need-add-wide
 add-wide c =
-    let entry = c .before .before .before .before .before .before in
-    omega (
-      arith,
-      (variable-here (entry .args .text .now) (entry .args .file .now) (entry .args .shape) (entry .args .at) (entry .pre .1) (c .if2 .taken))
-          .0,
-    )
+    let entry = c .before .before .before .before .before in
+    let text = entry .args .text .now in
+    let file = entry .args .file .now in
+    let shape = entry .args .shape in
+    let at = entry .args .at in
+    let (later, slots, here) = entry .pre .0 in
+    omega (arith, slot-here text file shape later at here (entry .pre .1) (c .if1 .left))
 
 shared-slice-read-wide : tie.Need-shared-slice-read-wide
 shared-slice-read-wide c =
-    let entry = c .before .before .before .before .before .before .before in
-    omega (
-      arith,
-      (variable-here (entry .args .text .now) (entry .args .file .now) (entry .args .shape) (entry .args .at) (entry .pre .1) (c .before .if2
-          .taken)) .0,
-    )
+    let entry = c .before .before .before .before .before .before in
+    let text = entry .args .text .now in
+    let file = entry .args .file .now in
+    let shape = entry .args .shape in
+    let at = entry .args .at in
+    let (later, slots, here) = entry .pre .0 in
+    omega (arith, slot-here text file shape later at here (entry .pre .1) (c .before .if1 .left))
 
 wide-requires : tie.Need-wide-requires
 wide-requires c κs = search needs
@@ -77,85 +91,137 @@ wide-requires c κs = search needs
 load-variable-requires : tie.Need-load-variable-requires
 load-variable-requires c κs =
     let entry = c .before .before .before .before .before .before .before .before in
-    let file = entry .args .file .now in (
-      entry .pre .0,
-      omega (
-        arith,
-        (variable-here (entry .args .text .now) file (entry .args .shape) (entry .args .at) (entry .pre .1) (c .before .before
-            .if2 .taken)) .1,
-        c .wide .ensures .0,
-      ),
-      subst (λ (v : ℕ). getD file (3 * v) 0 ≡ 1) (sym (c .wide .ensures .0)) ((variable-here (entry .args
-          .text .now) file (entry .args .shape) (entry .args .at) (entry .pre .1) (c .before .before .if2 .taken)) .2),
-    )
+    let text = entry .args .text .now in
+    let file = entry .args .file .now in
+    let shape = entry .args .shape in
+    let at = entry .args .at in
+    let (later, slots, here) = entry .pre .0 in
+    variable-here text file shape later at here false slots _ (c .before .wide .ensures .0) (c .match .keys1)
 
-add-t17 : tie.Need-add-t17
-add-t17 c =
+add-int-out-2 : tie.Need-add-int-out-2
+add-int-out-2 c =
     let entry = c .before .before .before .before .before .before .before .before .before in
-    omega (
-      arith,
-      (variable-here (entry .args .text .now) (entry .args .file .now) (entry .args .shape) (entry .args .at) (entry .pre .1) (c .before
-          .before .before .if2 .taken)) .0,
-    )
+    let text = entry .args .text .now in
+    let file = entry .args .file .now in
+    let shape = entry .args .shape in
+    let at = entry .args .at in
+    let (later, slots, here) = entry .pre .0 in
+    omega (arith, slot-here text file shape later at here (entry .pre .1) (c .before .before .before .before .if1 .left))
 
-returns-2 : tie.Need-returns-2
-returns-2 c =
-    let entry = c .before .before .before .before .before .before .before .before .before in
-    λ xs. variable-leaf (entry .args .text .now) (entry .args .file .now) (entry .args .shape) (entry .args .at) (entry .args .bits .now) (c .before
-    .before .before .if2 .taken) (c .before .wide .ensures .0) (c .load-variable .ensures) refl
-
-add-wide-2 : tie.Need-add-wide-2
-add-wide-2 c =
-    let entry = c .before .before .before .before .before .before in
-    omega (
-      arith,
-      (status-here (entry .args .text .now) (entry .args .file .now) (entry .args .shape) (entry .args .at) (entry .pre .1) (status-is (entry
-          .args .text .now) (entry .args .file .now) (entry .args .shape) (entry .args .at) (entry .pre .1) (entry .pre .2) (c .before .if1 .left) (c
-          .if2 .left))) .0,
-    )
-
-shared-slice-read-wide-2 : tie.Need-shared-slice-read-wide-2
-shared-slice-read-wide-2 c =
-    let entry = c .before .before .before .before .before .before .before in
-    omega (
-      arith,
-      (status-here (entry .args .text .now) (entry .args .file .now) (entry .args .shape) (entry .args .at) (entry .pre .1) (status-is (entry
-          .args .text .now) (entry .args .file .now) (entry .args .shape) (entry .args .at) (entry .pre .1) (entry .pre .2) (c .before .before .if1
-          .left) (c .before .if2 .left))) .0,
-    )
-
-wide-requires-2 : tie.Need-wide-requires-2
-wide-requires-2 c κs = search needs
+int-out-requires-2 : tie.Need-int-out-requires-2
+int-out-requires-2 c κs = search needs
 
 load-status-requires : tie.Need-load-status-requires
 load-status-requires c κs =
-    let entry = c .before .before .before .before .before .before .before .before in (
-      entry .pre .0,
-      omega (
-        arith,
-        (status-here (entry .args .text .now) (entry .args .file .now) (entry .args .shape) (entry .args .at) (entry .pre .1)
-            (status-is (entry .args .text .now) (entry .args .file .now) (entry .args .shape) (entry .args .at) (entry .pre .1) (entry .pre .2) (c .before
-            .before .before .if1 .left) (c .before .before .if2 .left))) .1,
-        c .wide2 .ensures .0,
-      ),
-    )
+    let entry = c .before .before .before .before .before .before .before .before in
+    let text = entry .args .text .now in
+    let file = entry .args .file .now in
+    let shape = entry .args .shape in
+    let at = entry .args .at in
+    let (later, slots, here) = entry .pre .0 in
+    status-here text file shape later at here false slots _ (c .before .wide .ensures .0) (c .match .keys2)
 
-add-t21 : tie.Need-add-t21
-add-t21 c =
+add-int-out-3 : tie.Need-add-int-out-3
+add-int-out-3 c =
     let entry = c .before .before .before .before .before .before .before .before .before in
-    omega (
-      arith,
-      (status-here (entry .args .text .now) (entry .args .file .now) (entry .args .shape) (entry .args .at) (entry .pre .1) (status-is (entry
-          .args .text .now) (entry .args .file .now) (entry .args .shape) (entry .args .at) (entry .pre .1) (entry .pre .2) (c .before .before .before
-          .before .if1 .left) (c .before .before .before .if2 .left))) .0,
-    )
+    let text = entry .args .text .now in
+    let file = entry .args .file .now in
+    let shape = entry .args .shape in
+    let at = entry .args .at in
+    let (later, slots, here) = entry .pre .0 in
+    omega (arith, slot-here text file shape later at here (entry .pre .1) (c .before .before .before .before .if1 .left))
+
+int-out-requires-3 : tie.Need-int-out-requires-3
+int-out-requires-3 c κs = search needs
+
+load-variable-requires-2 : tie.Need-load-variable-requires-2
+load-variable-requires-2 c κs =
+    let entry = c .before .before .before .before .before .before .before .before in
+    let text = entry .args .text .now in
+    let file = entry .args .file .now in
+    let shape = entry .args .shape in
+    let at = entry .args .at in
+    let (later, slots, here) = entry .pre .0 in
+    variable-here text file shape later at here true slots _ (c .before .wide .ensures .0) (c .match .keys3)
+
+add-int-out-4 : tie.Need-add-int-out-4
+add-int-out-4 c =
+    let entry = c .before .before .before .before .before .before .before .before .before in
+    let text = entry .args .text .now in
+    let file = entry .args .file .now in
+    let shape = entry .args .shape in
+    let at = entry .args .at in
+    let (later, slots, here) = entry .pre .0 in
+    omega (arith, slot-here text file shape later at here (entry .pre .1) (c .before .before .before .before .if1 .left))
+
+int-out-requires-4 : tie.Need-int-out-requires-4
+int-out-requires-4 c κs = search needs
+
+load-status-requires-2 : tie.Need-load-status-requires-2
+load-status-requires-2 c κs =
+    let entry = c .before .before .before .before .before .before .before .before in
+    let text = entry .args .text .now in
+    let file = entry .args .file .now in
+    let shape = entry .args .shape in
+    let at = entry .args .at in
+    let (later, slots, here) = entry .pre .0 in
+    status-here text file shape later at here true slots _ (c .before .wide .ensures .0) (status-is text file shape later at here (entry .pre .1) (c .before .before
+    .before .if1 .left) (c .match .rest .0 .0 .1) (c .match .rest .0 .1) (c .match .rest .1))
+
+add-int-out-5 : tie.Need-add-int-out-5
+add-int-out-5 c =
+    let entry = c .before .before .before .before .before .before .before .before .before in
+    let text = entry .args .text .now in
+    let file = entry .args .file .now in
+    let shape = entry .args .shape in
+    let at = entry .args .at in
+    let (later, slots, here) = entry .pre .0 in
+    omega (arith, slot-here text file shape later at here (entry .pre .1) (c .before .before .before .before .if1 .left))
+
+int-out-requires-5 : tie.Need-int-out-requires-5
+int-out-requires-5 c κs = search needs
+
+returns-2 : tie.Need-returns-2
+returns-2 c =
+    let entry = c .before .before .before .before .before .before .before .before .before .before in
+    let text = entry .args .text .now in
+    let file = entry .args .file .now in
+    let shape = entry .args .shape in
+    let at = entry .args .at in
+    λ later xs. int-outs _ (c .int-out2 .ensures) (variable-leaf text file shape later at (entry .args .bits .now) false (c .before .before .before .wide .ensures .0)
+    refl (c .before .before .match .keys1) (c .before .load-variable .ensures later))
 
 returns-3 : tie.Need-returns-3
 returns-3 c =
-    let entry = c .before .before .before .before .before .before .before .before .before in
-    λ xs. status-leaf (entry .args .text .now) (entry .args .file .now) (entry .args .shape) (entry .args .at) (entry .args .bits .now) (status-is (entry
-    .args .text .now) (entry .args .file .now) (entry .args .shape) (entry .args .at) (entry .pre .1) (entry .pre .2) (c .before .before .before
-    .before .if1 .left) (c .before .before .before .if2 .left)) (c .before .wide2 .ensures .0) (c .load-status .ensures) refl
+    let entry = c .before .before .before .before .before .before .before .before .before .before in
+    let text = entry .args .text .now in
+    let file = entry .args .file .now in
+    let shape = entry .args .shape in
+    let at = entry .args .at in
+    λ later xs. int-outs _ (c .int-out3 .ensures) (status-leaf text file shape later at (entry .args .bits .now) false (c .before .before .before .wide .ensures .0) refl
+    (c .before .before .match .keys2) (c .before .load-status .ensures later))
+
+returns-4 : tie.Need-returns-4
+returns-4 c =
+    let entry = c .before .before .before .before .before .before .before .before .before .before in
+    let text = entry .args .text .now in
+    let file = entry .args .file .now in
+    let shape = entry .args .shape in
+    let at = entry .args .at in
+    λ later xs. int-outs _ (c .int-out4 .ensures) (variable-leaf text file shape later at (entry .args .bits .now) true (c .before .before .before .wide .ensures .0) refl
+    (c .before .before .match .keys3) (c .before .load-variable2 .ensures later))
+
+returns-5 : tie.Need-returns-5
+returns-5 c =
+    let entry = c .before .before .before .before .before .before .before .before .before .before in
+    let text = entry .args .text .now in
+    let file = entry .args .file .now in
+    let shape = entry .args .shape in
+    let at = entry .args .at in
+    let h = entry .pre .0 in
+    λ later xs. int-outs _ (c .int-out5 .ensures) (status-leaf text file shape later at (entry .args .bits .now) true (c .before .before .before .wide .ensures .0) refl
+    (status-is text file shape (h .0) at (h .2) (entry .pre .1) (c .before .before .before .before .before .if1 .left) (c .before .before .match .rest .0 .0 .1) (c
+    .before .before .match .rest .0 .1) (c .before .before .match .rest .1)) (c .before .load-status2 .ensures later))
 
 pub int-leaf-spec : {M : Type 1} → statement M
 int-leaf-spec =
@@ -166,17 +232,25 @@ int-leaf-spec =
     word-requires
     cast-constant
     constant-requires
-    add-t14
+    add-int-out
+    int-out-requires
     returns
     add-wide
     shared-slice-read-wide
     wide-requires
     load-variable-requires
-    add-t17
-    returns-2
-    add-wide-2
-    shared-slice-read-wide-2
-    wide-requires-2
+    add-int-out-2
+    int-out-requires-2
     load-status-requires
-    add-t21
-    returns-3)
+    add-int-out-3
+    int-out-requires-3
+    load-variable-requires-2
+    add-int-out-4
+    int-out-requires-4
+    load-status-requires-2
+    add-int-out-5
+    int-out-requires-5
+    returns-2
+    returns-3
+    returns-4
+    returns-5)

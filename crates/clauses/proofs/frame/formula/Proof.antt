@@ -1,3 +1,4 @@
+use native.Mathlib.Omega.{arith}
 use Rattle.clauses.proofs.FrameNumbers.{formula-same, clauses-sum, words-sum}
 use borrow.Author.Needs.{needs}
 use Rattle.clauses.proofs.frame.formula.Statement.{statement}
@@ -79,19 +80,28 @@ add-t23 : tie.Need-add-t23
 add-t23 c = search needs
 
 add-t24 : tie.Need-add-t24
-add-t24 c = search needs
+add-t24 c =
+    let entry = c .before .before .before .before .before .before .before .before .before .before .before .before .before .before .before .before in
+    omega (arith, c .before .before .before .times3 .ensures .1, c .before .times4 .ensures .1, entry .pre .0 .bits, entry .pre .0 .last, entry .pre .1)
 
 add-t25 : tie.Need-add-t25
-add-t25 c = search needs
+add-t25 c =
+    let entry = c .before .before .before .before .before .before .before .before .before .before .before .before .before .before .before .before in
+    omega (arith, c .before .before .before .times3 .ensures .1, c .before .times4 .ensures .1, entry .pre .0 .bits, entry .pre .0 .last, entry .pre .1)
+
+add-t26 : tie.Need-add-t26
+add-t26 c =
+    let entry = c .before .before .before .before .before .before .before .before .before .before .before .before .before .before .before .before in
+    omega (arith, c .before .before .before .times3 .ensures .1, c .before .times4 .ensures .1, entry .pre .0 .bits, entry .pre .0 .last, entry .pre .1)
 
 returns : tie.Need-returns
 returns c =
-    let at-variables = c .before .before .before .before .before .before .before .before in
+    let at-variables = c .before .before .before .before .before .before .before .before .before in
     let entry = at-variables .before .before .before .before .before .before .before in
     let s = entry .args .s in
-    formula-same s _ _ _ _ (at-variables .variables .ensures .0) (clauses-sum s _ _ _ _ (c .before .before .before .before .times2 .ensures .0) (c .before
-    .before .before .before .before .before .times .ensures .0) (c .before .before .before .before .before .step-clauses .ensures .0)) (words-sum
-    s _ _ _ _ (c .times4 .ensures .0) (c .before .before .times3 .ensures .0) (c .before .step-words .ensures .0))
+    formula-same s _ _ _ _ (at-variables .variables .ensures .0) (clauses-sum s _ _ _ _ (c .before .before .before .before .before .times2 .ensures .0) (c .before .before
+    .before .before .before .before .before .times .ensures .0) (c .before .before .before .before .before .before .step-clauses .ensures .0)) (words-sum s _ _ _ _ (c
+    .before .times4 .ensures .0) (c .before .before .before .times3 .ensures .0) (c .before .before .step-words .ensures .0))
 
 pub formula-spec : {M : Type 1} → statement M
 formula-spec =
@@ -124,4 +134,5 @@ formula-spec =
     add-t23
     add-t24
     add-t25
+    add-t26
     returns)

@@ -20,8 +20,11 @@ add-if2 c = search needs
 add-result-2 : tie.Need-add-result-2
 add-result-2 c = search needs
 
+add-result-3 : tie.Need-add-result-3
+add-result-3 c = search needs
+
 returns-2 : tie.Need-returns-2
-returns-2 c = part-last _ _ _ (c .if2 .taken)
+returns-2 c = part-last _ _ _ (c .before .if2 .taken)
 
 mul-words : tie.Need-mul-words
 mul-words c = search needs
@@ -41,13 +44,16 @@ returns-3 c = part-end _ _ _ _ (c .if3 .taken) refl
 step-words-requires : tie.Need-step-words-requires
 step-words-requires c κs = search needs
 
-add-result-3 : tie.Need-add-result-3
-add-result-3 c = search needs
+add-result-4 : tie.Need-add-result-4
+add-result-4 c = search needs
 
 returns-4 : tie.Need-returns-4
 returns-4 c =
-    part-step _ _ _ _ (c .before .before .before .before .before .if1 .left) (c .before .before .before .before .if2 .left) (c .before .if3 .left) (omega
-    (arith, c .step-words .ensures .0))
+    part-step _ _ _ _ (c .before .before .before .before .before .if1 .left) (c .before .before .before .before .if2 .left) (c .before .if3 .left) (omega (
+      arith,
+      c
+          .step-words .ensures .0,
+    ))
 
 pub part-words-spec : {M : Type 1} → statement M
 part-words-spec =
@@ -58,6 +64,7 @@ part-words-spec =
     returns
     add-if2
     add-result-2
+    add-result-3
     returns-2
     mul-words
     mul-words-2
@@ -65,5 +72,5 @@ part-words-spec =
     add-if3
     returns-3
     step-words-requires
-    add-result-3
+    add-result-4
     returns-4)

@@ -1,43 +1,37 @@
 use native.Mathlib.Omega.{arith}
-use mathlib.Core.Path.{refl}
-use Rattle.clauses.proofs.EmitParts.{property-out}
-use borrow.Author.Needs.{needs}
+use mathlib.Core.Path.{ap}
+use Prim.Native.Nat.{ℕ, _+_}
+use Rattle.design.proofs.Sections.{whole}
+use Rattle.clauses.proofs.EmitParts.{literal-of-state, literal-of-step}
 use Rattle.clauses.proofs.last.property_literal.Statement.{statement}
 use Rattle.clauses.proofs.last.property_literal.Tie as tie
-use Rattle.clauses.proofs.last.property_literal.Reads as reads
-use Rattle.clauses.proofs.last.property_literal.Lts as lts
 
-variables-requires : tie.Need-variables-requires
-variables-requires c κs = c .before .pre .0 .shaped .bits .few
-
-cast-t11 : tie.Need-cast-t11
-cast-t11 c = omega (arith, c .before .before .before .pre .0 .shaped .bits .few)
-
-add-t12 : tie.Need-add-t12
-add-t12 c =
-    let entry = c .before .before .before in
-    omega (arith, entry .pre .0 .shaped .bits .few, entry .pre .1)
-
-slice-aggregate-encode-property : tie.Need-slice-aggregate-encode-property
-slice-aggregate-encode-property c = search needs
-
-encode-property-requires : tie.Need-encode-property-requires
-encode-property-requires c κs = search needs
+state-literal-requires : tie.Need-state-literal-requires
+state-literal-requires c κs = (c .before .before .pre .0, c .before .before .pre .1)
 
 returns : tie.Need-returns
 returns c =
-    property-out (c .before .before .before .before .before .before .before .pre .0 .shaped) (c .before .before .before .before .before .variables
-    .result) (c .before .before .before .before .before .before .before .args .property) (c .before .before .before .before .before .before
-    .before .args .v) (c .before .before .before .before .before .before .before .args .shape .bits) _ _ (search needs) refl (c .before .before
-    .before .before .before .variables .ensures) refl (c .before .encode-property .ensures)
+    let entry = c .before .before .before in
+    λ d ok e fits. let w = whole (entry .args .file .now) d ok .parts in literal-of-state d _ (c .before .if1 .taken) _ _ (entry .pre .0 .shaped .bits .state d w) _ (c
+    .state-literal .ensures d w) fits
+
+add-step-literal : tie.Need-add-step-literal
+add-step-literal c = omega (arith, c .before .before .pre .1, c .before .before .pre .2)
+
+step-literal-requires : tie.Need-step-literal-requires
+step-literal-requires c κs = c .before .before .pre .0 .shaped
+
+returns-2 : tie.Need-returns-2
+returns-2 c =
+    λ d ok e fits. let at = ap (λ (k : ℕ). c .before .before .before .args .v + k) e in literal-of-step d _ (c .before .if1 .left) _ _ at _ (c .step-literal .ensures d ok at)
+    fits
 
 pub property-literal-spec : {M : Type 1} → statement M
 property-literal-spec =
     tie.close
     (tie.spec
-    variables-requires
-    cast-t11
-    add-t12
-    slice-aggregate-encode-property
-    encode-property-requires
-    returns)
+    state-literal-requires
+    returns
+    add-step-literal
+    step-literal-requires
+    returns-2)

@@ -1,21 +1,24 @@
 use native.Mathlib.Omega.{arith}
-use Prim.Native.Nat.{_+_, _-_}
-use mathlib.Core.Path.{_≡_, refl, _∙_}
+use Prim.Native.Nat.{_-_}
+use mathlib.Core.Path.{_≡_, refl}
 use lib.ListN.{length}
 use Rattle.clauses.proofs.EmitParts.{Closing, closing-start, closing-on, closing-end}
 use Rattle.clauses.proofs.last.put_last.Statement.{statement}
 use Rattle.clauses.proofs.last.put_last.Tie as tie
-use Rattle.clauses.proofs.last.put_last.Reads as reads
-use Rattle.clauses.proofs.last.put_last.Lts as lts
 
 abbrev Inv-loop : tie.InvT-loop
-Inv-loop file events buf₀ cur shape property bound stride at₀ x₀ j₀ buf at x j = Closing file property stride bound buf₀ cur buf at x j × (length buf ≡ length buf₀)
+Inv-loop file events buf₀ cur shape property frames stride at₀ x₀ j₀ buf at x j = Closing file property stride frames buf₀ cur buf at x j × (length buf ≡ length buf₀)
 
 abbrev μ-loop : tie.MeasureT-loop
-μ-loop file events buf₀ cur shape property bound stride at₀ x₀ j₀ buf at x j = bound + 1 - j
+μ-loop file events buf₀ cur shape property frames stride at₀ x₀ j₀ buf at x j = frames - j
+
+add-frames : tie.Need-add-frames Inv-loop μ-loop
+add-frames c =
+    let entry = c .before .before .before .before .before in
+    omega (arith, entry .pre .1 .last, entry .pre .2)
 
 frame-length-requires : tie.Need-frame-length-requires Inv-loop μ-loop
-frame-length-requires c κs = c .before .before .before .pre .1
+frame-length-requires c κs = c .before .before .before .before .before .pre .1
 
 cast-stride : tie.Need-cast-stride Inv-loop μ-loop
 cast-stride c = omega (arith, c .frame-length .ensures .1)
@@ -25,8 +28,15 @@ loop-holds c = (closing-start _ _ _ _ _ _, refl)
 
 property-literal-requires : tie.Need-property-literal-requires Inv-loop μ-loop
 property-literal-requires c κs =
-    let entry = c .before .before .before .before .before .before in
-    (entry .pre .0, omega (arith, c .before .loop .inv .0 .small, entry .pre .2, c .loop-test .taken))
+    let entry = c .before .before .before .before .before .before .before .before in (
+      entry .pre .0,
+      omega (arith, c .before .loop .inv .0 .small, entry .pre .2, entry .pre .1 .last, c .loop-test .taken),
+      omega (
+        arith,
+        c .before .before .frame-length
+            .ensures .1,
+      ),
+    )
 
 negate-requires : tie.Need-negate-requires Inv-loop μ-loop
 negate-requires c κs = tt
@@ -36,36 +46,36 @@ put-literal-requires c κs = tt
 
 add-x : tie.Need-add-x Inv-loop μ-loop
 add-x c =
-    let entry = c .before .before .before .before .before .before .before .before .before .before .before in
+    let entry = c .before .before .before .before .before .before .before .before .before .before .before .before .before in
     omega (
       arith,
       c .before .before .before .before .before .before .loop .inv .0 .small,
-      c .before .before .before .before .before .before .before
-          .frame-length .ensures .1,
+      c .before .before .before .before .before .before .before .frame-length .ensures
+          .1,
       entry .pre .2,
+      entry .pre .1 .last,
       c .before .before .before .before .before .loop-test .taken,
     )
 
 add-j : tie.Need-add-j Inv-loop μ-loop
 add-j c =
-    let entry = c .before .before .before .before .before .before .before .before .before .before .before in
-    omega (arith, entry .pre .2, c .before .before .before .before .before .loop-test .taken)
+    let entry = c .before .before .before .before .before .before .before .before .before .before .before .before .before in
+    omega (arith, entry .pre .2, entry .pre .1 .last, c .before .before .before .before .before .loop-test .taken)
 
 loop-less : tie.Need-loop-less Inv-loop μ-loop
 loop-less c = omega (arith, c .before .before .before .before .before .loop-test .taken)
 
 loop-again : tie.Need-loop-again Inv-loop μ-loop
-loop-again c = (
-  closing-on (c .before .before .before .before .before .before .before .before .before .before .before .args .file .now) _ _ _ _ _ (c .before .before
-      .before .before .before .loop-test .taken) (omega (
+loop-again c =
+    let entry = c .before .before .before .before .before .before .before .before .before .before .before .before .before in (
+      closing-on (entry .args .file .now) _ _ _ _ _ (c .before .before .before .before .before .loop-test .taken) (omega (
         arith,
-        c .before .before .before .before .before .before .before .frame-length .ensures
-            .1,
-      )) (c .before .before .before .before .before .before .loop .inv .0) _ _ _ _ (λ d w. (c .before .before .before .before .before .before
-      .before .before .before .before .before .pre .0 .shaped) .bits .state d w) refl (c .before .before .before .before .property-literal .ensures) (c .before .before .negate
-      .ensures) (c .before .put-literal .ensures),
-  omega arith,
-)
+        c .before .before .before .before .before
+            .before .before .frame-length .ensures .1,
+      )) (c .before .before .before .before .before .before .loop .inv .0) _ _ _ refl (c .before .before .before .before
+          .property-literal .ensures) (c .before .before .negate .ensures) (c .before .put-literal .ensures),
+      omega arith,
+    )
 
 put-end-requires : tie.Need-put-end-requires Inv-loop μ-loop
 put-end-requires c κs = tt
@@ -75,8 +85,11 @@ same-length c = omega (arith, c .before .before .before .before .loop .inv .1)
 
 returns : tie.Need-returns Inv-loop μ-loop
 returns c =
-    λ d w e. closing-end _ _ _ _ _ _ (c .before .before .before .loop-test .left) (c .before .before .before .before .loop .inv .0) (c .before .put-end
-    .ensures) d w (c .before .before .before .before .before .frame-length .ensures .0 ∙ e)
+    let at-shared-slice-known = c .before .before .before .before .before .before .before .before .before .before in
+    let entry = at-shared-slice-known .before in
+    closing-end _ _ _ _ _ _ (c .before .before .before .loop-test .left) (c .before .before .before .before .loop .inv .0) (c .before .put-end .ensures) (λ i. omega
+    (arith, at-shared-slice-known .shared-slice-known .given i)) (entry .args .inst .sizes) (entry .args .inst .bound) (c .before .before .before .before .before
+    .frame-length .ensures .0) refl
 
 pub put-last-spec : {M : Type 1} → statement M
 put-last-spec =
@@ -84,6 +97,7 @@ put-last-spec =
     (tie.spec
     Inv-loop
     μ-loop
+    add-frames
     frame-length-requires
     cast-stride
     loop-holds

@@ -1,3 +1,4 @@
+use mathlib.Core.Bool.{false}
 use native.Mathlib.Omega.{arith}
 use mathlib.Core.Path.{refl, ap, _∙_}
 use mathlib.Core.List.{[], _∷_}
@@ -75,7 +76,7 @@ returns c =
     let shape = entry .args .shape in
     let v = entry .args .v in
     external-emits (layoutOf shape) (slotsOf file shape bits) v _ _ (c .before .before .before .before .before .before .negate .ensures ∙ ap negate (c
-    .before .before .before .before .before .before .before .load-flag .ensures)) (boolean-set file shape v v (at-offset .offset .result) bits
+    .before .before .before .before .before .before .before .load-flag .ensures false refl)) (boolean-set file shape v v (at-offset .offset .result) bits
     refl (entry .pre .2) (at-offset .offset .ensures) ((slotted (entry .pre .0) bits (entry .pre .1)) .bits) 2 _ (λ e. omega (
       arith,
       e,

@@ -1,3 +1,4 @@
+use mathlib.Core.Bool.{false}
 use native.Mathlib.Omega.{arith}
 use mathlib.Core.Path.{sym, _∙_}
 use Rattle.clauses.specs.FlatState.{slotsOf, layoutOf}
@@ -38,6 +39,7 @@ encode-bool-requires : tie.Need-encode-bool-requires
 encode-bool-requires c κs =
     let at-wide = c .before .before .before in
     let entry = at-wide .before .before .before in (
+      false,
       slotted (entry .pre .0 .1 .shaped) _ (entry .pre .1),
       guard-here (entry .pre .0 .1) (entry .args .p) (entry .pre .2) (at-wide .wide .result) (at-wide .wide
           .ensures .0) (c .before .before .if1 .left),
@@ -51,7 +53,7 @@ returns-2 c =
     let at-wide = c .before .before .before .before .before in
     let entry = at-wide .before .before .before in
     λ x. guard-writes (entry .pre .0 .1) (entry .args .p) x (at-wide .wide .result) (at-wide .wide .ensures .0) (c .before .before .before .before .if1
-    .left) (entry .args .bits .now) (c .before .encode-bool .result) (c .before .encode-bool .ensures)
+    .left) (entry .args .bits .now) (c .before .encode-bool .result) (c .before .encode-bool .ensures false)
 
 pub encode-guard-spec : {M : Type 1} → statement M
 encode-guard-spec =

@@ -1,3 +1,4 @@
+use mathlib.Core.Bool.{false}
 use native.Mathlib.Omega.{arith}
 use Prim.Native.Nat.{ℕ, _+_}
 use mathlib.Core.Path.{refl, ap, _∙_}
@@ -108,6 +109,7 @@ encode-bool-requires c κs =
     let at-wide3 = c .before .before .before in
     let at-wide = at-wide3 .before .before .before .before .before .before .before .before .before .before in
     let entry = at-wide .before .before .before in (
+      false,
       slotted (entry .pre .0 .shaped) _ (entry .pre .1),
       event-here (entry .pre .0) (entry .pre .2) (at-wide .wide .ensures .0) (at-wide3 .wide3 .ensures .0) _ refl,
     )
@@ -133,10 +135,10 @@ returns c =
     let p = entry .args .p in
     let shape = entry .args .shape in
     λ d w. event-emits (layoutOf shape) (slotsOf file shape bits) (c-matrix file p) (c-status file p) (eventIn (w .rows) (c-matrix file p) (c-event file
-    p)) _ _ _ _ _ (at-load-status .load-status .ensures ∙ ap (λ (m : ℕ). integerAt (slotsOf file shape bits) (shape .variables + m)) (at-wide
+    p)) _ _ _ _ _ (at-load-status .load-status .ensures false refl ∙ ap (λ (m : ℕ). integerAt (slotsOf file shape bits) (shape .variables + m)) (at-wide
     .wide .ensures .0)) (at-constant .constant .ensures ∙ ap (constantBits 16) (at-wide2 .wide2 .ensures .0)) (at-equal .equal .ensures)
     (event-writes (entry .pre .0) (entry .pre .2) (at-wide .wide .ensures .0) (at-wide3 .wide3 .ensures .0) _ refl bits (at-encode-bool .encode-bool .result)
-    (at-encode-bool .encode-bool .ensures) d w) (c .before .emit-and .ensures)
+    (at-encode-bool .encode-bool .ensures false) d w) (c .before .emit-and .ensures)
 
 pub status-and-event-spec : {M : Type 1} → statement M
 status-and-event-spec =

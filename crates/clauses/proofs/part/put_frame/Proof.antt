@@ -43,7 +43,7 @@ returns c =
     )) (let h : length (c .before .before .before .before .before .before .before .before
     .variables .result) ≡ maxBits = search needs in h) (c .before .before .before .before .before .before .before .before .variables .ensures) d
     ok es refl (c .before .before .before .before .before .encode-property .ensures)) (c .before .before .before .if1 .taken) (c .before .put-step
-    .ensures d _ _ ok es (omega (
+    .ensures d _ ok es (omega (
       arith,
       c .before .before .before .before .before .before .before .before .before .before .before .before .before
           .pre .2,

@@ -1,5 +1,4 @@
 use native.Mathlib.Omega.{arith}
-use mathlib.Core.Path.{refl}
 use Rattle.clauses.proofs.EmitFormula.{first-part, frame-part, last-part}
 use borrow.Author.Needs.{needs}
 use Rattle.clauses.proofs.part.put_part.Statement.{statement}
@@ -32,7 +31,7 @@ same-length-2 c = search needs
 returns-2 : tie.Need-returns-2
 returns-2 c =
     let entry = c .before .before .before .before .before .before in
-    λ d ok es. last-part (entry .pre .0) _ _ _ d ok es _ refl (entry .pre .1) (c .before .before .before .if2 .taken) (c .before .put-last .ensures)
+    λ d ok es. last-part (entry .pre .0) _ _ _ d ok es (entry .pre .1) (c .before .before .before .if2 .taken) (c .before .put-last .ensures)
 
 sub-put-frame : tie.Need-sub-put-frame
 sub-put-frame c = search needs

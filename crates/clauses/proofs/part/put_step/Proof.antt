@@ -6,20 +6,18 @@ use Rattle.clauses.proofs.EmitFormula.{step-written, step-state}
 use borrow.Author.Needs.{needs}
 use Rattle.clauses.proofs.part.put_step.Statement.{statement}
 use Rattle.clauses.proofs.part.put_step.Tie as tie
-use Rattle.clauses.proofs.part.put_step.Reads as reads
-use Rattle.clauses.proofs.part.put_step.Lts as lts
 
 add-flags : tie.Need-add-flags
-add-flags c = omega arith
+add-flags c = search needs
 
 add-flags-2 : tie.Need-add-flags-2
-add-flags-2 c = omega arith
+add-flags-2 c = search needs
 
 cast-flags : tie.Need-cast-flags
 cast-flags c = search needs
 
 add-flags-3 : tie.Need-add-flags-3
-add-flags-3 c = omega arith
+add-flags-3 c = search needs
 
 frame-length-requires : tie.Need-frame-length-requires
 frame-length-requires c κs = search needs
@@ -28,7 +26,7 @@ cast-after : tie.Need-cast-after
 cast-after c = search needs
 
 add-after : tie.Need-add-after
-add-after c = omega arith
+add-after c = search needs
 
 put-any-requires : tie.Need-put-any-requires
 put-any-requires c κs = search needs
@@ -39,45 +37,51 @@ put-pairs-requires c κs = search needs
 variables-requires : tie.Need-variables-requires
 variables-requires c κs = search needs
 
-cast-t22 : tie.Need-cast-t22
-cast-t22 c = search needs
+cast-t23 : tie.Need-cast-t23
+cast-t23 c = search needs
 
-add-t28 : tie.Need-add-t28
-add-t28 c = omega arith
+add-t29 : tie.Need-add-t29
+add-t29 c = search needs
 
 encode-step-requires : tie.Need-encode-step-requires
-encode-step-requires c κs = (
-  c .before .before .before .before .before .before .before .before .before .before .before .before .before .before .before .pre .0 .ready,
-  (let h :
-      length (c .before .before .variables .result) ≡ maxBits = search needs in h),
-  c .before .before .before .before .before .before .before
-      .before .before .before .before .before .before .before .before .pre .0 .normals,
-)
+encode-step-requires c κs = search needs
+
+encode-step-property-requires : tie.Need-encode-step-property-requires
+encode-step-property-requires c κs =
+    let entry = c .before .before .before .before .before .before .before .before .before .before .before .before .before .before .before .before .before .before .before
+    in
+    entry .pre .0 .ready .shaped
 
 put-all-ties-requires : tie.Need-put-all-ties-requires
 put-all-ties-requires c κs =
-    let entry = c .before .before .before .before .before .before .before .before .before .before .before .before .before .before .before .before .before .before .before .before in
-    (omega (arith, entry .pre .0 .small .movers), omega (arith, entry .pre .0 .small .bits), c .before .before .before .before .encode-step .ensures .1)
+    let entry = c .before .before .before .before .before .before .before .before .before .before .before .before .before .before .before .before .before .before .before
+    .before .before .before .before in (
+      omega (arith, entry .pre .0 .small .movers),
+      omega (arith, entry .pre .0 .small .bits),
+      c .before .before .before .before .before .before .before .encode-step
+          .ensures .1,
+    )
 
 same-length : tie.Need-same-length
 same-length c = search needs
 
 returns : tie.Need-returns
 returns c =
-    λ d p j ok es low at. step-written (c .before .before .before .before .before .before .before .before .before .before .before .before .before .before
-    .before .before .before .before .before .before .before .before .pre .0) _ _ _ _ _ _ (c .before .before .before .before .before .before
-    .before .before .before .variables .result) _ refl refl refl (omega (
+    λ d j ok es low at. step-written (c .before .before .before .before .before .before .before .before .before .before .before .before .before .before .before .before
+    .before .before .before .before .before .before .before .before .before .pre .0) _ _ _ _ _ _ _ (c .before .before .before .before .before .before .before .before
+    .before .before .before .before .variables .result) _ refl refl refl (omega (
       arith,
-      c .before .before .before .before .before .before .before .before
-          .before .before .before .before .before .before .before .before .frame-length .ensures .0,
-    )) refl (c .before .before .before .before .before
-    .before .encode-step .ensures .1) (c .before .before .before .before .before .before .before .before .before .before .before .before .before
-    .before .put-any .ensures) (c .before .before .before .before .before .before .before .before .before .before .before .put-pairs .ensures) (c
-    .before .before .before .before .before .before .encode-step .ensures .0) (c .before .put-all-ties .ensures) d p j ok es low at (step-state (c
-    .before .before .before .before .before .before .before .before .before .before .before .before .before .before .before .before .before
-    .before .before .before .before .before .pre .0) _ _ (c .before .before .before .before .before .before .before .before .before .variables
-    .result) refl (let h : length (c .before .before .before .before .before .before .before .before .before .variables .result) ≡ maxBits =
-    search needs in h) (c .before .before .before .before .before .before .before .before .before .variables .ensures) d p j ok es low at)
+      c .before .before .before .before .before .before .before .before .before .before
+          .before .before .before .before .before .before .before .before .before .frame-length .ensures .0,
+    )) refl (c .before .before .before .before .before .before .before
+    .before .before .encode-step .ensures .1) (c .before .before .before .before .before .before .before .before .before .before .before .before .before .before .before
+    .before .before .put-any .ensures) (c .before .before .before .before .before .before .before .before .before .before .before .before .before .before .put-pairs
+    .ensures) (c .before .before .before .before .before .before .before .before .before .encode-step .ensures .0) (c .before .before .before .before .before
+    .encode-step-property .ensures) (c .before .put-all-ties .ensures) d j ok es low at (step-state (c .before .before .before .before .before .before .before .before
+    .before .before .before .before .before .before .before .before .before .before .before .before .before .before .before .before .before .pre .0) _ _ _ (c .before
+    .before .before .before .before .before .before .before .before .before .before .before .variables .result) refl (let h : length (c .before .before .before .before
+    .before .before .before .before .before .before .before .before .variables .result) ≡ maxBits = search needs in h) (c .before .before .before .before .before .before
+    .before .before .before .before .before .before .variables .ensures) d j ok es low at)
 
 pub put-step-spec : {M : Type 1} → statement M
 put-step-spec =
@@ -93,9 +97,10 @@ put-step-spec =
     put-any-requires
     put-pairs-requires
     variables-requires
-    cast-t22
-    add-t28
+    cast-t23
+    add-t29
     encode-step-requires
+    encode-step-property-requires
     put-all-ties-requires
     same-length
     returns)

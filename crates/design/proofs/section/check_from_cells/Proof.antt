@@ -2,7 +2,7 @@
 use native.Mathlib.Omega.{arith}
 use mathlib.Core.Path.{sym, ap, _∙_}
 use Rattle.design.specs.declared.shape.Shape.{Shape}
-use Rattle.design.proofs.File.{cells-of, invariant-of, passed-at, before-cells, few-movers, x-cell, x-invariants, x-invariant, all-passed}
+use Rattle.design.proofs.File.{cells-of, expressions-of, passed-at, before-cells, few-movers, x-cell, x-invariants, x-expressions, all-passed}
 use Rattle.design.proofs.section.check_from_cells.Statement.{statement}
 use Rattle.design.proofs.section.check_from_cells.Tie as tie
 
@@ -26,8 +26,8 @@ returns c =
     .counts) (entry .args .offsets) _ (c .before .before .before .before .before .before .shape-of .ensures) _ f (c .before .before .before
     .before .before .check-cells .ensures f)) (c .if1 .taken)
 
-check-invariant-requires : tie.Need-check-invariant-requires
-check-invariant-requires c κs =
+check-last-requires : tie.Need-check-last-requires
+check-last-requires c κs =
     let a = before-cells (c .before .before .before .before .before .before .before .before .args .file .now) (c .before .before .before .before .before
     .before .before .before .args .end) (c .before .before .before .before .before .before .before .before .args .counts) (c .before .before
     .before .before .before .before .before .before .args .offsets) _ (c .before .before .before .before .before .before .before .before .pre .1
@@ -70,8 +70,8 @@ returns-2 c =
     let offsets = entry .args .offsets in
     all-passed file end counts offsets _ (entry .pre .1 .0) (entry .pre .1 .1) (entry .pre .1 .2) _ (λ f. passed-at _ _ _ _ (c .before .before .before
     .before .if1 .left) (sym (c .before .before .before .before .before .before .before .p .given .1) ∙ cells-of file end counts offsets _
-    (at-shape-of .shape-of .ensures) _ f (at-check-cells .check-cells .ensures f))) _ (sym (c .before .q .given .1) ∙ invariant-of file end counts
-    offsets _ (at-shape-of .shape-of .ensures) _ (c .before .before .before .check-invariant .ensures))
+    (at-shape-of .shape-of .ensures) _ f (at-check-cells .check-cells .ensures f))) _ (sym (c .before .q .given .1) ∙ expressions-of file end counts
+    offsets _ (at-shape-of .shape-of .ensures) _ (c .before .before .before .check-last .ensures))
 
 returns-3 : tie.Need-returns-3
 returns-3 c =
@@ -82,10 +82,10 @@ returns-3 c =
     let end = entry .args .end in
     let file = entry .args .file .now in
     let offsets = entry .args .offsets in
-    x-invariant file end counts offsets _ (entry .pre .1 .0) (entry .pre .1 .1) (entry .pre .1 .2) _ (λ f. passed-at _ _ _ _ (c .before .before .before
+    x-expressions file end counts offsets _ (entry .pre .1 .0) (entry .pre .1 .1) (entry .pre .1 .2) _ (λ f. passed-at _ _ _ _ (c .before .before .before
     .before .if1 .left) (sym (c .before .before .before .before .before .before .before .p .given .1) ∙ cells-of file end counts offsets _
-    (at-shape-of .shape-of .ensures) _ f (at-check-cells .check-cells .ensures f))) _ _ (sym (c .before .number .given .1) ∙ invariant-of file end
-    counts offsets _ (at-shape-of .shape-of .ensures) _ (c .before .before .before .check-invariant .ensures))
+    (at-shape-of .shape-of .ensures) _ f (at-check-cells .check-cells .ensures f))) _ _ (sym (c .before .number .given .1) ∙ expressions-of file end
+    counts offsets _ (at-shape-of .shape-of .ensures) _ (c .before .before .before .check-last .ensures))
 
 returns-4 : tie.Need-returns-4
 returns-4 c =
@@ -102,7 +102,7 @@ check-from-cells-spec =
     check-cells-requires
     enum-known-p
     returns
-    check-invariant-requires
+    check-last-requires
     enum-known-q
     add-t19
     enum-known-number

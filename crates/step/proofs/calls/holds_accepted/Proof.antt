@@ -1,5 +1,4 @@
 -- `step::calls::holds_accepted` meets its contract. Assumes nothing.
-use native.Mathlib.Omega.{arith}
 use mathlib.Core.Path.{_∙_}
 use borrow.Author.Needs.{needs}
 use Rattle.step.proofs.States.{holds-11, holds-13, holds-done}
@@ -38,7 +37,7 @@ returns-2 c =
     .before .before .wrong-entry .ensures) (c .before .before .if1 .left) (c .before .if2 .taken)
 
 holds-right-requires : tie.Need-holds-right-requires
-holds-right-requires c κs = (c .before .before .before .before .before .before .pre, c .before .before .before .before .shape .ensures .shaped)
+holds-right-requires c κs = (c .before .before .before .before .before .before .pre, c .before .before .before .before .shape .ensures .shaped, c .if2 .left)
 
 returns-3 : tie.Need-returns-3
 returns-3 c =

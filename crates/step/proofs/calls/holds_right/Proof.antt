@@ -26,12 +26,14 @@ slice-aggregate-holds-slots c = sym (length-take-le _ _ (c .before .before .slot
 
 holds-slots-requires : tie.Need-holds-slots-requires
 holds-slots-requires c κs =
-    let entry = c .before .before .before .before .before .before in
-    record {
-      indexed = record { accepted = entry .pre .0; events = c .before .before .before .index-events .ensures; shaped = entry .pre .1 };
-      size =
-          length-take-le _ _ (c .before .before .slot-count .ensures .1) ∙ c .before .before .slot-count .ensures .0;
-    }
+    let entry = c .before .before .before .before .before .before in (
+      record {
+        indexed = record { accepted = entry .pre .0; events = c .before .before .before .index-events .ensures; shaped = entry .pre .1 };
+        size =
+            length-take-le _ _ (c .before .before .slot-count .ensures .1) ∙ c .before .before .slot-count .ensures .0;
+      },
+      entry .pre .2,
+    )
 
 returns : tie.Need-returns
 returns c = search needs

@@ -7,19 +7,16 @@ use Rattle.step.proofs.Replays.{ready-same}
 use borrow.Author.Needs.{needs}
 use Rattle.step.proofs.calls.holds_slots.Statement.{statement}
 use Rattle.step.proofs.calls.holds_slots.Tie as tie
-use Rattle.step.proofs.calls.holds_slots.Reads as reads
-use Rattle.step.proofs.calls.holds_slots.Lts as lts
-use Rattle.step.proofs.calls.load_entries.Reads as load-entries-reads
-use Rattle.step.proofs.property.property_true.Reads as property-true-reads
 
 load-entries-requires : tie.Need-load-entries-requires
 load-entries-requires c κs =
     let entry = c .before .before .before in
-    (sizes _ _ _ _ (entry .pre) .3, sizes _ _ _ _ (entry .pre) .2, entry .pre .size)
+    (sizes _ _ _ _ (entry .pre .0) .3, sizes _ _ _ _ (entry .pre .0) .2, entry .pre .0 .size)
 
 property-true-requires : tie.Need-property-true-requires
 property-true-requires c κs =
-    ready-same _ _ _ _ _ (omega (arith, c .before .before .slots .given)) (c .before .before .before .before .before .before .before .pre)
+    let entry = c .before .before .before .before .before .before .before in
+    (ready-same _ _ _ _ _ (omega (arith, c .before .before .slots .given)) (entry .pre .0), entry .pre .1)
 
 same-length : tie.Need-same-length
 same-length c = search needs

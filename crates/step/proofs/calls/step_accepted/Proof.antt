@@ -1,10 +1,10 @@
 -- `step::calls::step_accepted` meets its contract. Assumes nothing.
 use native.Mathlib.Omega.{arith}
-use mathlib.Core.Path.{refl, sym, subst, _∙_}
+use mathlib.Core.Path.{refl, sym, _∙_}
 use borrow.Author.Needs.{needs}
 use lib.Seq.{length-take-le}
-use Rattle.design.specs.Places.{CellsIndexed}
 use Rattle.design.proofs.Indexed.{sized, count-movers, few-movers}
+use Rattle.step.proofs.Choices.{movers-here}
 use Rattle.step.proofs.States.{step-11, step-12, step-done}
 use Rattle.step.proofs.calls.step_accepted.Statement.{statement}
 use Rattle.step.proofs.calls.step_accepted.Tie as tie
@@ -38,11 +38,7 @@ add-if2 c =
     let entry = at-shape .before .before .before .before in
     omega (
       arith,
-      few-movers _ _ _ (at-shape .shape .ensures .shaped) (record {
-        normals = subst (CellsIndexed _ _) (sym (at-shape .shape .ensures .normals)) (c
-            .before .before .before .before .before .index-cells .ensures);
-        externals = at-shape .shape .ensures .externals;
-      }) (entry .pre),
+      few-movers _ _ _ (at-shape .shape .ensures .shaped) (movers-here _ _ _ _ (at-shape .shape .ensures) (c .before .before .before .before .before .index-cells .ensures)) (entry .pre),
     )
 
 refuse-step-requires-2 : tie.Need-refuse-step-requires-2
@@ -56,11 +52,7 @@ returns-2 c =
     c .refuse-step2 .ensures ∙ step-12 (entry .args .file .now) (entry .args .values) (entry .args .statuses) (entry .args .choice) (entry .pre)
     (at-patterns .patterns .result) (at-patterns .patterns .ensures) (entry .good .1 .0 .1 .0 .1) (entry .good .1 .1 .0 .1 .0 .1) _ (c .before
     .before .before .before .wrong-entry .ensures) (c .before .before .before .if1 .left) _ (count-movers _ _ _ (at-shape .shape .ensures .shaped)
-    (record {
-      normals = subst (CellsIndexed _ _) (sym (at-shape .shape .ensures .normals)) (c .before .before .before .before .before .before .before
-          .index-cells .ensures);
-      externals = at-shape .shape .ensures .externals;
-    })) (omega (arith, c .before .if2 .taken))
+    (movers-here _ _ _ _ (at-shape .shape .ensures) (c .before .before .before .before .before .before .before .index-cells .ensures))) (omega (arith, c .before .if2 .taken))
 
 index-events-requires : tie.Need-index-events-requires
 index-events-requires c κs = search needs
@@ -94,11 +86,7 @@ step-slots-requires c κs =
         };
         size = length-take-le _ _ (at-slot-count .slot-count .ensures .1) ∙ at-slot-count .slot-count .ensures .0;
       },
-      record {
-        normals =
-            subst (CellsIndexed _ _) (sym (at-shape .shape .ensures .normals)) (at-index-cells .index-cells .ensures);
-        externals = at-shape .shape .ensures .externals;
-      },
+      movers-here _ _ _ _ (at-shape .shape .ensures) (at-index-cells .index-cells .ensures),
       omega (arith, c .before .before .before .before .before .before .if2 .left),
     )
 
@@ -113,10 +101,7 @@ returns-3 c =
     let entry = at-index-cells .before .before .before in
     step-done (entry .args .file .now) (entry .args .values) (entry .args .statuses) (entry .args .choice) (entry .pre) (at-patterns .patterns .result)
     (at-patterns .patterns .ensures) (entry .good .1 .0 .1 .0 .1) (entry .good .1 .1 .0 .1 .0 .1) _ (at-wrong-entry .wrong-entry .ensures) (at-if1
-    .if1 .left) _ (count-movers _ _ _ (at-shape .shape .ensures .shaped) (record {
-      normals = subst (CellsIndexed _ _) (sym (at-shape .shape .ensures .normals)) (at-index-cells .index-cells .ensures);
-      externals = at-shape .shape .ensures .externals;
-    })) (omega (arith, at-if2 .if2 .left)) _ _ (at-shape
+    .if1 .left) _ (count-movers _ _ _ (at-shape .shape .ensures .shaped) (movers-here _ _ _ _ (at-shape .shape .ensures) (at-index-cells .index-cells .ensures))) (omega (arith, at-if2 .if2 .left)) _ _ (at-shape
     .shape .ensures .shaped .variables) (at-shape .shape .ensures .shaped .matrices) _ refl _ (c .before .step-slots .ensures)
 
 pub step-accepted-spec : {M : Type 1} → statement M

@@ -1,13 +1,14 @@
 -- `step::evaluate::eval_bool` meets its contract. Assumes nothing.
 use native.Mathlib.Omega.{arith}
 use mathlib.Core.Path.{sym, ap, _∙_}
+use mathlib.Core.Bool.{true, false}
 use mathlib.Core.Logic.{inl, inr, ⊎-elim}
 use lib.ListN.{getD}
 use lib.Dec.{ltb}
 use Prim.Native.Nat.{ℕ, _<_, _+_, _-_}
 use Rattle.step.specs.Evaluation.{evalBool}
 use Rattle.step.specs.Accepted.{past, boolValue}
-use Rattle.step.proofs.Values.{truth-test, bool-live, bool-forward, bool-constant, bool-variable, bool-unknown, not-first, not-value, logic-first, logic-second, logic-pair, compare-first, compare-second, compare-pair}
+use Rattle.step.proofs.Values.{truth-test, bool-live, bool-forward, bool-constant, bool-variable, bool-unknown, boolean-slot, not-first, not-value, logic-first, logic-second, logic-pair, compare-first, compare-second, compare-pair}
 use borrow.Fn.Kinds.{In}
 use borrow.Fn.PlainCycle.{Measures, is, falls, and}
 use Rattle.step.proofs.evaluate.eval_bool.Reads as eval-bool
@@ -35,103 +36,181 @@ abbrev eval-bool-claims : ℕ → eval-bool-lts.Claims
 eval-bool-claims t = (bool-at-reads.Asked, bool-at-reads.Learnt, wide-reads.Asked, wide-reads.Learnt, eval-bool-below t, eval-bool.Post, logic-reads.Asked, logic-reads.Learnt, eval-int-reads.Asked, eval-int-reads.Learnt, compare-reads.Asked, compare-reads.Learnt)
 
 eval-bool-shared-slice-read-op : (t : ℕ) → eval-bool-lts.Need-shared-slice-read-op (eval-bool-claims t) (eval-bool-at t) eval-bool.Post
-eval-bool-shared-slice-read-op t c = omega (arith, bool-live _ _ _ _ _ (c .before .before .before .pre .1 .0 .2) .inside)
+eval-bool-shared-slice-read-op t c = omega (arith, bool-live _ _ _ _ _ (c .before .before .before .pre .1 .0 .4) .inside)
 
 eval-bool-add-p : (t : ℕ) → eval-bool-lts.Need-add-p (eval-bool-claims t) (eval-bool-at t) eval-bool.Post
-eval-bool-add-p t c = omega (arith, bool-live _ _ _ _ _ (c .before .before .before .pre .1 .0 .2) .inside)
+eval-bool-add-p t c = omega (arith, bool-live _ _ _ _ _ (c .before .before .before .pre .1 .0 .4) .inside)
 
 eval-bool-shared-slice-read-bool-at : (t : ℕ) → eval-bool-lts.Need-shared-slice-read-bool-at (eval-bool-claims t) (eval-bool-at t) eval-bool.Post
 eval-bool-shared-slice-read-bool-at t c =
-    omega (arith, bool-constant _ _ _ _ _ (c .before .before .before .before .before .pre .1 .0 .2) (c .before .match .keys1) .0)
+    let entry = c .before .before .before .before .before in
+    omega (arith, bool-constant _ _ _ _ _ (entry .pre .1 .0 .4) (c .before .match .keys1) .0)
 
 eval-bool-add-bool-at : (t : ℕ) → eval-bool-lts.Need-add-bool-at (eval-bool-claims t) (eval-bool-at t) eval-bool.Post
 eval-bool-add-bool-at t c =
-    omega (arith, bool-constant _ _ _ _ _ (c .before .before .before .before .before .pre .1 .0 .2) (c .before .match .keys1) .0)
+    let entry = c .before .before .before .before .before in
+    omega (arith, bool-constant _ _ _ _ _ (entry .pre .1 .0 .4) (c .before .match .keys1) .0)
 
 eval-bool-bool-at-requires : (t : ℕ) → eval-bool-lts.Need-bool-at-requires (eval-bool-claims t) (eval-bool-at t) eval-bool.Post
 eval-bool-bool-at-requires t c κs = tt
 
 eval-bool-shared-slice-read-wide : (t : ℕ) → eval-bool-lts.Need-shared-slice-read-wide (eval-bool-claims t) (eval-bool-at t) eval-bool.Post
 eval-bool-shared-slice-read-wide t c =
-    omega (arith, bool-variable _ _ _ _ _ (c .before .before .before .before .before .pre .1 .0 .2) (c .before .match .keys2) .0)
+    let entry = c .before .before .before .before .before in
+    omega (arith, bool-variable _ _ _ _ _ (entry .pre .1 .0 .4) false (c .before .match .keys2) .0)
 
 eval-bool-wide-requires : (t : ℕ) → eval-bool-lts.Need-wide-requires (eval-bool-claims t) (eval-bool-at t) eval-bool.Post
 eval-bool-wide-requires t c κs = tt
 
 eval-bool-mul-bool-at : (t : ℕ) → eval-bool-lts.Need-mul-bool-at (eval-bool-claims t) (eval-bool-at t) eval-bool.Post
-eval-bool-mul-bool-at t c = omega (arith, c .wide .ensures .1)
+eval-bool-mul-bool-at t c =
+    let entry = c .before .before .before .before .before .before in
+    omega (
+      arith,
+      c .wide .ensures .0,
+      boolean-slot (entry .args .text .now) (entry .args .shape) _ _ _ (entry .pre .1 .0) false
+          (c .before .before .match .keys2),
+    )
 
 eval-bool-shared-slice-read-bool-at-2 : (t : ℕ) → eval-bool-lts.Need-shared-slice-read-bool-at-2 (eval-bool-claims t) (eval-bool-at t) eval-bool.Post
 eval-bool-shared-slice-read-bool-at-2 t c =
     let entry = c .before .before .before .before .before .before .before in
-    omega (arith, c .before .wide .ensures .0, bool-variable _ _ _ _ _ (entry .pre .1 .0 .2) (c .before .before .before .match .keys2) .1)
+    omega (
+      arith,
+      c .before .wide .ensures .0,
+      boolean-slot (entry .args .text .now) (entry .args .shape) _ _ _ (entry .pre .1 .0) false
+          (c .before .before .before .match .keys2),
+    )
 
 eval-bool-add-bool-at-2 : (t : ℕ) → eval-bool-lts.Need-add-bool-at-2 (eval-bool-claims t) (eval-bool-at t) eval-bool.Post
 eval-bool-add-bool-at-2 t c =
     let entry = c .before .before .before .before .before .before .before in
-    omega (arith, bool-variable _ _ _ _ _ (entry .pre .1 .0 .2) (c .before .before .before .match .keys2) .0)
+    omega (arith, bool-variable _ _ _ _ _ (entry .pre .1 .0 .4) false (c .before .before .before .match .keys2) .0)
 
 eval-bool-bool-at-requires-2 : (t : ℕ) → eval-bool-lts.Need-bool-at-requires-2 (eval-bool-claims t) (eval-bool-at t) eval-bool.Post
 eval-bool-bool-at-requires-2 t c κs = tt
 
 eval-bool-eval-bool-requires : (t : ℕ) → eval-bool-lts.Need-eval-bool-requires (eval-bool-claims t) (eval-bool-at t) eval-bool.Post
-eval-bool-eval-bool-requires t c κs =
-    let entry = c .before .before .before .before in (
-      omega (arith, bool-live _ _ _ _ _ (entry .pre .1 .0 .2) .inside),
-      ((entry .pre .1 .0 .0, entry .pre .1 .0 .1 - 1, not-first _ _ _ _ _ (entry .pre .1 .0 .2) (c .match .keys3)), omega arith, omega arith),
-    )
+eval-bool-eval-bool-requires t c κs = let (file, depth, later, fits, h) = c .before .before .before .before .pre .1 .0 in
+    (omega (arith, bool-live _ _ _ _ _ h .inside), ((file, depth - 1, later, fits, not-first _ _ _ _ _ h (c .match .keys3)), omega arith))
 
 eval-bool-bool-at-requires-3 : (t : ℕ) → eval-bool-lts.Need-bool-at-requires-3 (eval-bool-claims t) (eval-bool-at t) eval-bool.Post
 eval-bool-bool-at-requires-3 t c κs = tt
 
+eval-bool-shared-slice-read-wide-2 : (t : ℕ) → eval-bool-lts.Need-shared-slice-read-wide-2 (eval-bool-claims t) (eval-bool-at t) eval-bool.Post
+eval-bool-shared-slice-read-wide-2 t c =
+    let entry = c .before .before .before .before .before in
+    omega (arith, bool-variable _ _ _ _ _ (entry .pre .1 .0 .4) true (c .before .match .keys4) .0)
+
+eval-bool-wide-requires-2 : (t : ℕ) → eval-bool-lts.Need-wide-requires-2 (eval-bool-claims t) (eval-bool-at t) eval-bool.Post
+eval-bool-wide-requires-2 t c κs = tt
+
+eval-bool-add-bool-at-3 : (t : ℕ) → eval-bool-lts.Need-add-bool-at-3 (eval-bool-claims t) (eval-bool-at t) eval-bool.Post
+eval-bool-add-bool-at-3 t c =
+    let entry = c .before .before .before .before .before .before .before in
+    omega (
+      arith,
+      c .before .wide2 .ensures .0,
+      boolean-slot (entry .args .text .now) (entry .args .shape) _ _ _ (entry .pre .1 .0) true
+          (c .before .before .before .match .keys4),
+    )
+
+eval-bool-add-bool-at-4 : (t : ℕ) → eval-bool-lts.Need-add-bool-at-4 (eval-bool-claims t) (eval-bool-at t) eval-bool.Post
+eval-bool-add-bool-at-4 t c =
+    let entry = c .before .before .before .before .before .before .before in
+    omega (
+      arith,
+      c .before .wide2 .ensures .0,
+      boolean-slot (entry .args .text .now) (entry .args .shape) _ _ _ (entry .pre .1 .0) true
+          (c .before .before .before .match .keys4),
+    )
+
+eval-bool-mul-bool-at-2 : (t : ℕ) → eval-bool-lts.Need-mul-bool-at-2 (eval-bool-claims t) (eval-bool-at t) eval-bool.Post
+eval-bool-mul-bool-at-2 t c =
+    let entry = c .before .before .before .before .before .before .before in
+    omega (
+      arith,
+      c .before .wide2 .ensures .0,
+      boolean-slot (entry .args .text .now) (entry .args .shape) _ _ _ (entry .pre .1 .0) true
+          (c .before .before .before .match .keys4),
+    )
+
+eval-bool-shared-slice-read-bool-at-3 : (t : ℕ) → eval-bool-lts.Need-shared-slice-read-bool-at-3 (eval-bool-claims t) (eval-bool-at t) eval-bool.Post
+eval-bool-shared-slice-read-bool-at-3 t c =
+    let entry = c .before .before .before .before .before .before .before .before in
+    omega (
+      arith,
+      c .before .before .wide2 .ensures .0,
+      boolean-slot (entry .args .text .now) (entry .args .shape) _ _ _ (entry .pre .1 .0) true
+          (c .before .before .before .before .match .keys4),
+    )
+
+eval-bool-add-bool-at-5 : (t : ℕ) → eval-bool-lts.Need-add-bool-at-5 (eval-bool-claims t) (eval-bool-at t) eval-bool.Post
+eval-bool-add-bool-at-5 t c =
+    let entry = c .before .before .before .before .before .before .before .before in
+    omega (arith, bool-variable _ _ _ _ _ (entry .pre .1 .0 .4) true (c .before .before .before .before .match .keys4) .0)
+
+eval-bool-bool-at-requires-4 : (t : ℕ) → eval-bool-lts.Need-bool-at-requires-4 (eval-bool-claims t) (eval-bool-at t) eval-bool.Post
+eval-bool-bool-at-requires-4 t c κs = tt
+
 eval-bool-eval-bool-requires-2 : (t : ℕ) → eval-bool-lts.Need-eval-bool-requires-2 (eval-bool-claims t) (eval-bool-at t) eval-bool.Post
 eval-bool-eval-bool-requires-2 t c κs =
-    let entry = c .before .before .before .before .before .before in (
-      omega (arith, bool-live _ _ _ _ _ (entry .pre .1 .0 .2) .inside),
-      ((entry .pre .1 .0 .0, entry .pre .1 .0 .1 - 1, logic-first _ _ _ _ _ (entry .pre .1 .0 .2) (omega arith) (c .if2 .taken)), omega arith, omega arith),
+    let entry = c .before .before .before .before .before .before in
+    let (file, depth, later, fits, h) = entry .pre .1 .0 in (
+      omega (arith, bool-live _ _ _ _ _ h .inside),
+      (
+        (
+          file,
+          depth - 1,
+          later,
+          fits,
+          logic-first _ _ _ _ _ h (omega arith)
+              (c .if2 .taken),
+        ),
+        omega arith,
+      ),
     )
 
 eval-bool-eval-bool-requires-3 : (t : ℕ) → eval-bool-lts.Need-eval-bool-requires-3 (eval-bool-claims t) (eval-bool-at t) eval-bool.Post
-eval-bool-eval-bool-requires-3 t c κs =
-    let entry = c .before .before .before .before .before .before .before in
-    let (file, depth, h) = entry .pre .1 .0 in
-    let first = logic-first _ _ _ _ _ h (omega arith) (c .before .if2 .taken) in (
-      omega (arith, bool-live _ _ _ _ _ h .inside, bool-forward _ _ _ _ _ _ first (c .eval-bool2 .ensures file (depth - 1) first .1)),
-      ((file, depth - 1, logic-second _ _ _ _ _ h (omega arith) (c .before .if2 .taken) _ (c .eval-bool2 .ensures file (depth - 1) first .1)), omega arith, omega arith),
+eval-bool-eval-bool-requires-3 t c κs = let (file, depth, later, fits, h) = c .before .before .before .before .before .before .before .pre .1 .0 in
+    let first = logic-first _ _ _ _ _ h (omega arith) (c .before .if2 .taken) in
+    let next = c .eval-bool2 .ensures file (depth - 1) later first .1 in (
+      omega (arith, bool-live _ _ _ _ _ h .inside, bool-forward _ _ _ _ _ _ first next),
+      ((file, depth - 1, later, fits, logic-second _ _ _ _ _ h (omega arith) (c .before .if2 .taken) _ next), omega arith),
     )
 
 eval-bool-logic-requires : (t : ℕ) → eval-bool-lts.Need-logic-requires (eval-bool-claims t) (eval-bool-at t) eval-bool.Post
 eval-bool-logic-requires t c κs = tt
 
-eval-bool-bool-at-requires-4 : (t : ℕ) → eval-bool-lts.Need-bool-at-requires-4 (eval-bool-claims t) (eval-bool-at t) eval-bool.Post
-eval-bool-bool-at-requires-4 t c κs = tt
+eval-bool-bool-at-requires-5 : (t : ℕ) → eval-bool-lts.Need-bool-at-requires-5 (eval-bool-claims t) (eval-bool-at t) eval-bool.Post
+eval-bool-bool-at-requires-5 t c κs = tt
 
 eval-bool-eval-int-requires : (t : ℕ) → eval-bool-lts.Need-eval-int-requires (eval-bool-claims t) (eval-bool-at t) eval-bool.Post
-eval-bool-eval-int-requires t c κs =
-    let entry = c .before .before .before .before .before .before .before in
-    ((entry .pre .1 .0 .0, entry .pre .1 .0 .1 - 1, compare-first _ _ _ _ _ (entry .pre .1 .0 .2) (omega arith) (c .if3 .taken)), omega arith, omega arith)
+eval-bool-eval-int-requires t c κs = let (file, depth, later, fits, h) = c .before .before .before .before .before .before .before .pre .1 .0 in
+    ((file, depth - 1, later, fits, compare-first _ _ _ _ _ h (omega arith) (c .if3 .taken)), omega arith)
 
 eval-bool-eval-int-requires-2 : (t : ℕ) → eval-bool-lts.Need-eval-int-requires-2 (eval-bool-claims t) (eval-bool-at t) eval-bool.Post
 eval-bool-eval-int-requires-2 t c κs =
     let entry = c .before .before .before .before .before .before .before .before in
-    let (file, depth, h) = entry .pre .1 .0 in
+    let (file, depth, later, fits, h) = entry .pre .1 .0 in
     let first = compare-first _ _ _ _ _ h (omega arith) (c .before .if3 .taken) in
-    ((file, depth - 1, compare-second _ _ _ _ _ h (omega arith) (c .before .if3 .taken) _ (c .eval-int .ensures file (depth - 1) first .1)), omega arith, omega arith)
+    let next = c .eval-int .ensures file (depth - 1) later first .1 in
+    ((file, depth - 1, later, fits, compare-second _ _ _ _ _ h (omega arith) (c .before .if3 .taken) _ next), omega arith)
 
 eval-bool-compare-requires : (t : ℕ) → eval-bool-lts.Need-compare-requires (eval-bool-claims t) (eval-bool-at t) eval-bool.Post
 eval-bool-compare-requires t c κs = tt
 
-eval-bool-bool-at-requires-5 : (t : ℕ) → eval-bool-lts.Need-bool-at-requires-5 (eval-bool-claims t) (eval-bool-at t) eval-bool.Post
-eval-bool-bool-at-requires-5 t c κs = tt
-
 eval-bool-bool-at-requires-6 : (t : ℕ) → eval-bool-lts.Need-bool-at-requires-6 (eval-bool-claims t) (eval-bool-at t) eval-bool.Post
 eval-bool-bool-at-requires-6 t c κs = tt
+
+eval-bool-bool-at-requires-7 : (t : ℕ) → eval-bool-lts.Need-bool-at-requires-7 (eval-bool-claims t) (eval-bool-at t) eval-bool.Post
+eval-bool-bool-at-requires-7 t c κs = tt
 
 eval-bool-returns : (t : ℕ) → eval-bool-lts.Need-returns (eval-bool-claims t) (eval-bool-at t) eval-bool.Post
 unfolding evalBool
 eval-bool-returns t c =
-    λ file depth h.
     let entry = c .before .before .before .before .before .before in
+    λ file depth later h.
     let k = bool-constant _ _ _ _ _ h (c .before .before .match .keys1) in (
       c .bool-at .ensures .0 ∙ truth-test (getD (entry .args .text .now) (entry .args .at + 1) 0) ∙ sym (ap (boolValue _ _) (k .1)),
       c .bool-at .ensures .1 ∙ sym (ap past (k .1)),
@@ -140,47 +219,56 @@ eval-bool-returns t c =
 eval-bool-returns-2 : (t : ℕ) → eval-bool-lts.Need-returns-2 (eval-bool-claims t) (eval-bool-at t) eval-bool.Post
 unfolding evalBool
 eval-bool-returns-2 t c =
-    λ file depth h.
     let entry = c .before .before .before .before .before .before .before .before in
-    let k = bool-variable _ _ _ _ _ h (c .before .before .before .before .match .keys2) in (
-      c .bool-at2 .ensures .0
-          ∙ ap (λ (v : ℕ). ltb 0 (getD (entry .args .slots .now) v 0)) (c .before .before .wide .ensures .0)
-          ∙ truth-test (getD (entry .args .slots .now) (getD (entry .args .text .now) (entry .args .at + 1) 0) 0)
-          ∙ sym (ap (boolValue _ _) (k .2)),
+    λ file depth later h.
+    let k = bool-variable _ _ _ _ _ h false (c .before .before .before .before .match .keys2) in (
+      c .bool-at2 .ensures .0 ∙ ap (λ (v : ℕ). ltb 0 (getD (entry .args .slots .now) v 0)) (c .before .before .wide .ensures .0) ∙ truth-test (getD
+          (entry .args .slots .now) (getD (entry .args .text .now) (entry .args .at + 1) 0) 0) ∙ sym (ap (boolValue _ _) (k .2)),
       c .bool-at2 .ensures .1 ∙ sym (ap past (k .2)),
     )
 
 eval-bool-returns-3 : (t : ℕ) → eval-bool-lts.Need-returns-3 (eval-bool-claims t) (eval-bool-at t) eval-bool.Post
-eval-bool-returns-3 t c =
-    λ file depth h.
+eval-bool-returns-3 t c = λ file depth later h.
     let key = c .before .before .before .match .keys3 in
-    let a = c .before .before .eval-bool .ensures file (depth - 1) (not-first _ _ _ _ _ h key) in
+    let a = c .before .before .eval-bool .ensures file (depth - 1) later (not-first _ _ _ _ _ h key) in
     let k = not-value _ _ _ _ _ h key _ _ _ _ (a .0) (a .1) in
     (c .bool-at3 .ensures .0 ∙ k .0, c .bool-at3 .ensures .1 ∙ k .1)
 
 eval-bool-returns-4 : (t : ℕ) → eval-bool-lts.Need-returns-4 (eval-bool-claims t) (eval-bool-at t) eval-bool.Post
+unfolding evalBool
 eval-bool-returns-4 t c =
-    λ file depth h.
-    let taken = c .before .before .before .before .if2 .taken in
-    let a = c .before .before .before .eval-bool2 .ensures file (depth - 1) (logic-first _ _ _ _ _ h (omega arith) taken) in
-    let b = c .before .before .eval-bool3 .ensures file (depth - 1) (logic-second _ _ _ _ _ h (omega arith) taken _ (a .1)) in
-    let k = logic-pair _ _ _ _ _ h (omega arith) taken _ _ _ _ _ _ (a .0) (a .1) (b .0) (b .1) in
-    (c .bool-at4 .ensures .0 ∙ c .before .logic .ensures ∙ k .0, c .bool-at4 .ensures .1 ∙ k .1)
+    let at-match = c .before .before .before .before .before in
+    let entry = at-match .before .before .before .before in
+    λ file depth later h.
+    let k = bool-variable _ _ _ _ _ h true (at-match .match .keys4) in (
+      c .bool-at4 .ensures .0 ∙ ap (λ (v : ℕ). ltb 0 (getD (entry .args .slots .now)
+          (entry .args .shape .variables + entry .args .shape .matrices + v) 0)) (c .before .before .before .wide2 .ensures .0)
+          ∙ truth-test (getD (entry .args .slots .now) (entry .args .shape .variables + entry .args .shape .matrices + getD (entry .args .text .now)
+          (entry .args .at + 1) 0) 0) ∙ sym (ap (boolValue _ _) (k .2)),
+      c .bool-at4 .ensures .1 ∙ sym (ap past (k .2)),
+    )
 
 eval-bool-returns-5 : (t : ℕ) → eval-bool-lts.Need-returns-5 (eval-bool-claims t) (eval-bool-at t) eval-bool.Post
-eval-bool-returns-5 t c =
-    λ file depth h.
-    let taken = c .before .before .before .before .if3 .taken in
-    let a = c .before .before .before .eval-int .ensures file (depth - 1) (compare-first _ _ _ _ _ h (omega arith) taken) in
-    let b = c .before .before .eval-int2 .ensures file (depth - 1) (compare-second _ _ _ _ _ h (omega arith) taken _ (a .1)) in
-    let k = compare-pair _ _ _ _ _ h (omega arith) taken _ _ _ _ _ _ (a .0) (a .1) (b .0) (b .1) in
-    (c .bool-at5 .ensures .0 ∙ c .before .compare .ensures ∙ k .0, c .bool-at5 .ensures .1 ∙ k .1)
+eval-bool-returns-5 t c = λ file depth later h.
+    let taken = c .before .before .before .before .if2 .taken in
+    let a = c .before .before .before .eval-bool2 .ensures file (depth - 1) later (logic-first _ _ _ _ _ h (omega arith) taken) in
+    let b = c .before .before .eval-bool3 .ensures file (depth - 1) later (logic-second _ _ _ _ _ h (omega arith) taken _ (a .1)) in
+    let k = logic-pair _ _ _ _ _ h (omega arith) taken _ _ _ _ _ _ (a .0) (a .1) (b .0) (b .1) in
+    (c .bool-at5 .ensures .0 ∙ c .before .logic .ensures ∙ k .0, c .bool-at5 .ensures .1 ∙ k .1)
 
 eval-bool-returns-6 : (t : ℕ) → eval-bool-lts.Need-returns-6 (eval-bool-claims t) (eval-bool-at t) eval-bool.Post
-eval-bool-returns-6 t c =
+eval-bool-returns-6 t c = λ file depth later h.
+    let taken = c .before .before .before .before .if3 .taken in
+    let a = c .before .before .before .eval-int .ensures file (depth - 1) later (compare-first _ _ _ _ _ h (omega arith) taken) in
+    let b = c .before .before .eval-int2 .ensures file (depth - 1) later (compare-second _ _ _ _ _ h (omega arith) taken _ (a .1)) in
+    let k = compare-pair _ _ _ _ _ h (omega arith) taken _ _ _ _ _ _ (a .0) (a .1) (b .0) (b .1) in
+    (c .bool-at6 .ensures .0 ∙ c .before .compare .ensures ∙ k .0, c .bool-at6 .ensures .1 ∙ k .1)
+
+eval-bool-returns-7 : (t : ℕ) → eval-bool-lts.Need-returns-7 (eval-bool-claims t) (eval-bool-at t) eval-bool.Post
+eval-bool-returns-7 t c =
     let entry = c .before .before .before .before .before .before in
-    absurd (⊎-elim (λ w. bool-unknown _ _ _ _ _ (entry .pre .1 .0 .2) (inl (w .taken))) (λ w. bool-unknown _ _ _ _ _ (entry .pre .1 .0 .2) (inr (w .2 .left)))
-    (c .before .if1 .came))
+    absurd (⊎-elim (λ w. bool-unknown _ _ _ _ _ (entry .pre .1 .0 .4) (inl (w .taken))) (λ w. bool-unknown _ _ _ _ _ (entry .pre .1 .0 .4) (inr
+    (omega (arith, w .2 .left)))) (c .before .if1 .came))
 
 pub +eval-bool-spec : {M : Type 1} → statement M
 +eval-bool-spec = close μ-eval-bool λ t. eval-bool-lts.spec (
@@ -212,18 +300,27 @@ pub +eval-bool-spec : {M : Type 1} → statement M
     (eval-bool-bool-at-requires-2 t)
     (eval-bool-eval-bool-requires t)
     (eval-bool-bool-at-requires-3 t)
+    (eval-bool-shared-slice-read-wide-2 t)
+    (eval-bool-wide-requires-2 t)
+    (eval-bool-add-bool-at-3 t)
+    (eval-bool-add-bool-at-4 t)
+    (eval-bool-mul-bool-at-2 t)
+    (eval-bool-shared-slice-read-bool-at-3 t)
+    (eval-bool-add-bool-at-5 t)
+    (eval-bool-bool-at-requires-4 t)
     (eval-bool-eval-bool-requires-2 t)
     (eval-bool-eval-bool-requires-3 t)
     (eval-bool-logic-requires t)
-    (eval-bool-bool-at-requires-4 t)
+    (eval-bool-bool-at-requires-5 t)
     (eval-bool-eval-int-requires t)
     (eval-bool-eval-int-requires-2 t)
     (eval-bool-compare-requires t)
-    (eval-bool-bool-at-requires-5 t)
     (eval-bool-bool-at-requires-6 t)
+    (eval-bool-bool-at-requires-7 t)
     (eval-bool-returns t)
     (eval-bool-returns-2 t)
     (eval-bool-returns-3 t)
     (eval-bool-returns-4 t)
     (eval-bool-returns-5 t)
     (eval-bool-returns-6 t)
+    (eval-bool-returns-7 t)

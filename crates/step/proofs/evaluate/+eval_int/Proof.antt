@@ -1,12 +1,13 @@
 -- `step::evaluate::eval_int` meets its contract. Assumes nothing.
 use native.Mathlib.Omega.{arith}
 use mathlib.Core.Path.{sym, ap, _∙_}
+use mathlib.Core.Bool.{true, false}
 use mathlib.Core.Logic.{inl, inr, ⊎-elim}
 use lib.ListN.{getD}
 use Prim.Native.Nat.{ℕ, _<_, _+_, _-_}
 use Rattle.step.specs.Evaluation.{evalInt}
 use Rattle.step.specs.Accepted.{past, intValue}
-use Rattle.step.proofs.Values.{int-live, int-forward, int-constant, int-variable, int-status, int-unknown, int-first, int-second, int-pair}
+use Rattle.step.proofs.Values.{int-live, int-forward, int-constant, int-variable, int-status, int-unknown, integer-slot, status-slot, int-first, int-second, int-pair}
 use borrow.Fn.Kinds.{In}
 use borrow.Fn.PlainCycle.{Measures, is, falls, and}
 use Rattle.step.proofs.evaluate.eval_int.Reads as eval-int
@@ -33,50 +34,63 @@ abbrev eval-int-claims : ℕ → eval-int-lts.Claims
 eval-int-claims t = (word-reads.Asked, word-reads.Learnt, int-at-reads.Asked, int-at-reads.Learnt, wide-reads.Asked, wide-reads.Learnt, eval-int-below t, eval-int.Post, arithmetic-reads.Asked, arithmetic-reads.Learnt)
 
 eval-int-shared-slice-read-op : (t : ℕ) → eval-int-lts.Need-shared-slice-read-op (eval-int-claims t) (eval-int-at t) eval-int.Post
-eval-int-shared-slice-read-op t c = omega (arith, int-live _ _ _ _ _ (c .before .before .before .pre .1 .0 .2) .inside)
+eval-int-shared-slice-read-op t c = omega (arith, int-live _ _ _ _ _ (c .before .before .before .pre .1 .0 .4) .inside)
 
 eval-int-add-p : (t : ℕ) → eval-int-lts.Need-add-p (eval-int-claims t) (eval-int-at t) eval-int.Post
-eval-int-add-p t c = omega (arith, int-live _ _ _ _ _ (c .before .before .before .pre .1 .0 .2) .inside)
+eval-int-add-p t c = omega (arith, int-live _ _ _ _ _ (c .before .before .before .pre .1 .0 .4) .inside)
 
 eval-int-word-requires : (t : ℕ) → eval-int-lts.Need-word-requires (eval-int-claims t) (eval-int-at t) eval-int.Post
-eval-int-word-requires t c κs = omega (arith, int-constant _ _ _ _ _ (c .before .before .before .before .pre .1 .0 .2) (c .match .keys1) .0)
+eval-int-word-requires t c κs = omega (arith, int-constant _ _ _ _ _ (c .before .before .before .before .pre .1 .0 .4) (c .match .keys1) .0)
 
 eval-int-cast-int-at : (t : ℕ) → eval-int-lts.Need-cast-int-at (eval-int-claims t) (eval-int-at t) eval-int.Post
 eval-int-cast-int-at t c = omega (arith, c .word .ensures .1)
 
 eval-int-add-int-at : (t : ℕ) → eval-int-lts.Need-add-int-at (eval-int-claims t) (eval-int-at t) eval-int.Post
-eval-int-add-int-at t c =
-    omega (arith, int-constant _ _ _ _ _ (c .before .before .before .before .before .pre .1 .0 .2) (c .before .match .keys1) .0)
+eval-int-add-int-at t c = omega (arith, int-constant _ _ _ _ _ (c .before .before .before .before .before .pre .1 .0 .4) (c .before .match .keys1) .0)
 
 eval-int-int-at-requires : (t : ℕ) → eval-int-lts.Need-int-at-requires (eval-int-claims t) (eval-int-at t) eval-int.Post
 eval-int-int-at-requires t c κs = tt
 
 eval-int-shared-slice-read-wide : (t : ℕ) → eval-int-lts.Need-shared-slice-read-wide (eval-int-claims t) (eval-int-at t) eval-int.Post
 eval-int-shared-slice-read-wide t c =
-    omega (arith, int-variable _ _ _ _ _ (c .before .before .before .before .before .pre .1 .0 .2) (c .before .match .keys2) .0)
+    let entry = c .before .before .before .before .before in
+    omega (arith, int-variable _ _ _ _ _ (entry .pre .1 .0 .4) false (c .before .match .keys2) .0)
 
 eval-int-wide-requires : (t : ℕ) → eval-int-lts.Need-wide-requires (eval-int-claims t) (eval-int-at t) eval-int.Post
 eval-int-wide-requires t c κs = tt
 
 eval-int-mul-int-at : (t : ℕ) → eval-int-lts.Need-mul-int-at (eval-int-claims t) (eval-int-at t) eval-int.Post
-eval-int-mul-int-at t c = omega (arith, c .wide .ensures .1)
+eval-int-mul-int-at t c =
+    let entry = c .before .before .before .before .before .before in
+    omega (
+      arith,
+      c .wide .ensures .0,
+      integer-slot (entry .args .text .now) (entry .args .shape) _ _ _ (entry .pre .1 .0) false
+          (c .before .before .match .keys2),
+    )
 
 eval-int-shared-slice-read-int-at : (t : ℕ) → eval-int-lts.Need-shared-slice-read-int-at (eval-int-claims t) (eval-int-at t) eval-int.Post
 eval-int-shared-slice-read-int-at t c =
     let entry = c .before .before .before .before .before .before .before in
-    omega (arith, c .before .wide .ensures .0, int-variable _ _ _ _ _ (entry .pre .1 .0 .2) (c .before .before .before .match .keys2) .1)
+    omega (
+      arith,
+      c .before .wide .ensures .0,
+      integer-slot (entry .args .text .now) (entry .args .shape) _ _ _ (entry .pre .1 .0) false
+          (c .before .before .before .match .keys2),
+    )
 
 eval-int-add-int-at-2 : (t : ℕ) → eval-int-lts.Need-add-int-at-2 (eval-int-claims t) (eval-int-at t) eval-int.Post
 eval-int-add-int-at-2 t c =
     let entry = c .before .before .before .before .before .before .before in
-    omega (arith, int-variable _ _ _ _ _ (entry .pre .1 .0 .2) (c .before .before .before .match .keys2) .0)
+    omega (arith, int-variable _ _ _ _ _ (entry .pre .1 .0 .4) false (c .before .before .before .match .keys2) .0)
 
 eval-int-int-at-requires-2 : (t : ℕ) → eval-int-lts.Need-int-at-requires-2 (eval-int-claims t) (eval-int-at t) eval-int.Post
 eval-int-int-at-requires-2 t c κs = tt
 
 eval-int-shared-slice-read-wide-2 : (t : ℕ) → eval-int-lts.Need-shared-slice-read-wide-2 (eval-int-claims t) (eval-int-at t) eval-int.Post
 eval-int-shared-slice-read-wide-2 t c =
-    omega (arith, int-status _ _ _ _ _ (c .before .before .before .before .before .pre .1 .0 .2) (c .before .match .keys3) .0)
+    let entry = c .before .before .before .before .before in
+    omega (arith, int-status _ _ _ _ _ (entry .pre .1 .0 .4) false (c .before .match .keys3) .0)
 
 eval-int-wide-requires-2 : (t : ℕ) → eval-int-lts.Need-wide-requires-2 (eval-int-claims t) (eval-int-at t) eval-int.Post
 eval-int-wide-requires-2 t c κs = tt
@@ -84,55 +98,202 @@ eval-int-wide-requires-2 t c κs = tt
 eval-int-add-int-at-3 : (t : ℕ) → eval-int-lts.Need-add-int-at-3 (eval-int-claims t) (eval-int-at t) eval-int.Post
 eval-int-add-int-at-3 t c =
     let entry = c .before .before .before .before .before .before .before in
-    omega (arith, c .before .wide2 .ensures .0, int-status _ _ _ _ _ (entry .pre .1 .0 .2) (c .before .before .before .match .keys3) .1)
+    omega (
+      arith,
+      c .before .wide2 .ensures .0,
+      status-slot (entry .args .text .now) (entry .args .shape) _ _ _ (entry .pre .1 .0) false
+          (c .before .before .before .match .keys3),
+    )
 
 eval-int-mul-int-at-2 : (t : ℕ) → eval-int-lts.Need-mul-int-at-2 (eval-int-claims t) (eval-int-at t) eval-int.Post
 eval-int-mul-int-at-2 t c =
     let entry = c .before .before .before .before .before .before .before in
-    omega (arith, c .before .wide2 .ensures .0, int-status _ _ _ _ _ (entry .pre .1 .0 .2) (c .before .before .before .match .keys3) .1)
+    omega (
+      arith,
+      c .before .wide2 .ensures .0,
+      status-slot (entry .args .text .now) (entry .args .shape) _ _ _ (entry .pre .1 .0) false
+          (c .before .before .before .match .keys3),
+    )
 
 eval-int-shared-slice-read-int-at-2 : (t : ℕ) → eval-int-lts.Need-shared-slice-read-int-at-2 (eval-int-claims t) (eval-int-at t) eval-int.Post
 eval-int-shared-slice-read-int-at-2 t c =
     let entry = c .before .before .before .before .before .before .before .before in
-    omega (arith, c .before .before .wide2 .ensures .0, int-status _ _ _ _ _ (entry .pre .1 .0 .2) (c .before .before .before .before .match .keys3) .1)
+    omega (
+      arith,
+      c .before .before .wide2 .ensures .0,
+      status-slot (entry .args .text .now) (entry .args .shape) _ _ _ (entry .pre .1 .0) false
+          (c .before .before .before .before .match .keys3),
+    )
 
 eval-int-add-int-at-4 : (t : ℕ) → eval-int-lts.Need-add-int-at-4 (eval-int-claims t) (eval-int-at t) eval-int.Post
 eval-int-add-int-at-4 t c =
     let entry = c .before .before .before .before .before .before .before .before in
-    omega (arith, int-status _ _ _ _ _ (entry .pre .1 .0 .2) (c .before .before .before .before .match .keys3) .0)
+    omega (arith, int-status _ _ _ _ _ (entry .pre .1 .0 .4) false (c .before .before .before .before .match .keys3) .0)
 
 eval-int-int-at-requires-3 : (t : ℕ) → eval-int-lts.Need-int-at-requires-3 (eval-int-claims t) (eval-int-at t) eval-int.Post
 eval-int-int-at-requires-3 t c κs = tt
 
+eval-int-shared-slice-read-wide-3 : (t : ℕ) → eval-int-lts.Need-shared-slice-read-wide-3 (eval-int-claims t) (eval-int-at t) eval-int.Post
+eval-int-shared-slice-read-wide-3 t c =
+    let entry = c .before .before .before .before .before in
+    omega (arith, int-variable _ _ _ _ _ (entry .pre .1 .0 .4) true (c .before .match .keys4) .0)
+
+eval-int-wide-requires-3 : (t : ℕ) → eval-int-lts.Need-wide-requires-3 (eval-int-claims t) (eval-int-at t) eval-int.Post
+eval-int-wide-requires-3 t c κs = tt
+
+eval-int-add-int-at-5 : (t : ℕ) → eval-int-lts.Need-add-int-at-5 (eval-int-claims t) (eval-int-at t) eval-int.Post
+eval-int-add-int-at-5 t c =
+    let entry = c .before .before .before .before .before .before .before in
+    omega (
+      arith,
+      c .before .wide3 .ensures .0,
+      integer-slot (entry .args .text .now) (entry .args .shape) _ _ _ (entry .pre .1 .0) true
+          (c .before .before .before .match .keys4),
+    )
+
+eval-int-add-int-at-6 : (t : ℕ) → eval-int-lts.Need-add-int-at-6 (eval-int-claims t) (eval-int-at t) eval-int.Post
+eval-int-add-int-at-6 t c =
+    let entry = c .before .before .before .before .before .before .before in
+    omega (
+      arith,
+      c .before .wide3 .ensures .0,
+      integer-slot (entry .args .text .now) (entry .args .shape) _ _ _ (entry .pre .1 .0) true
+          (c .before .before .before .match .keys4),
+    )
+
+eval-int-mul-int-at-3 : (t : ℕ) → eval-int-lts.Need-mul-int-at-3 (eval-int-claims t) (eval-int-at t) eval-int.Post
+eval-int-mul-int-at-3 t c =
+    let entry = c .before .before .before .before .before .before .before in
+    omega (
+      arith,
+      c .before .wide3 .ensures .0,
+      integer-slot (entry .args .text .now) (entry .args .shape) _ _ _ (entry .pre .1 .0) true
+          (c .before .before .before .match .keys4),
+    )
+
+eval-int-shared-slice-read-int-at-3 : (t : ℕ) → eval-int-lts.Need-shared-slice-read-int-at-3 (eval-int-claims t) (eval-int-at t) eval-int.Post
+eval-int-shared-slice-read-int-at-3 t c =
+    let entry = c .before .before .before .before .before .before .before .before in
+    omega (
+      arith,
+      c .before .before .wide3 .ensures .0,
+      integer-slot (entry .args .text .now) (entry .args .shape) _ _ _ (entry .pre .1 .0) true
+          (c .before .before .before .before .match .keys4),
+    )
+
+eval-int-add-int-at-7 : (t : ℕ) → eval-int-lts.Need-add-int-at-7 (eval-int-claims t) (eval-int-at t) eval-int.Post
+eval-int-add-int-at-7 t c =
+    let entry = c .before .before .before .before .before .before .before .before in
+    omega (arith, int-variable _ _ _ _ _ (entry .pre .1 .0 .4) true (c .before .before .before .before .match .keys4) .0)
+
+eval-int-int-at-requires-4 : (t : ℕ) → eval-int-lts.Need-int-at-requires-4 (eval-int-claims t) (eval-int-at t) eval-int.Post
+eval-int-int-at-requires-4 t c κs = tt
+
+eval-int-shared-slice-read-wide-4 : (t : ℕ) → eval-int-lts.Need-shared-slice-read-wide-4 (eval-int-claims t) (eval-int-at t) eval-int.Post
+eval-int-shared-slice-read-wide-4 t c =
+    let entry = c .before .before .before .before .before in
+    omega (arith, int-status _ _ _ _ _ (entry .pre .1 .0 .4) true (c .before .match .keys5) .0)
+
+eval-int-wide-requires-4 : (t : ℕ) → eval-int-lts.Need-wide-requires-4 (eval-int-claims t) (eval-int-at t) eval-int.Post
+eval-int-wide-requires-4 t c κs = tt
+
+eval-int-add-int-at-8 : (t : ℕ) → eval-int-lts.Need-add-int-at-8 (eval-int-claims t) (eval-int-at t) eval-int.Post
+eval-int-add-int-at-8 t c =
+    let entry = c .before .before .before .before .before .before .before in
+    omega (
+      arith,
+      c .before .wide4 .ensures .0,
+      status-slot (entry .args .text .now) (entry .args .shape) _ _ _ (entry .pre .1 .0) true
+          (c .before .before .before .match .keys5),
+    )
+
+eval-int-add-int-at-9 : (t : ℕ) → eval-int-lts.Need-add-int-at-9 (eval-int-claims t) (eval-int-at t) eval-int.Post
+eval-int-add-int-at-9 t c =
+    let entry = c .before .before .before .before .before .before .before in
+    omega (
+      arith,
+      c .before .wide4 .ensures .0,
+      status-slot (entry .args .text .now) (entry .args .shape) _ _ _ (entry .pre .1 .0) true
+          (c .before .before .before .match .keys5),
+    )
+
+eval-int-add-int-at-10 : (t : ℕ) → eval-int-lts.Need-add-int-at-10 (eval-int-claims t) (eval-int-at t) eval-int.Post
+eval-int-add-int-at-10 t c =
+    let entry = c .before .before .before .before .before .before .before .before in
+    omega (
+      arith,
+      c .before .before .wide4 .ensures .0,
+      status-slot (entry .args .text .now) (entry .args .shape) _ _ _ (entry .pre .1 .0) true
+          (c .before .before .before .before .match .keys5),
+    )
+
+eval-int-mul-int-at-4 : (t : ℕ) → eval-int-lts.Need-mul-int-at-4 (eval-int-claims t) (eval-int-at t) eval-int.Post
+eval-int-mul-int-at-4 t c =
+    let entry = c .before .before .before .before .before .before .before .before in
+    omega (
+      arith,
+      c .before .before .wide4 .ensures .0,
+      status-slot (entry .args .text .now) (entry .args .shape) _ _ _ (entry .pre .1 .0) true
+          (c .before .before .before .before .match .keys5),
+    )
+
+eval-int-shared-slice-read-int-at-4 : (t : ℕ) → eval-int-lts.Need-shared-slice-read-int-at-4 (eval-int-claims t) (eval-int-at t) eval-int.Post
+eval-int-shared-slice-read-int-at-4 t c =
+    let at-match = c .before .before .before .before .before in
+    let entry = at-match .before .before .before .before in
+    omega (
+      arith,
+      c .before .before .before .wide4 .ensures .0,
+      status-slot (entry .args .text .now) (entry .args .shape) _ _ _
+          (entry .pre .1 .0) true (at-match .match .keys5),
+    )
+
+eval-int-add-int-at-11 : (t : ℕ) → eval-int-lts.Need-add-int-at-11 (eval-int-claims t) (eval-int-at t) eval-int.Post
+eval-int-add-int-at-11 t c =
+    let at-match = c .before .before .before .before .before in
+    let entry = at-match .before .before .before .before in
+    omega (arith, int-status _ _ _ _ _ (entry .pre .1 .0 .4) true (at-match .match .keys5) .0)
+
+eval-int-int-at-requires-5 : (t : ℕ) → eval-int-lts.Need-int-at-requires-5 (eval-int-claims t) (eval-int-at t) eval-int.Post
+eval-int-int-at-requires-5 t c κs = tt
+
 eval-int-eval-int-requires : (t : ℕ) → eval-int-lts.Need-eval-int-requires (eval-int-claims t) (eval-int-at t) eval-int.Post
 eval-int-eval-int-requires t c κs =
     let entry = c .before .before .before .before .before .before in (
-      omega (arith, int-live _ _ _ _ _ (entry .pre .1 .0 .2) .inside),
-      ((entry .pre .1 .0 .0, entry .pre .1 .0 .1 - 1, int-first _ _ _ _ _ (entry .pre .1 .0 .2) (omega arith) (c .if2 .taken)), omega arith, omega arith),
+      omega (arith, int-live _ _ _ _ _ (entry .pre .1 .0 .4) .inside),
+      (
+        (
+          entry .pre .1 .0 .0,
+          entry .pre .1 .0 .1 - 1,
+          entry .pre .1 .0 .2,
+          entry .pre .1 .0 .3,
+          int-first _ _ _ _ _ (entry .pre .1 .0 .4)
+              (omega arith) (c .if2 .taken),
+        ),
+        omega arith,
+      ),
     )
 
 eval-int-eval-int-requires-2 : (t : ℕ) → eval-int-lts.Need-eval-int-requires-2 (eval-int-claims t) (eval-int-at t) eval-int.Post
-eval-int-eval-int-requires-2 t c κs =
-    let entry = c .before .before .before .before .before .before .before in
-    let (file, depth, h) = entry .pre .1 .0 in
-    let first = int-first _ _ _ _ _ h (omega arith) (c .before .if2 .taken) in (
-      omega (arith, int-live _ _ _ _ _ h .inside, int-forward _ _ _ _ _ _ first (c .eval-int .ensures file (depth - 1) first .1)),
-      ((file, depth - 1, int-second _ _ _ _ _ h (omega arith) (c .before .if2 .taken) _ (c .eval-int .ensures file (depth - 1) first .1)), omega arith, omega arith),
+eval-int-eval-int-requires-2 t c κs = let (file, depth, later, fits, h) = c .before .before .before .before .before .before .before .pre .1 .0 in
+    let first = int-first _ _ _ _ _ h (omega arith) (c .before .if2 .taken) in
+    let next = c .eval-int .ensures file (depth - 1) later first .1 in (
+      omega (arith, int-live _ _ _ _ _ h .inside, int-forward _ _ _ _ _ _ first next),
+      ((file, depth - 1, later, fits, int-second _ _ _ _ _ h (omega arith) (c .before .if2 .taken) _ next), omega arith),
     )
 
 eval-int-arithmetic-requires : (t : ℕ) → eval-int-lts.Need-arithmetic-requires (eval-int-claims t) (eval-int-at t) eval-int.Post
 eval-int-arithmetic-requires t c κs = tt
 
-eval-int-int-at-requires-4 : (t : ℕ) → eval-int-lts.Need-int-at-requires-4 (eval-int-claims t) (eval-int-at t) eval-int.Post
-eval-int-int-at-requires-4 t c κs = tt
+eval-int-int-at-requires-6 : (t : ℕ) → eval-int-lts.Need-int-at-requires-6 (eval-int-claims t) (eval-int-at t) eval-int.Post
+eval-int-int-at-requires-6 t c κs = tt
 
-eval-int-int-at-requires-5 : (t : ℕ) → eval-int-lts.Need-int-at-requires-5 (eval-int-claims t) (eval-int-at t) eval-int.Post
-eval-int-int-at-requires-5 t c κs = tt
+eval-int-int-at-requires-7 : (t : ℕ) → eval-int-lts.Need-int-at-requires-7 (eval-int-claims t) (eval-int-at t) eval-int.Post
+eval-int-int-at-requires-7 t c κs = tt
 
 eval-int-returns : (t : ℕ) → eval-int-lts.Need-returns (eval-int-claims t) (eval-int-at t) eval-int.Post
 unfolding evalInt
-eval-int-returns t c =
-    λ file depth h.
+eval-int-returns t c = λ file depth later h.
     let k = int-constant _ _ _ _ _ h (c .before .before .match .keys1) in (
       c .int-at .ensures .0 ∙ c .before .word .ensures .0 ∙ sym (ap (intValue _ _) (k .1)),
       c .int-at .ensures .1 ∙ sym (ap past (k .1)),
@@ -141,43 +302,66 @@ eval-int-returns t c =
 eval-int-returns-2 : (t : ℕ) → eval-int-lts.Need-returns-2 (eval-int-claims t) (eval-int-at t) eval-int.Post
 unfolding evalInt
 eval-int-returns-2 t c =
-    λ file depth h.
     let entry = c .before .before .before .before .before .before .before .before in
-    let k = int-variable _ _ _ _ _ h (c .before .before .before .before .match .keys2) in (
-      c .int-at2 .ensures .0
-          ∙ ap (λ (v : ℕ). getD (entry .args .slots .now) v 0) (c .before .before .wide .ensures .0)
-          ∙ sym (ap (intValue _ _) (k .2)),
+    λ file depth later h.
+    let k = int-variable _ _ _ _ _ h false (c .before .before .before .before .match .keys2) in (
+      c .int-at2 .ensures .0 ∙ ap (λ (v : ℕ). getD (entry .args .slots .now) (v) 0) (c .before .before .wide .ensures .0) ∙ sym (ap (intValue _ _)
+          (k .2)),
       c .int-at2 .ensures .1 ∙ sym (ap past (k .2)),
     )
 
 eval-int-returns-3 : (t : ℕ) → eval-int-lts.Need-returns-3 (eval-int-claims t) (eval-int-at t) eval-int.Post
 unfolding evalInt
 eval-int-returns-3 t c =
-    λ file depth h.
-    let entry = c .before .before .before .before .before .before .before .before .before in
-    let k = int-status _ _ _ _ _ h (c .before .before .before .before .before .match .keys3) in (
-      c .int-at3 .ensures .0
-          ∙ ap (λ (v : ℕ). getD (entry .args .slots .now) (entry .args .shape .variables + v) 0) (c .before .before .before .wide2 .ensures .0)
-          ∙ sym (ap (intValue _ _) (k .2)),
+    let at-match = c .before .before .before .before .before in
+    let entry = at-match .before .before .before .before in
+    λ file depth later h.
+    let k = int-status _ _ _ _ _ h false (at-match .match .keys3) in (
+      c .int-at3 .ensures .0 ∙ ap (λ (v : ℕ). getD (entry .args .slots .now) (entry .args .shape .variables + v) 0)
+          (c .before .before .before .wide2 .ensures .0) ∙ sym (ap (intValue _ _) (k .2)),
       c .int-at3 .ensures .1 ∙ sym (ap past (k .2)),
     )
 
 eval-int-returns-4 : (t : ℕ) → eval-int-lts.Need-returns-4 (eval-int-claims t) (eval-int-at t) eval-int.Post
+unfolding evalInt
 eval-int-returns-4 t c =
-    λ file depth h.
-    let taken = c .before .before .before .before .if2 .taken in
-    let a = c .before .before .before .eval-int .ensures file (depth - 1) (int-first _ _ _ _ _ h (omega arith) taken) in
-    let b = c .before .before .eval-int2 .ensures file (depth - 1) (int-second _ _ _ _ _ h (omega arith) taken _ (a .1)) in
-    let k = int-pair _ _ _ _ _ h (omega arith) taken _ _ _ _ _ _ (a .0) (a .1) (b .0) (b .1) in (
-      c .int-at4 .ensures .0 ∙ c .before .arithmetic .ensures ∙ k .0,
-      c .int-at4 .ensures .1 ∙ k .1,
+    let at-match = c .before .before .before .before .before in
+    let entry = at-match .before .before .before .before in
+    λ file depth later h.
+    let k = int-variable _ _ _ _ _ h true (at-match .match .keys4) in (
+      c .int-at4 .ensures .0 ∙ ap (λ (v : ℕ). getD (entry .args .slots .now) (entry .args .shape .variables + entry .args .shape .matrices + v) 0)
+          (c .before .before .before .wide3 .ensures .0) ∙ sym (ap (intValue _ _) (k .2)),
+      c .int-at4 .ensures .1 ∙ sym (ap past (k .2)),
     )
 
 eval-int-returns-5 : (t : ℕ) → eval-int-lts.Need-returns-5 (eval-int-claims t) (eval-int-at t) eval-int.Post
+unfolding evalInt
 eval-int-returns-5 t c =
+    let at-match = c .before .before .before .before .before .before in
+    let entry = at-match .before .before .before .before in
+    λ file depth later h.
+    let k = int-status _ _ _ _ _ h true (at-match .match .keys5) in (
+      c .int-at5 .ensures .0 ∙ ap (λ (v : ℕ). getD (entry .args .slots .now) (entry .args .shape .variables +
+          (entry .args .shape .variables + entry .args .shape .matrices + v)) 0) (c .before .before .before .before .wide4 .ensures .0) ∙ sym (ap
+          (intValue _ _) (k .2)),
+      c .int-at5 .ensures .1 ∙ sym (ap past (k .2)),
+    )
+
+eval-int-returns-6 : (t : ℕ) → eval-int-lts.Need-returns-6 (eval-int-claims t) (eval-int-at t) eval-int.Post
+eval-int-returns-6 t c = λ file depth later h.
+    let taken = c .before .before .before .before .if2 .taken in
+    let a = c .before .before .before .eval-int .ensures file (depth - 1) later (int-first _ _ _ _ _ h (omega arith) taken) in
+    let b = c .before .before .eval-int2 .ensures file (depth - 1) later (int-second _ _ _ _ _ h (omega arith) taken _ (a .1)) in
+    let k = int-pair _ _ _ _ _ h (omega arith) taken _ _ _ _ _ _ (a .0) (a .1) (b .0) (b .1) in (
+      c .int-at6 .ensures .0 ∙ c .before .arithmetic .ensures ∙ k .0,
+      c .int-at6 .ensures .1 ∙ k .1,
+    )
+
+eval-int-returns-7 : (t : ℕ) → eval-int-lts.Need-returns-7 (eval-int-claims t) (eval-int-at t) eval-int.Post
+eval-int-returns-7 t c =
     let entry = c .before .before .before .before .before .before in
-    absurd (⊎-elim (λ w. int-unknown _ _ _ _ _ (entry .pre .1 .0 .2) (inl (w .taken))) (λ w. int-unknown _ _ _ _ _ (entry .pre .1 .0 .2) (inr (w .1 .left))) (c
-    .before .if1 .came))
+    absurd (⊎-elim (λ w. int-unknown _ _ _ _ _ (entry .pre .1 .0 .4) (inl (w .taken))) (λ w. int-unknown _ _ _ _ _ (entry .pre .1 .0 .4) (inr (omega
+    (arith, w .1 .left)))) (c .before .if1 .came))
 
 pub +eval-int-spec : {M : Type 1} → statement M
 +eval-int-spec = close μ-eval-int λ t. eval-int-lts.spec (
@@ -213,13 +397,32 @@ pub +eval-int-spec : {M : Type 1} → statement M
     (eval-int-shared-slice-read-int-at-2 t)
     (eval-int-add-int-at-4 t)
     (eval-int-int-at-requires-3 t)
+    (eval-int-shared-slice-read-wide-3 t)
+    (eval-int-wide-requires-3 t)
+    (eval-int-add-int-at-5 t)
+    (eval-int-add-int-at-6 t)
+    (eval-int-mul-int-at-3 t)
+    (eval-int-shared-slice-read-int-at-3 t)
+    (eval-int-add-int-at-7 t)
+    (eval-int-int-at-requires-4 t)
+    (eval-int-shared-slice-read-wide-4 t)
+    (eval-int-wide-requires-4 t)
+    (eval-int-add-int-at-8 t)
+    (eval-int-add-int-at-9 t)
+    (eval-int-add-int-at-10 t)
+    (eval-int-mul-int-at-4 t)
+    (eval-int-shared-slice-read-int-at-4 t)
+    (eval-int-add-int-at-11 t)
+    (eval-int-int-at-requires-5 t)
     (eval-int-eval-int-requires t)
     (eval-int-eval-int-requires-2 t)
     (eval-int-arithmetic-requires t)
-    (eval-int-int-at-requires-4 t)
-    (eval-int-int-at-requires-5 t)
+    (eval-int-int-at-requires-6 t)
+    (eval-int-int-at-requires-7 t)
     (eval-int-returns t)
     (eval-int-returns-2 t)
     (eval-int-returns-3 t)
     (eval-int-returns-4 t)
     (eval-int-returns-5 t)
+    (eval-int-returns-6 t)
+    (eval-int-returns-7 t)

@@ -1,4 +1,5 @@
 use native.Mathlib.Omega.{arith}
+use mathlib.Core.Bool.{false}
 use mathlib.Core.Logic.{inl, inr}
 use Prim.Native.Nat.{ℕ, _<_, _-_}
 use Rattle.design.specs.Check.{namesOf}
@@ -128,7 +129,7 @@ run-stmt-add-eval-bool t c = omega (arith, stmt-live _ _ _ _ _ (c .before .befor
 run-stmt-eval-bool-requires : (t : ℕ) → run-stmt-lts.Need-eval-bool-requires (run-stmt-claims t) (run-stmt-at t) run-stmt.Post
 run-stmt-eval-bool-requires t c κs =
     let entry = c .before .before .before .before .before .before .before .before in
-    ((entry .args .file .now, maxDepth, if-test _ _ _ _ _ (entry .pre .1 .0) (c .before .if3 .left)), omega arith, omega arith)
+    ((entry .args .file .now, maxDepth, false, omega arith, if-test _ _ _ _ _ (entry .pre .1 .0) (c .before .if3 .left)), omega arith)
 
 run-stmt-sub-run-list : (t : ℕ) → run-stmt-lts.Need-sub-run-list (run-stmt-claims t) (run-stmt-at t) run-stmt.Post
 run-stmt-sub-run-list t c =
@@ -140,7 +141,7 @@ run-stmt-run-list-requires t c κs =
     let entry = c .before .before .before .before .before .before .before .before .before .before .before in
     let left = c .before .before .before .before .if3 .left in
     let test = if-test _ _ _ _ _ (entry .pre .1 .0) left in
-    let after = c .before .before .eval-bool .ensures (entry .args .file .now) maxDepth test .1 in
+    let after = c .before .before .eval-bool .ensures (entry .args .file .now) maxDepth false test .1 in
     let then = if-then _ _ _ _ _ (entry .pre .1 .0) left _ after in (
       omega (arith, stmt-live _ _ _ _ _ (entry .pre .1 .0), bool-forward _ _ _ maxDepth _ _ test after, list-live _ _ _ _ _ then),
       (then, omega arith, omega arith, omega arith),
@@ -172,7 +173,7 @@ run-stmt-run-list-requires-2 t c κs =
     let entry = c .before .before .before .before .before .before .before .before .before .before .before .before in
     let left = c .before .before .before .before .before .if3 .left in
     let test = if-test _ _ _ _ _ (entry .pre .1 .0) left in
-    let after = c .before .before .before .eval-bool .ensures (entry .args .file .now) maxDepth test .1 in
+    let after = c .before .before .before .eval-bool .ensures (entry .args .file .now) maxDepth false test .1 in
     let then = if-then _ _ _ _ _ (entry .pre .1 .0) left _ after in
     let other = if-else _ _ _ _ _ (entry .pre .1 .0) left _ after _ (c .before .skip-list2 .ensures) in (
       omega (
@@ -193,7 +194,7 @@ run-stmt-returns-2 t c =
     let at-eval-bool = c .before .before .before .before .before .before in
     let at-if3 = at-eval-bool .before .before in
     let entry = at-if3 .before .before .before .before .before .before .before in
-    let test = at-eval-bool .eval-bool .ensures (entry .args .file .now) maxDepth (if-test _ _ _ _ _ (entry .pre .1 .0) (at-if3 .if3 .left)) in
+    let test = at-eval-bool .eval-bool .ensures (entry .args .file .now) maxDepth false (if-test _ _ _ _ _ (entry .pre .1 .0) (at-if3 .if3 .left)) in
     runs-then _ _ _ _ _ (entry .pre .1 .0) (at-if3 .if3 .left) _ (test .1) _ _ _ _ _ _ (test .0) (c .before .before .before .before .before .if4 .taken)
     (c .before .before .before .run-list .ensures) (c .skip-list .ensures)
 
@@ -205,7 +206,7 @@ run-stmt-returns-3 t c =
     let at-eval-bool = c .before .before .before .before .before .before in
     let at-if3 = at-eval-bool .before .before in
     let entry = at-if3 .before .before .before .before .before .before .before in
-    let test = at-eval-bool .eval-bool .ensures (entry .args .file .now) maxDepth (if-test _ _ _ _ _ (entry .pre .1 .0) (at-if3 .if3 .left)) in
+    let test = at-eval-bool .eval-bool .ensures (entry .args .file .now) maxDepth false (if-test _ _ _ _ _ (entry .pre .1 .0) (at-if3 .if3 .left)) in
     runs-else _ _ _ _ _ (entry .pre .1 .0) (at-if3 .if3 .left) _ (test .1) _ _ _ _ _ _ (test .0) (c .before .before .before .before .before .if4 .left)
     (c .before .before .before .before .skip-list2 .ensures) (c .before .before .run-list2 .ensures)
 

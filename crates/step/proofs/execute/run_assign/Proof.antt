@@ -1,4 +1,5 @@
 use native.Mathlib.Omega.{arith}
+use mathlib.Core.Bool.{false}
 use mathlib.Core.Path.{_≡_, sym, ap, _∙_}
 use lib.ListN.{getD}
 use Prim.Native.Nat.{ℕ, _*_}
@@ -28,7 +29,7 @@ eval-int-requires : tie.Need-eval-int-requires
 eval-int-requires c κs =
     let entry = c .before .before .before .before .before .before .before .before in
     let kind = sym (ap (λ (v : ℕ). getD (entry .args .file .now) (3 * v) 0) (c .before .before .before .wide .ensures .0)) ∙ c .before .if1 .taken in
-    ((entry .args .file .now, maxDepth, assign-int _ _ _ _ (entry .pre .0) kind), omega arith, omega arith)
+    ((entry .args .file .now, maxDepth, false, omega arith, assign-int _ _ _ _ (entry .pre .0) kind), omega arith)
 
 mul-slots : tie.Need-mul-slots
 mul-slots c = search needs
@@ -46,7 +47,7 @@ eval-bool-requires c κs =
     let entry = c .before .before .before .before .before .before .before .before in
     let kind : getD (entry .args .file .now) (3 * getD (entry .args .text .now) (entry .args .at) 0) 0 ≡ 1 → ⊥ =
     λ e. c .before .if1 .left (ap (λ (v : ℕ). getD (entry .args .file .now) (3 * v) 0) (c .before .before .before .wide .ensures .0) ∙ e) in
-    ((entry .args .file .now, maxDepth, assign-bool _ _ _ _ (entry .pre .0) kind), omega arith, omega arith)
+    ((entry .args .file .now, maxDepth, false, omega arith, assign-bool _ _ _ _ (entry .pre .0) kind), omega arith)
 
 bit-of-requires : tie.Need-bit-of-requires
 bit-of-requires c κs = search needs
@@ -67,7 +68,7 @@ returns c =
     let at-wide = c .before .before .before .before in
     let entry = at-wide .before .before .before .before .before in
     let kind = sym (ap (λ (v : ℕ). getD (entry .args .file .now) (3 * v) 0) (at-wide .wide .ensures .0)) ∙ c .before .before .if1 .taken in
-    let value = c .eval-int .ensures (entry .args .file .now) maxDepth (assign-int _ _ _ _ (entry .pre .0) kind) in
+    let value = c .eval-int .ensures (entry .args .file .now) maxDepth false (assign-int _ _ _ _ (entry .pre .0) kind) in
     runs-int _ _ _ _ (entry .pre .0) kind _ _ _ _ _ (at-wide .wide .ensures .0) (value .0) (value .1)
 
 same-length-2 : tie.Need-same-length-2
@@ -79,7 +80,7 @@ returns-2 c =
     let entry = at-wide .before .before .before .before .before in
     let kind : getD (entry .args .file .now) (3 * getD (entry .args .text .now) (entry .args .at) 0) 0 ≡ 1 → ⊥ =
     λ e. c .before .before .before .if1 .left (ap (λ (v : ℕ). getD (entry .args .file .now) (3 * v) 0) (at-wide .wide .ensures .0) ∙ e) in
-    let value = c .before .eval-bool .ensures (entry .args .file .now) maxDepth (assign-bool _ _ _ _ (entry .pre .0) kind) in
+    let value = c .before .eval-bool .ensures (entry .args .file .now) maxDepth false (assign-bool _ _ _ _ (entry .pre .0) kind) in
     runs-bool _ _ _ _ (entry .pre .0) kind _ _ _ _ _ _ (at-wide .wide .ensures .0) (value .0) (c .bit-of .ensures) (value .1)
 
 pub run-assign-spec : {M : Type 1} → statement M

@@ -1,4 +1,5 @@
 use native.Mathlib.Omega.{arith}
+use mathlib.Core.Bool.{false}
 use Prim.Native.Nat.{ℕ, _+_, _*_}
 use mathlib.Core.Path.{refl, ap}
 use lib.ListN.{getD}
@@ -54,14 +55,13 @@ eval-bool-requires : tie.Need-eval-bool-requires
 eval-bool-requires c κs =
     let entry = c .before .before .before .before .before in
     let past = ap (λ (x : ℕ). getD (entry .args .events .now) (16 * entry .args .m + entry .args .e) 0 + 1 + x) (c .wide .ensures .0) in (
-      (entry .args .file .now, maxDepth, event-reads _ _ _ _ (entry .pre .0) _ _ (entry .pre .1) (entry .pre .2) _ _ past refl),
+      (entry .args .file .now, maxDepth, false, omega (arith, entry .pre .0 .size), event-reads _ _ _ _ (entry .pre .0) _ _ (entry .pre .1) (entry .pre .2) _ _ past refl),
       omega (
         arith,
         c .wide .ensures .0,
         event-inside _ _ _ (entry .pre .0 .indexed) _ _ (entry .pre .1) (entry .pre .2),
         sizes _ _ _ _ (entry .pre .0),
       ),
-      omega (arith, entry .pre .0 .size),
     )
 
 returns : tie.Need-returns
@@ -69,7 +69,7 @@ returns c =
     let entry = c .before .before .before .before .before .before in
     let past = ap (λ (x : ℕ). getD (entry .args .events .now) (16 * entry .args .m + entry .args .e) 0 + 1 + x) (c .before .wide .ensures .0) in
     let reads = event-reads _ _ _ _ (entry .pre .0) _ _ (entry .pre .1) (entry .pre .2) _ _ past refl in
-    event-value _ _ _ _ (entry .pre .0) _ _ (entry .pre .1) (entry .pre .2) _ _ past refl _ (c .eval-bool .ensures (entry .args .file .now) maxDepth reads .0)
+    event-value _ _ _ _ (entry .pre .0) _ _ (entry .pre .1) (entry .pre .2) _ _ past refl _ (c .eval-bool .ensures (entry .args .file .now) maxDepth false reads .0)
 
 pub event-true-spec : {M : Type 1} → statement M
 event-true-spec =

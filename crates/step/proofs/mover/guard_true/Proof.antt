@@ -1,4 +1,5 @@
 use native.Mathlib.Omega.{arith}
+use mathlib.Core.Bool.{false}
 use mathlib.Core.Path.{sym, _∙_}
 use Rattle.design.proofs.Indexed.{normal-fields}
 use Rattle.design.specs.Limits.{maxDepth}
@@ -32,9 +33,8 @@ eval-bool-requires : tie.Need-eval-bool-requires
 eval-bool-requires c κs =
     let entry = c .before .before .before .before .before in
     let (table, ready) = entry .pre .0 in (
-      (entry .args .file .now, maxDepth, guard-reads _ _ _ _ ready _ (entry .pre .1) _ (c .before .wide .ensures .0) (c .if1 .left)),
+      (entry .args .file .now, maxDepth, false, omega (arith, ready .size), guard-reads _ _ _ _ ready _ (entry .pre .1) _ (c .before .wide .ensures .0) (c .if1 .left)),
       omega (arith, c .before .wide .ensures .0, normal-fields _ _ _ (ready .indexed) _ (entry .pre .1) .past, sizes _ _ _ _ ready),
-      omega (arith, ready .size),
     )
 
 returns-2 : tie.Need-returns-2
@@ -44,7 +44,7 @@ returns-2 c =
     let (table, ready) = entry .pre .0 in
     let length = c .before .before .wide .ensures .0 in
     let reads = guard-reads _ _ _ _ ready _ x _ length (c .before .if1 .left) in
-    guard-value _ _ _ _ ready _ x _ length (c .before .if1 .left) _ (c .eval-bool .ensures (entry .args .file .now) maxDepth reads .0)
+    guard-value _ _ _ _ ready _ x _ length (c .before .if1 .left) _ (c .eval-bool .ensures (entry .args .file .now) maxDepth false reads .0)
 
 pub guard-true-spec : {M : Type 1} → statement M
 guard-true-spec =

@@ -11,12 +11,12 @@ no-invalid-requires c κs = search needs
 
 returns : tie.Need-returns
 returns c =
-    λ d w. invariant-property _ d w _ (c .before .before .before .before .pre .indexed .shaped) _ (c .before .if1 .taken) _ _ (c .invariant-true .ensures
+    λ d w. invariant-property _ d w _ (c .before .before .before .before .pre .0 .indexed .shaped) _ (c .before .if1 .taken) _ _ (c .invariant-true .ensures
     d w)
 
 returns-2 : tie.Need-returns-2
 returns-2 c =
-    λ d w. invalid-property _ d w _ (c .before .before .before .before .pre .indexed .shaped) _ (c .before .if1 .left) _ _ (c .no-invalid .ensures d w)
+    λ d w. invalid-property _ d w _ (c .before .before .before .before .pre .0 .indexed .shaped) _ (c .before .if1 .left) (c .before .before .before .before .pre .1) _ _ (c .no-invalid .ensures d w)
 
 pub property-true-spec : {M : Type 1} → statement M
 property-true-spec =

@@ -2,19 +2,21 @@
 use native.Mathlib.Omega.{arith}
 use Prim.Native.Nat.{_-_}
 use lib.ListN.{length}
-use Rattle.step.proofs.Replays.{ready-same}
+use Rattle.design.specs.State.{slotCount}
+use Rattle.step.proofs.Replays.{pair-same}
 use Rattle.text.proofs.Tracing.{Printing, printing-start, printing-on, printing-end}
 use Rattle.text.proofs.trace.put_next.Statement.{statement}
 use Rattle.text.proofs.trace.put_next.Tie as tie
 
 abbrev Inv-loop : tie.InvT-loop
-Inv-loop file events cells shape property choices slots₀ out₀ at p₀ i₀ slots out p i = Printing file property choices slots₀ out₀ at i slots out p
+Inv-loop file events cells shape property choices pair₀ out₀ at p₀ i₀ pair out p i =
+    Printing file property (slotCount shape) choices pair₀ out₀ at i pair out p
 
 abbrev μ-loop : tie.MeasureT-loop
-μ-loop file events cells shape property choices slots₀ out₀ at p₀ i₀ slots out p i = length choices - i
+μ-loop file events cells shape property choices pair₀ out₀ at p₀ i₀ pair out p i = length choices - i
 
 loop-holds : tie.Need-loop-holds Inv-loop μ-loop
-loop-holds c = printing-start _ _ _ _ _ _
+loop-holds c = printing-start _ _ _ _ _ _ _
 
 shared-slice-read-wide : tie.Need-shared-slice-read-wide Inv-loop μ-loop
 shared-slice-read-wide c = omega arith
@@ -22,11 +24,11 @@ shared-slice-read-wide c = omega arith
 wide-requires : tie.Need-wide-requires Inv-loop μ-loop
 wide-requires c κs = omega arith
 
-move-chosen-requires : tie.Need-move-chosen-requires Inv-loop μ-loop
-move-chosen-requires c κs =
+step-pair-requires : tie.Need-step-pair-requires Inv-loop μ-loop
+step-pair-requires c κs =
     let at-loop = c .before .before .before .before in
     let entry = at-loop .before .before .before .before .before in (
-      ready-same _ _ _ _ _ (at-loop .loop .inv .state) (entry .pre .0),
+      pair-same _ _ _ _ _ (at-loop .loop .inv .state) (entry .pre .0),
       entry .pre .1,
       omega (
         arith,
@@ -43,7 +45,7 @@ put-state-requires : tie.Need-put-state-requires Inv-loop μ-loop
 put-state-requires c κs =
     let at-loop = c .before .before .before .before .before .before .before .before .before in
     let entry = at-loop .before .before .before .before .before in (
-      ready-same _ _ _ _ _ (omega (arith, c .before .before .before .slots .given, at-loop .loop .inv .state)) (entry .pre .0),
+      pair-same _ _ _ _ _ (omega (arith, c .before .before .before .pair .given, at-loop .loop .inv .state)) (entry .pre .0),
       omega (
         arith,
         at-loop .loop .inv .near,
@@ -61,11 +63,11 @@ loop-again c =
     let at-wide = c .before .before .before .before .before .before .before .before .before in
     let at-loop-test = at-wide .before .before in
     let at-loop = at-loop-test .before in
-    printing-on _ _ _ _ _ _ _ _ _ _ (at-loop .loop .inv) (at-loop-test .loop-test .taken) _ (at-wide .wide .ensures .0) _ _ (omega (
+    printing-on _ _ _ _ _ _ _ _ _ _ _ (at-loop .loop .inv) (at-loop .before .before .before .before .before .pre .0 .size) (at-loop-test .loop-test .taken) _ (at-wide .wide .ensures .0) _ _ (omega (
       arith,
       c .before
-          .before .before .before .before .before .slots .given,
-    )) (c .before .before .before .before .before .before .before .move-chosen .ensures) _ _
+          .before .before .before .before .before .pair .given,
+    )) (c .before .before .before .before .before .before .before .step-pair .ensures) _ _
     (c .before .before .put-state .ensures .0) (c .before .before .put-state .ensures .1) (c .before .before .put-state .ensures .2)
 
 same-length : tie.Need-same-length Inv-loop μ-loop
@@ -76,7 +78,7 @@ same-length-2 c = c .before .loop .inv .size
 
 returns : tie.Need-returns Inv-loop μ-loop
 returns c = (
-  (λ d e. printing-end _ _ _ _ _ _ _ _ _ _ (c .before .loop .inv) (omega arith) d e),
+  (λ d e. printing-end _ _ _ _ _ _ _ _ _ _ _ (c .before .loop .inv) (omega arith) d e),
   omega (
     arith,
     c .before .loop .inv .near,
@@ -95,7 +97,7 @@ put-next-spec =
     loop-holds
     shared-slice-read-wide
     wide-requires
-    move-chosen-requires
+    step-pair-requires
     add-i
     put-state-requires
     loop-less
