@@ -2,10 +2,12 @@
 use mathlib.Core.Path.{_≡_, refl, sym, ap, ap₂, _∙_}
 use mathlib.Core.Bool.{Bool, true, false, false≢true}
 use mathlib.Core.List.{List, _++_, append-nil}
-use mathlib.Core.Option.{Option}
+use mathlib.Core.Option.{Option, some}
 use Prim.Native.Nat.{ℕ, zero, suc, _+_, _-_, _<_, _≤_}
 use native.Mathlib.Omega.{arith}
 use native.Mathlib.Numerals.{add-one}
+use lib.Dec.{ltb}
+use borrow.Author.Tests.{ltb-false}
 use lib.ListN.{getD, length, take, drop, set, length-set, length-append, length-drop, take-append-drop, drop-of-length-le}
 use lib.Seq.{paste, paste-zero, paste-suc, take-all, take-at, drop-at, length-take-le, getD-drop, drop-set-lt}
 use borrow.Rule.Slice.PartMut.{putMid}
@@ -22,7 +24,7 @@ use Rattle.step.specs.Limits.{lastStateProperty}
 use Rattle.step.specs.Property.{propertyOf}
 use Rattle.step.specs.OneStep.{step, idle, trueAt, holds}
 use Rattle.step.specs.Accepted.{isRead, boolValue}
-use Rattle.step.specs.Ready.{ReadyPair, beforeIn}
+use Rattle.step.specs.Ready.{ReadyPair, beforeIn, keptIn}
 use Rattle.design.proofs.Positions.{constraint-none}
 use Rattle.design.proofs.Indexed.{constraint-got, constraint-some}
 use Rattle.step.proofs.Scanning.{same-layout}
@@ -82,22 +84,32 @@ module _ (n : ℕ) (pair₀ : State) (long : length pair₀ ≡ n + n) (i : ℕ)
       g .same ∙ ap (paste pair₀ 0 (drop n pair₀)) (let q : i ≡ n = omega arith in q)
       ∙ ap₂ (λ (x y : State). x ++ y) (take-all n (drop n pair₀) (omega arith)) (ap (λ (j : ℕ). drop j pair₀) (let q : 0 + n ≡ n = omega arith in q))
 
--- a step in the second state of a pair that was kept; m is the number of slots as the code has it
-module _ (n : ℕ) (pair : State) (long : length pair ≡ n + n) (m : ℕ) (e : m ≡ n) (kept : State) (k : kept ≡ drop m pair ++ drop m pair) where
-  same : kept ≡ drop n pair ++ drop n pair
-  same = k ∙ ap (λ (j : ℕ). drop j pair ++ drop j pair) e
+pub front-long : (n : ℕ) (pair : State) → length pair ≡ n + n → (keep : Bool) → length (keptIn keep n pair) ≡ n
+front-long n pair long true = second-long n pair long
+front-long n pair long false = first-long n pair long
+
+-- the pair as it is, where its second state is not kept
+pub unkept : (n : ℕ) (pair : State) (keep : Bool) → keep ≡ false → pair ≡ keptIn keep n pair ++ drop n pair
+unkept n pair keep e = sym (take-append-drop n pair) ∙ ap (λ (b : Bool). keptIn b n pair ++ drop n pair) (sym e)
+
+pub keeping-kept : (n : ℕ) (pair : State) (keep : Bool) (x : State) → keep ≡ true → x ≡ drop n pair ++ drop n pair → x ≡ keptIn keep n pair ++ drop n pair
+keeping-kept n pair keep x e k = k ∙ ap (λ (b : Bool). keptIn b n pair ++ drop n pair) (sym e)
+
+-- a step in the second state of a pair, of which it may have been kept; m is the number of slots as the code has it
+module _ (n : ℕ) (pair : State) (long : length pair ≡ n + n) (keep : Bool) (m : ℕ) (e : m ≡ n) (kept : State) (k : kept ≡ keptIn keep m pair ++ drop m pair) where
+  same : kept ≡ keptIn keep n pair ++ drop n pair
+  same = k ∙ ap (λ (j : ℕ). keptIn keep j pair ++ drop j pair) e
 
   pub kept-long : length kept ≡ n + n
-  kept-long = let s = second-long n pair long in ap length same ∙ length-append (drop n pair) (drop n pair) ∙ (omega arith)
+  kept-long = let s = second-long n pair long in ap length same ∙ length-append (keptIn keep n pair) (drop n pair) ∙ (omega (arith, front-long n pair long keep))
 
   pub pair-step : (d : Design) (c : ℕ) (s : State) (r : Bool)
       → (s ≡ step d (take (length kept - m) (drop m kept)) c) × (r ≡ idle d (take (length kept - m) (drop m kept)) c)
-      → (putMid m (length kept - m) kept s ≡ drop n pair ++ step d (drop n pair) c) × (r ≡ idle d (drop n pair) c)
+      → (putMid m (length kept - m) kept s ≡ keptIn keep n pair ++ step d (drop n pair) c) × (r ≡ idle d (drop n pair) c)
   pair-step d c s r h =
-      let l = second-long n pair long in
-      let first : take n kept ≡ drop n pair = ap (take n) same ∙ take-at (drop n pair) (drop n pair) n l in
-      let second = part-is n kept kept-long m e ∙ ap (drop n) same ∙ drop-at (drop n pair) (drop n pair) n l in (
-        put-is n kept kept-long m e s ∙ ap₂ (λ (x y : State). x ++ y) first (h .0 ∙ ap (λ (x : State). step d x c) second),
+      let front : take n kept ≡ keptIn keep n pair = ap (take n) same ∙ take-at (keptIn keep n pair) (drop n pair) n (front-long n pair long keep) in
+      let second = part-is n kept kept-long m e ∙ ap (drop n) same ∙ drop-at (keptIn keep n pair) (drop n pair) n (front-long n pair long keep) in (
+        put-is n kept kept-long m e s ∙ ap₂ (λ (x y : State). x ++ y) front (h .0 ∙ ap (λ (x : State). step d x c) second),
         h .1 ∙ ap (λ (x : State). idle d x c) second,
       )
 
@@ -107,6 +119,14 @@ unfolding trueAt propertyOf
 state-true d zero l before s = refl
 state-true d (suc zero) l before s = refl
 state-true d (suc (suc p)) l before s = absurd (omega arith)
+
+-- so the state before need be kept only for the others
+pub kept-true : (d : Design) (p n : ℕ) (pair : State) (keep : Bool) → keep ≡ ltb lastStateProperty p → (s : State)
+    → trueAt d (propertyOf d p) (some (keptIn keep n pair)) s ≡ trueAt d (propertyOf d p) (some (drop n pair)) s
+kept-true d p n pair true e s = refl
+kept-true d p n pair false e s =
+    let l : p ≤ lastStateProperty = ltb-false lastStateProperty p (sym e) in
+    sym (state-true d p l (some (take n pair)) s) ∙ state-true d p l (some (drop n pair)) s
 
 -- property 2 is true in the first state, and then as the constraint is of both states
 module _ (d : Design) (n : ℕ) (pair : State) where

@@ -8,7 +8,7 @@ use native.Mathlib.Omega.{arith}
 use native.Mathlib.Numerals.{add-one}
 use lib.ListN.{getD, length, take, drop, set, replicate, length-set, length-map, length-replicate, List·getD-map}
 use lib.Seq.{paste, paste-zero, paste-suc, take-all, take-at, drop-at, drop-cons, drop-length}
-use lib.Dec.{leb, eqb}
+use lib.Dec.{leb, eqb, ltb}
 use borrow.Author.Tests.{ne-eqb}
 use Rattle.design.specs.Tree.{Variable, boolean, Design}
 use Rattle.design.specs.State.{State, start}
@@ -19,15 +19,16 @@ use Rattle.design.specs.Sections.{Parts}
 use Rattle.design.proofs.Sections.{whole, need-inv, item-same}
 use Rattle.design.proofs.Positions.{variable-stands}
 use Rattle.design.proofs.Places.{read}
+use Rattle.step.specs.Limits.{lastStateProperty}
 use Rattle.step.specs.Property.{propertyOf}
 use Rattle.step.specs.OneStep.{step, trueAt}
 use Rattle.step.specs.Operations.{firstBreak}
-use Rattle.step.specs.Ready.{ReadyState, ReadyPair, beforeIn, Replayable}
+use Rattle.step.specs.Ready.{ReadyState, ReadyPair, beforeIn, keptIn, Replayable}
 use Rattle.design.specs.declared.shape.Shape.{Shape}
 use Rattle.design.proofs.Indexed.{variables-inside}
 use Rattle.design.proofs.Widths.{matrix-count}
 use Rattle.design.specs.Limits.{maxVariables}
-use Rattle.step.proofs.Pairs.{second-long}
+use Rattle.step.proofs.Pairs.{front-long, kept-true}
 
 pub drop-replicate : {A : Type 0} (n m : ℕ) (z : A) → drop n (replicate (n + m) z) ≡ replicate m z
 drop-replicate zero m z = ap (λ (k : ℕ). replicate k z) (let q : 0 + m ≡ m = omega arith in q)
@@ -127,19 +128,27 @@ module _ (file : List ℕ) (p n : ℕ) (cs : List ℕ) (pair₀ : State) (i : �
   pub replaying-broken : r ≡ false → (d : Design) → check file ≡ accepted d → some i ≡ firstBreak d (propertyOf d p) none (drop n pair₀) cs 0
   replaying-broken f d e = sym (broken d (drop i cs) (sym (is-true d e) ∙ f)) ∙ g .same d e
 
-  -- a choice: the state now is kept as the one before, and the step out of it stands behind it
-  pub replaying-on : r ≡ true → i < length cs → length pair₀ ≡ n + n → (c : ℕ) → c ≡ getD cs i 0 → (pair′ : State) (u : Bool) (v : Design → Bool) → length pair′ ≡ length pair
-      → ((d : Design) → check file ≡ accepted d → (pair′ ≡ now ++ step d now c) × (u ≡ v d)) → Replaying file p n cs pair₀ (i + 1) pair′
+  kept-break : (d : Design) (keep : Bool) → keep ≡ ltb lastStateProperty p → (s : State) (xs : List ℕ) (j : ℕ)
+      → firstBreak d (propertyOf d p) (some (keptIn keep n pair)) s xs j ≡ firstBreak d (propertyOf d p) (some now) s xs j
   unfolding firstBreak
-  replaying-on t l z c q pair′ u v m k = record {
+  kept-break d keep e s [] j = ap (λ (t : Bool). cond t none (some j)) (kept-true d p n pair keep e s)
+  kept-break d keep e s (x ∷ xs) j = ap (λ (t : Bool). cond t (firstBreak d (propertyOf d p) (some s) (step d s x) xs (suc j)) (some j)) (kept-true d p n pair keep e s)
+
+  -- a choice: the state now is kept as the one before, where the property is judged on both, and the step out of it stands behind it
+  pub replaying-on : r ≡ true → i < length cs → length pair₀ ≡ n + n → (c : ℕ) → c ≡ getD cs i 0 → (keep : Bool) → keep ≡ ltb lastStateProperty p
+      → (pair′ : State) (u : Bool) (v : Design → Bool) → length pair′ ≡ length pair
+      → ((d : Design) → check file ≡ accepted d → (pair′ ≡ keptIn keep n pair ++ step d now c) × (u ≡ v d)) → Replaying file p n cs pair₀ (i + 1) pair′
+  unfolding firstBreak
+  replaying-on t l z c q keep kp pair′ u v m k = record {
     inside = omega arith;
     size = m ∙ g .size;
     same = λ d e.
-        let long : length now ≡ n = second-long n pair (g .size ∙ z) in
+        let long : length (keptIn keep n pair) ≡ n = front-long n pair (g .size ∙ z) keep in
         let x = step d now c in
         ap (λ (b : Bool). firstBreak d (propertyOf d p) (beforeIn b n pair′) (drop n pair′) (drop (i + 1) cs) (i + 1)) (ne-eqb (i + 1) 0 (λ o. omega arith))
         ∙ ap (λ (y : State). firstBreak d (propertyOf d p) (some (take n y)) (drop n y) (drop (i + 1) cs) (i + 1)) (k d e .0)
-        ∙ ap₂ (λ (a b : State). firstBreak d (propertyOf d p) (some a) b (drop (i + 1) cs) (i + 1)) (take-at now x n long) (drop-at now x n long)
+        ∙ ap₂ (λ (a b : State). firstBreak d (propertyOf d p) (some a) b (drop (i + 1) cs) (i + 1)) (take-at (keptIn keep n pair) x n long) (drop-at (keptIn keep n pair) x n long)
+        ∙ kept-break d keep kp x (drop (i + 1) cs) (i + 1)
         ∙ ap (λ (j : ℕ). firstBreak d (propertyOf d p) (some now) x (drop j cs) j) (add-one i)
         ∙ ap (λ (j : ℕ). firstBreak d (propertyOf d p) (some now) (step d now j) (drop (suc i) cs) (suc i)) q
         ∙ ap (λ (b : Bool). cond b (firstBreak d (propertyOf d p) (some now) (step d now (getD cs i 0)) (drop (suc i) cs) (suc i)) (some i)) (sym t ∙ is-true d e)

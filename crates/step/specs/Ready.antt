@@ -4,7 +4,7 @@ use mathlib.Core.Bool.{Bool, true, false}
 use mathlib.Core.List.{List}
 use mathlib.Core.Option.{Option, none, some}
 use Prim.Native.Nat.{ℕ, _+_, _<_, _≤_}
-use lib.ListN.{length, getD, take}
+use lib.ListN.{length, getD, take, drop}
 use Rattle.design.specs.State.{State, slotCount}
 use Rattle.design.specs.Places.{Indexed, MoversIndexed}
 use Rattle.step.specs.Limits.{maxBound}
@@ -23,6 +23,11 @@ pub record ReadyPair (file table : List ℕ) (h : Shape) (pair : State) : Type 0
 abbrev pub beforeIn : Bool → ℕ → State → Option State
 beforeIn true n pair = none
 beforeIn false n pair = some (take n pair)
+
+-- the first state of a pair after a choice: the state that the choice acts on, where it is kept
+abbrev pub keptIn : Bool → ℕ → State → State
+keptIn true n pair = drop n pair
+keptIn false n pair = take n pair
 
 -- what the walk over a list of choices is given: both tables, and choices that are few and name movers
 pub record Replayable (file events cells : List ℕ) (h : Shape) (pair : State) (choices : List ℕ) : Type 0 where

@@ -12,7 +12,7 @@ ghost use Rattle.design.specs.State.{Layout, layoutOf, slotCount};
 ghost use Rattle.design.specs.Sections.{Parts, CellFields, NormalCell};
 ghost use Rattle.step.specs.Evaluation.{evalBool};
 ghost use Rattle.step.specs.OneStep.{statusAndEvent, enabled, move as moves, step, idle};
-ghost use Rattle.step.specs.Ready.{ReadyState, ReadyPair};
+ghost use Rattle.step.specs.Ready.{ReadyState, ReadyPair, keptIn};
 use super::evaluate::eval_bool;
 use super::execute::run_list;
 use design::bytes::wide;
@@ -137,11 +137,14 @@ pub fn move_chosen(
     move_external(v, slots)
 }
 
-// The second of two states of n slots is copied over the first.
-pub fn keep_state(pair: &mut [u16], n: usize)
+// The second of two states of n slots is copied over the first, if it is to be kept.
+pub fn keep_state(pair: &mut [u16], n: usize, keep: bool)
     requires { ⌜ length (now pair) ≡ n + n ⌝ }
-    ensures { λ r. ⌜ now (pair .exit) ≡ drop n (now (pair .entry)) ++ drop n (now (pair .entry)) ⌝ }
+    ensures { λ r. ⌜ now (pair .exit) ≡ keptIn keep n (now (pair .entry)) ++ drop n (now (pair .entry)) ⌝ }
 {
+    if !keep {
+        return;
+    }
     let mut i = 0;
     while i < n {
         pair[i] = pair[n + i];
@@ -149,21 +152,22 @@ pub fn keep_state(pair: &mut [u16], n: usize)
     }
 }
 
-// The second state of a pair becomes the first, and the mover that the choice names moves in the second; answers whether it was idle.
+// The second state of a pair becomes the first, if it is to be kept, and the mover that the choice names moves in the second; answers whether it was idle.
 pub fn step_pair(
     file: &[u8],
     events: &[u16; EVENT_PLACES],
     cells: &[u16; MAX_MOVERS],
     shape: Shape,
     choice: usize,
+    keep: bool,
     pair: &mut [u16],
 ) -> bool
     requires { ⌜ ReadyPair (now file) (now events) shape (now pair) × MoversIndexed (now file) (now cells) shape × (choice < shape .normals + shape .externals) ⌝ }
     ensures { λ r. ⌜ ((d : Design) → check (now (file .entry)) ≡ accepted d
-        → (now (pair .exit) ≡ drop (slotCount shape) (now (pair .entry)) ++ step d (drop (slotCount shape) (now (pair .entry))) choice)
+        → (now (pair .exit) ≡ keptIn keep (slotCount shape) (now (pair .entry)) ++ step d (drop (slotCount shape) (now (pair .entry))) choice)
         × (r ≡ idle d (drop (slotCount shape) (now (pair .entry))) choice)) ⌝ }
 {
     let n = slot_count(shape);
-    keep_state(pair, n);
+    keep_state(pair, n, keep);
     move_chosen(file, events, cells, shape, choice, &mut pair[n..])
 }

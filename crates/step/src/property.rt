@@ -2,6 +2,7 @@
 ghost use mathlib.Core.Path.{_≡_};
 ghost use mathlib.Core.List.{List};
 ghost use Prim.Native.Nat.{ℕ, _≤_};
+ghost use lib.Dec.{ltb};
 ghost use lib.ListN.{drop};
 ghost use Rattle.design.specs.Tree.{Design};
 ghost use Rattle.design.specs.State.{layoutOf, slotCount};
@@ -72,6 +73,13 @@ pub fn property_true(
     } else {
         no_invalid(file, events, shape, slots)
     }
+}
+
+// Whether a property is judged on the state before, too.
+pub fn judges_steps(property: u64) -> bool
+    ensures { λ r. ⌜ r ≡ ltb lastStateProperty property ⌝ }
+{
+    LAST_STATE_PROPERTY < property
 }
 
 // Whether the constraint is true of a pair of states; where the file has none, it is.

@@ -17,6 +17,7 @@ ghost use Rattle.step.specs.Operations.{firstBreak, replayed, REPLAY};
 ghost use Rattle.step.specs.Ready.{Replayable};
 use super::Replayed;
 use super::mover::step_pair;
+use super::property::judges_steps;
 use super::property::true_at;
 use design::Refusal;
 use design::bytes::wide;
@@ -102,7 +103,15 @@ pub fn first_break(
         if !true_at(file, events, shape, property, i == 0, pair) {
             return broken_at(i);
         }
-        step_pair(file, events, cells, shape, wide(choices[i]), pair);
+        step_pair(
+            file,
+            events,
+            cells,
+            shape,
+            wide(choices[i]),
+            judges_steps(property),
+            pair,
+        );
         i = i + 1;
     }
     if true_at(file, events, shape, property, i == 0, pair) {

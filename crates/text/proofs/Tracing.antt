@@ -28,9 +28,10 @@ use Rattle.step.specs.Interface.{firstWrong}
 use Rattle.step.specs.OneStep.{step, idle, trueAt}
 use Rattle.step.specs.Operations.{refusedAt, allRight, firstBreak, choicesRight, replayed, REPLAY}
 use Rattle.step.specs.declared.Replayed.{Replayed}
-use Rattle.step.specs.Ready.{beforeIn}
+use Rattle.step.specs.Limits.{lastStateProperty}
+use Rattle.step.specs.Ready.{beforeIn, keptIn}
 use Rattle.step.proofs.Answering.{all-below}
-use Rattle.step.proofs.Pairs.{second-long}
+use Rattle.step.proofs.Pairs.{front-long, kept-true}
 use Rattle.design.specs.declared.shape.Shape.{Shape}
 use Rattle.design.proofs.Indexed.{count-movers}
 use Rattle.step.proofs.Gates.{in-range, zero-passed}
@@ -77,33 +78,43 @@ module _ (file : List ℕ) (p n : ℕ) (cs : List ℕ) (pair₀ : State) (xs : L
   abbrev now : State
   now = drop n pair
 
-  -- the state now is kept as the one before, and the step out of it stands behind it
-  next-lines : (d : Design) (c : ℕ) (pair′ : State) (u : Bool) → length pair₀ ≡ n + n → i < length cs → c ≡ getD cs i 0 → (pair′ ≡ now ++ step d now c) × (u ≡ idle d now c)
+  -- the state before a line's state matters only where the property is judged on it
+  kept-line : (d : Design) (keep : Bool) → keep ≡ ltb lastStateProperty p → (j c : ℕ) (u : Bool) (s : State)
+      → stateLine d (propertyOf d p) j c u (some now) s ≡ stateLine d (propertyOf d p) j c u (some (keptIn keep n pair)) s
+  unfolding stateLine
+  kept-line d keep e j c u s =
+      ap (λ (t : Bool). line j c u t (take (length (d .variables)) (map signed s)) (map pos (statusesIn (layout d) s))) (sym (kept-true d p n pair keep e s))
+
+  -- the state now is kept as the one before, where the property is judged on both, and the step out of it stands behind it
+  next-lines : (d : Design) (c : ℕ) (keep : Bool) → keep ≡ ltb lastStateProperty p → (pair′ : State) (u : Bool) → length pair₀ ≡ n + n → i < length cs → c ≡ getD cs i 0
+      → (pair′ ≡ keptIn keep n pair ++ step d now c) × (u ≡ idle d now c)
       → nextLines d (propertyOf d p) i now (drop i cs)
       ≡ stateLine d (propertyOf d p) (suc i) c u (beforeIn (eqb (suc i) 0) n pair′) (drop n pair′) ++ nextLines d (propertyOf d p) (suc i) (drop n pair′) (drop (suc i) cs)
   unfolding nextLines
-  next-lines d c pair′ u z l e k =
-      let long : length now ≡ n = second-long n pair (g .state ∙ z) in
+  next-lines d c keep kp pair′ u z l e k =
+      let front = keptIn keep n pair in
+      let long : length front ≡ n = front-long n pair (g .state ∙ z) keep in
       let x = step d now c in
-      let kept : take n pair′ ≡ now = ap (take n) (k .0) ∙ take-at now x n long in
-      let moved : drop n pair′ ≡ x = ap (drop n) (k .0) ∙ drop-at now x n long in
-      let first : beforeIn (eqb (suc i) 0) n pair′ ≡ some now = ap (λ (b : Bool). beforeIn b n pair′) (ne-eqb (suc i) 0 (λ o. omega arith)) ∙ ap some kept in
+      let kept : take n pair′ ≡ front = ap (take n) (k .0) ∙ take-at front x n long in
+      let moved : drop n pair′ ≡ x = ap (drop n) (k .0) ∙ drop-at front x n long in
+      let first : beforeIn (eqb (suc i) 0) n pair′ ≡ some front = ap (λ (b : Bool). beforeIn b n pair′) (ne-eqb (suc i) 0 (λ o. omega arith)) ∙ ap some kept in
       ap (nextLines d (propertyOf d p) i now) (drop-cons cs i 0 l ∙ ap (λ (y : ℕ). y ∷ drop (suc i) cs) (sym e))
       ∙ ap (λ (b : Bool). stateLine d (propertyOf d p) (suc i) c b (some now) x ++ nextLines d (propertyOf d p) (suc i) x (drop (suc i) cs)) (sym (k .1))
+      ∙ ap (λ (y : List ℕ). y ++ nextLines d (propertyOf d p) (suc i) x (drop (suc i) cs)) (kept-line d keep kp (suc i) c u x)
       ∙ ap₂ (λ (a : Option State) (y : State). stateLine d (propertyOf d p) (suc i) c u a y ++ nextLines d (propertyOf d p) (suc i) y (drop (suc i) cs)) (sym first) (sym moved)
 
-  pub printing-on : length pair₀ ≡ n + n → i < length cs → (c : ℕ) → c ≡ getD cs i 0 → (pair′ : State) (u : Bool) → length pair′ ≡ length pair
-      → ((d : Design) → check file ≡ accepted d → (pair′ ≡ now ++ step d now c) × (u ≡ idle d now c)) → (zs : List ℕ) (r : ℕ)
+  pub printing-on : length pair₀ ≡ n + n → i < length cs → (c : ℕ) → c ≡ getD cs i 0 → (keep : Bool) → keep ≡ ltb lastStateProperty p → (pair′ : State) (u : Bool) → length pair′ ≡ length pair
+      → ((d : Design) → check file ≡ accepted d → (pair′ ≡ keptIn keep n pair ++ step d now c) × (u ≡ idle d now c)) → (zs : List ℕ) (r : ℕ)
       → ((d : Design) (w : Parts file d) → TextWritten (stateLine d (propertyOf d p) (i + 1) c u (beforeIn (eqb (i + 1) 0) n pair′) (drop n pair′)) ys zs q r)
       → r ≤ q + maxLine → length zs ≡ length ys → Printing file p n cs pair₀ xs at (i + 1) pair′ zs r
-  printing-on y l c e pair′ u m k zs r h b z = rw (add-one i) (record {
+  printing-on y l c e keep kp pair′ u m k zs r h b z = rw (add-one i) (record {
     inside = omega arith;
     state = m ∙ g .state;
     near = omega (arith, g .near);
     size = z ∙ g .size;
     rest = λ d t.
         rest-next (stateLine d (propertyOf d p) (suc i) c u (beforeIn (eqb (suc i) 0) n pair′) (drop n pair′)) (nextLines d (propertyOf d p) (suc i) (drop n pair′) (drop (suc i) cs))
-        (next-lines d c pair′ u y l e (k d t)) (g .rest d t)
+        (next-lines d c keep kp pair′ u y l e (k d t)) (g .rest d t)
         (subst (λ (j : ℕ). TextWritten (stateLine d (propertyOf d p) j c u (beforeIn (eqb j 0) n pair′) (drop n pair′)) ys zs q r) (add-one i) (h d (whole file d t .parts)));
   })
 

@@ -30,6 +30,7 @@ use design::limits::PAIR_SLOTS;
 use design::shape::Shape;
 use design::shape::slot_count;
 use step::mover::step_pair;
+use step::property::judges_steps;
 use step::property::true_at;
 use step::replaying::load_start;
 
@@ -106,7 +107,7 @@ pub fn put_next(
     let mut i = 0;
     while i < choices.len() {
         let c = wide(choices[i]);
-        let idle = step_pair(file, events, cells, shape, c, pair);
+        let idle = step_pair(file, events, cells, shape, c, judges_steps(property), pair);
         i = i + 1;
         p = put_state(file, events, shape, property, i, c, idle, pair, out, p);
     }

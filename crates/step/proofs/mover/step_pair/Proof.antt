@@ -35,7 +35,7 @@ move-chosen-requires c κs =
     let entry = at-slot-count .before .before .before in (
       record {
         indexed = entry .pre .0 .indexed;
-        size = part-long _ (at-keep-state .keep-state .last .0) (kept-long _ _ (entry .pre .0 .size) _ (at-slot-count .slot-count .ensures .0) _
+        size = part-long _ (at-keep-state .keep-state .last .0) (kept-long _ (entry .args .pair .now) (entry .pre .0 .size) (entry .args .keep) _ (at-slot-count .slot-count .ensures .0) _
             (at-keep-state .keep-state .ensures)) _ (at-slot-count .slot-count .ensures .0);
       },
       entry .pre .1,
@@ -50,7 +50,7 @@ returns c =
     let at-keep-state = c .before .before .before .before .before .before in
     let at-slot-count = at-keep-state .before .before in
     let entry = at-slot-count .before .before .before in
-    λ d e. pair-step _ _ (entry .pre .0 .size) _ (at-slot-count .slot-count .ensures .0) _ (at-keep-state .keep-state .ensures) d _ _ _
+    λ d e. pair-step _ (entry .args .pair .now) (entry .pre .0 .size) (entry .args .keep) _ (at-slot-count .slot-count .ensures .0) _ (at-keep-state .keep-state .ensures) d _ _ _
     (c .before .before .move-chosen .ensures d e)
 
 pub step-pair-spec : {M : Type 1} → statement M

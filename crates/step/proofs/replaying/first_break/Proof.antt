@@ -41,31 +41,34 @@ shared-slice-read-wide c = omega (arith, c .before .before .before .before .loop
 wide-requires : tie.Need-wide-requires Inv-loop μ-loop
 wide-requires c κs = tt
 
+judges-steps-requires : tie.Need-judges-steps-requires Inv-loop μ-loop
+judges-steps-requires c κs = tt
+
 step-pair-requires : tie.Need-step-pair-requires Inv-loop μ-loop
 step-pair-requires c κs =
-    let at-loop-test = c .before .before .before .before .before .before in
+    let at-loop-test = c .before .before .before .before .before .before .before in
     let at-loop = at-loop-test .before in
     let entry = at-loop .before .before .before .before in (
       pair-same _ _ _ _ _ (at-loop .loop .inv .size) (entry .pre .ready),
       entry .pre .movers,
-      omega (arith, c .before .wide .ensures .0, entry .pre .named (at-loop .loop .i) (at-loop-test .loop-test .taken)),
+      omega (arith, c .before .before .wide .ensures .0, entry .pre .named (at-loop .loop .i) (at-loop-test .loop-test .taken)),
     )
 
 add-i : tie.Need-add-i Inv-loop μ-loop
-add-i c = omega (arith, c .before .before .before .before .before .before .before .before .before .loop-test .taken)
+add-i c = omega (arith, c .before .before .before .before .before .before .before .before .before .before .loop-test .taken)
 
 loop-less : tie.Need-loop-less Inv-loop μ-loop
-loop-less c = omega (arith, c .before .before .before .before .before .before .before .before .before .loop-test .taken)
+loop-less c = omega (arith, c .before .before .before .before .before .before .before .before .before .before .loop-test .taken)
 
 loop-again : tie.Need-loop-again Inv-loop μ-loop
 loop-again c =
-    let at-if1 = c .before .before .before .before .before .before in
+    let at-if1 = c .before .before .before .before .before .before .before in
     let at-true-at = at-if1 .before in
     let at-loop-test = at-true-at .before .before in
     let at-loop = at-loop-test .before in
     let entry = at-loop .before .before .before .before in
     replaying-on _ _ _ _ _ _ _ (at-loop .loop .inv) _ (at-true-at .true-at .ensures) (not-false _ (at-if1 .if1 .left))
-    (at-loop-test .loop-test .taken) (entry .pre .ready .size) _ (c .before .before .before .before .wide .ensures .0) _ _ _ (omega
+    (at-loop-test .loop-test .taken) (entry .pre .ready .size) _ (c .before .before .before .before .before .wide .ensures .0) _ (c .before .before .before .before .judges-steps .ensures) _ _ _ (omega
     (arith, c .before .pair .given)) (c .before .before .step-pair .ensures)
 
 true-at-requires-2 : tie.Need-true-at-requires-2 Inv-loop μ-loop
@@ -108,6 +111,7 @@ first-break-spec =
     returns
     shared-slice-read-wide
     wide-requires
+    judges-steps-requires
     step-pair-requires
     add-i
     loop-less

@@ -24,18 +24,17 @@ shared-slice-read-wide c = omega arith
 wide-requires : tie.Need-wide-requires Inv-loop μ-loop
 wide-requires c κs = omega arith
 
+judges-steps-requires : tie.Need-judges-steps-requires Inv-loop μ-loop
+judges-steps-requires c κs = tt
+
 step-pair-requires : tie.Need-step-pair-requires Inv-loop μ-loop
 step-pair-requires c κs =
-    let at-loop = c .before .before .before .before in
+    let at-loop-test = c .before .before .before .before in
+    let at-loop = at-loop-test .before in
     let entry = at-loop .before .before .before .before .before in (
       pair-same _ _ _ _ _ (at-loop .loop .inv .state) (entry .pre .0),
       entry .pre .1,
-      omega (
-        arith,
-        c .before .wide .ensures .0,
-        entry .pre .3 (at-loop
-            .loop .i) (c .before .before .before .loop-test .taken),
-      ),
+      omega (arith, c .before .before .wide .ensures .0, entry .pre .3 (at-loop .loop .i) (at-loop-test .loop-test .taken)),
     )
 
 add-i : tie.Need-add-i Inv-loop μ-loop
@@ -43,16 +42,11 @@ add-i c = omega arith
 
 put-state-requires : tie.Need-put-state-requires Inv-loop μ-loop
 put-state-requires c κs =
-    let at-loop = c .before .before .before .before .before .before .before .before .before in
+    let at-loop-test = c .before .before .before .before .before .before .before .before .before in
+    let at-loop = at-loop-test .before in
     let entry = at-loop .before .before .before .before .before in (
       pair-same _ _ _ _ _ (omega (arith, c .before .before .before .pair .given, at-loop .loop .inv .state)) (entry .pre .0),
-      omega (
-        arith,
-        at-loop .loop .inv .near,
-        at-loop .loop .inv .size,
-        entry .pre .2,
-        c .before .before .before .before .before .before .before .before .loop-test .taken,
-      ),
+      omega (arith, at-loop .loop .inv .near, at-loop .loop .inv .size, entry .pre .2, at-loop-test .loop-test .taken),
     )
 
 loop-less : tie.Need-loop-less Inv-loop μ-loop
@@ -60,14 +54,14 @@ loop-less c = omega arith
 
 loop-again : tie.Need-loop-again Inv-loop μ-loop
 loop-again c =
-    let at-wide = c .before .before .before .before .before .before .before .before .before in
+    let at-step = c .before .before .before .before .before .before .before in
+    let at-judges = at-step .before .before in
+    let at-wide = at-judges .before in
     let at-loop-test = at-wide .before .before in
     let at-loop = at-loop-test .before in
-    printing-on _ _ _ _ _ _ _ _ _ _ _ (at-loop .loop .inv) (at-loop .before .before .before .before .before .pre .0 .size) (at-loop-test .loop-test .taken) _ (at-wide .wide .ensures .0) _ _ (omega (
-      arith,
-      c .before
-          .before .before .before .before .before .pair .given,
-    )) (c .before .before .before .before .before .before .before .step-pair .ensures) _ _
+    let entry = at-loop .before .before .before .before .before in
+    printing-on _ _ _ _ _ _ _ _ _ _ _ (at-loop .loop .inv) (entry .pre .0 .size) (at-loop-test .loop-test .taken) _ (at-wide .wide .ensures .0)
+    _ (at-judges .judges-steps .ensures) _ _ (omega (arith, c .before .before .before .before .before .before .pair .given)) (at-step .step-pair .ensures) _ _
     (c .before .before .put-state .ensures .0) (c .before .before .put-state .ensures .1) (c .before .before .put-state .ensures .2)
 
 same-length : tie.Need-same-length Inv-loop μ-loop
@@ -97,6 +91,7 @@ put-next-spec =
     loop-holds
     shared-slice-read-wide
     wide-requires
+    judges-steps-requires
     step-pair-requires
     add-i
     put-state-requires
