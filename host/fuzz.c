@@ -19,7 +19,7 @@
 #include <unistd.h>
 
 static FILE *report;
-static uint64_t seed, calls;
+static uint64_t seed, calls, too_many_variables;
 
 /* Calls by name, and how many of them were refused. */
 enum { MAX_NAMES = 16 };
@@ -155,6 +155,7 @@ static void margins(size_t region, const char *call)
 static void ended(const char *call, uint64_t code, unsigned readable, unsigned writable)
 {
     count_call(call, code != 0);
+    too_many_variables += code == 19;
     for (size_t i = 0; i < REGIONS; i++) {
         if ((readable | writable) >> i & 1)
             margins(i, call);
@@ -346,6 +347,24 @@ static uint64_t first_refusal(uint64_t property, uint64_t bound)
     return design_code ? design_code : property > last_property() ? 13 : bound > MAX_BOUND ? 14 : 0;
 }
 
+/* Whether the formula has too many variables, counted from the frames: SIZE at bound 0 tells their parts and is never refused for
+ * this. */
+static int over_limit(uint64_t property, uint64_t bound)
+{
+    uint64_t sizes[SIZE_LEN] = {0};
+    uint64_t code = stm_size(design, design_len, property, 0, sizes);
+    require(code == 0, "size", "bound 0 is refused", code);
+    uint64_t frame = sizes[SIZE_STATE] + sizes[SIZE_PROPERTY] + sizes[SIZE_MOVERS] + sizes[SIZE_STEP];
+    return 1 + bound * frame + sizes[SIZE_STATE] + sizes[SIZE_PROPERTY] > STM_MAX_VARIABLES;
+}
+
+/* The same for a call that has a formula. */
+static uint64_t formula_refusal(uint64_t property, uint64_t bound)
+{
+    uint64_t first = first_refusal(property, bound);
+    return first ? first : over_limit(property, bound) ? 19 : 0;
+}
+
 /* A number over a byte. Cut to one, most of them would be taken. */
 static uint64_t over_a_byte(void)
 {
@@ -495,7 +514,7 @@ static int sizes_of(uint64_t property, uint64_t bound, uint64_t sizes[SIZE_LEN])
     keep(ANSWER);
     uint64_t code = stm_size(design, design_len, property, bound, answer);
     ended("size", code, SET(DESIGN), SET(ANSWER));
-    require(code == first_refusal(property, bound), "size", "not the first refusal", code);
+    require(code == formula_refusal(property, bound), "size", "not the first refusal", code);
     if (code == 0)
         memcpy(sizes, answer, SIZE_LEN * sizeof *answer);
     return code == 0;
@@ -506,7 +525,8 @@ static void call_size(void)
     uint64_t sizes[SIZE_LEN];
     if (!sizes_of(any_property(), any_bound(), sizes))
         return;
-    require(sizes[2] >= 1 && sizes[2] <= 64 && sizes[SIZE_VARIABLES] < (uint64_t)1 << 31, "size", "out of range", sizes[SIZE_VARIABLES]);
+    int fits_limits = sizes[SIZE_MOVERS] >= 1 && sizes[SIZE_MOVERS] <= 64 && sizes[SIZE_VARIABLES] <= STM_MAX_VARIABLES;
+    require(fits_limits, "size", "out of range", sizes[SIZE_VARIABLES]);
 }
 
 /* One part into memory of some length. Answers the words written. */
@@ -518,7 +538,7 @@ static uint64_t encode(uint64_t property, uint64_t bound, uint64_t part, size_t 
     keep(ANSWER);
     uint64_t code = stm_encode(design, design_len, property, bound, part, clauses, len, answer);
     ended("encode", code, SET(DESIGN), SET(CLAUSES) | SET(ANSWER));
-    uint64_t first = first_refusal(property, bound);
+    uint64_t first = formula_refusal(property, bound);
     first = first ? first : part > bound + 2 ? 15 : 0;
     require(first ? code == first : code == 0 || code == 16, "encode", "not the first refusal", code);
     if (code)
@@ -603,9 +623,10 @@ static void call_decode(void)
     size_t values_len = near(n), choices_len = near(choices_for(bound));
     uint8_t *values = lent(ASSIGNED, values_len);
     memset(values, 0, values_len);
-    size_t frame = (size_t)(sizes[0] + sizes[1] + sizes[2] + sizes[3]), first = (size_t)(1 + sizes[0] + sizes[1]);
+    size_t first = (size_t)(1 + sizes[SIZE_STATE] + sizes[SIZE_PROPERTY]);
+    size_t frame = first - 1 + (size_t)(sizes[SIZE_MOVERS] + sizes[SIZE_STEP]);
     for (size_t j = 0; known && j < bound; j++) {
-        size_t at = first + j * frame + below((size_t)sizes[2]);
+        size_t at = first + j * frame + below((size_t)sizes[SIZE_MOVERS]);
         if (at < values_len)
             values[at] = chance(97) ? 1 : (uint8_t)PICK(0, 2, 255);
     }
@@ -614,7 +635,7 @@ static void call_decode(void)
     keep(CHOICES);
     uint64_t code = stm_decode(design, design_len, property, bound, values, values_len, choices, choices_len);
     ended("decode", code, SET(DESIGN) | SET(ASSIGNED), SET(CHOICES));
-    uint64_t refusal = first_refusal(property, bound);
+    uint64_t refusal = formula_refusal(property, bound);
     int short_ = values_len < sizes[SIZE_VARIABLES] || choices_len < bound;
     refusal = refusal ? refusal : short_ ? 16 : 0;
     require(refusal ? code == refusal : code == 0 || STM_NUMBER(code) == 18, "decode", "not the first refusal", code);
@@ -622,7 +643,7 @@ static void call_decode(void)
         return;
     same(CHOICES, bound, "decode");
     for (size_t j = 0; j < bound; j++)
-        require(choices[j] < sizes[2], "decode", "no such mover", choices[j]);
+        require(choices[j] < sizes[SIZE_MOVERS], "decode", "no such mover", choices[j]);
 }
 
 /* A search over a formula is affordable below this product of its variables and words. */
@@ -636,15 +657,28 @@ static uint64_t affordable(uint64_t property, uint64_t bound, uint64_t sizes[SIZ
     return bound;
 }
 
+/* The choices of a verdict break the property at its step. */
+static void break_at(uint64_t property, const uint8_t *choices, uint64_t step)
+{
+    uint64_t *answer = lent(ANSWER, 2 * sizeof *answer);
+    keep(ANSWER);
+    keep(CHOICES);
+    uint64_t code = stm_replay(design, design_len, property, choices, (size_t)step, answer);
+    ended("replay", code, SET(DESIGN) | SET(CHOICES), SET(ANSWER));
+    require(code == 0 && answer[0] == 1 && answer[1] == step, "verdict", "its choices do not break at its step", answer[1]);
+}
+
 static void call_verdict(void)
 {
-    uint64_t property = any_property(), bound = chance(5) ? over_a_byte() : PICK(0, 1, 1, 2, 2, 3, 4, 101, 255);
-    uint64_t sizes[SIZE_LEN] = {0}, budget = PICK(0, 1, 2, 5, 20), refusal = first_refusal(property, bound);
-    bound = affordable(property, bound, sizes);
+    uint64_t property = any_property(), bound = chance(5) ? over_a_byte() : PICK(0, 1, 1, 2, 2, 3, 4, 71, 100, 101, 255);
+    uint64_t sizes[SIZE_LEN] = {0}, budget = PICK(0, 1, 2, 5, 20), refusal = formula_refusal(property, bound);
+    bound = affordable(property, refusal || bound < 4 ? bound : 4, sizes);
     size_t words = (size_t)sizes[SIZE_WORDS], n = (size_t)sizes[SIZE_VARIABLES];
     int exact = chance(60);
-    size_t clauses_len = exact ? words : near(words), values_len = exact ? n : near(n);
-    size_t trail_len = exact ? n : near(n), choices_len = exact ? choices_for(bound) : near(choices_for(bound));
+    /* a formula that is too long to lend for is refused by 16 */
+    size_t most = words > MAX_WORDS ? 0 : words, lent_n = words > MAX_WORDS ? 0 : n;
+    size_t clauses_len = exact ? most : near(most), values_len = exact ? lent_n : near(lent_n);
+    size_t trail_len = exact ? lent_n : near(lent_n), choices_len = exact ? choices_for(bound) : near(choices_for(bound));
     int32_t *clauses = lent(CLAUSES, clauses_len * sizeof *clauses);
     uint8_t *values = lent(ASSIGNED, values_len), *choices = lent(CHOICES, choices_len);
     uint32_t *trail = lent(TRAIL, trail_len * sizeof *trail);
@@ -667,14 +701,8 @@ static void call_verdict(void)
     same(ASSIGNED, n, "verdict");
     same(TRAIL, n * sizeof *trail, "verdict");
     same(CHOICES, found[0] == 1 ? (size_t)found[1] : 0, "verdict");
-    if (found[0] != 1)
-        return;
-    answer = lent(ANSWER, 2 * sizeof *answer);
-    keep(ANSWER);
-    keep(CHOICES);
-    code = stm_replay(design, design_len, property, choices, (size_t)found[1], answer);
-    ended("replay", code, SET(DESIGN) | SET(CHOICES), SET(ANSWER));
-    require(code == 0 && answer[0] == 1 && answer[1] == found[1], "verdict", "its choices do not break at its step", answer[1]);
+    if (found[0] == 1)
+        break_at(property, choices, found[1]);
 }
 
 /* The program, in this process. */
@@ -716,16 +744,28 @@ static int any_command(char words[6][420])
     return strcmp(words[1], "check") == 0 ? 3 : strcmp(words[1], "verdict") == 0 ? 6 : 5;
 }
 
+/* A long search takes too long here, and so does a long formula: its sizes are asked for. Answers the number of words. */
+static int keep_short(char words[6][420], int argc)
+{
+    uint64_t property = strtoull(words[3], NULL, 10), sizes[SIZE_LEN] = {0};
+    int search = strcmp(words[1], "verdict") == 0;
+    if (search && affordable(property, 1, sizes) == 0)
+        strcpy(words[4], "0");
+    if (!search && strcmp(words[1], "cnf"))
+        return argc;
+    if (!sizes_of(property, strtoull(words[4], NULL, 10), sizes) || sizes[SIZE_WORDS] <= MAX_WORDS)
+        return argc;
+    strcpy(words[1], "size");
+    return 5;
+}
+
 static void call_stm(void)
 {
     static char words[6][420];
     char *argv[7] = {NULL};
     int argc = any_command(words);
-    uint64_t sizes[SIZE_LEN];
-    /* a long search takes too long here */
-    if (design_code == 0 && argc >= 5 && strcmp(words[1], "verdict") == 0
-        && affordable(strtoull(words[3], NULL, 10), 1, sizes) == 0)
-        strcpy(words[4], "0");
+    if (design_code == 0 && argc >= 5)
+        argc = keep_short(words, argc);
     FILE *f = fopen(path, "wb");
     if (!f || fwrite(design, 1, design_len, f) != design_len || fclose(f))
         fault("cannot write %s", path);
@@ -766,6 +806,9 @@ static void choose(const char *list)
     }
 }
 
+/* In so many calls some are on a formula with too many variables. */
+enum { MANY_CALLS = 50000 };
+
 int main(int argc, char **argv)
 {
     uint64_t count;
@@ -782,6 +825,7 @@ int main(int argc, char **argv)
     snprintf(path, sizeof path, "/tmp/stm-fuzz-%ld.stm", (long)getpid());
     if (share_count == 0)
         fault("no operation is chosen");
+    int sizes_asked = strstr(argv[3], "size") != NULL;
     while (calls < count) {
         next_design();
         for (size_t i = 0; i < 6; i++)
@@ -794,7 +838,9 @@ int main(int argc, char **argv)
         free(regions[i].copy);
     for (const struct tally *t = tallies; t->name; t++)
         fprintf(report, "%s %" PRIu64 ", refused %" PRIu64 "; ", t->name, t->calls, t->refused);
-    fprintf(report, "\n%" PRIu64 " calls, no fault\n", calls);
+    if (sizes_asked && calls >= MANY_CALLS && too_many_variables == 0)
+        fault("no call was refused by 19");
+    fprintf(report, "\n%" PRIu64 " calls, no fault; %" PRIu64 " refused by 19\n", calls, too_many_variables);
     fclose(report);
     return 0;
 }

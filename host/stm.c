@@ -51,6 +51,7 @@ static const char *meaning(unsigned number)
         "a buffer is too short",
         "the clause list is malformed",
         "a frame has no single flag set",
+        "the formula has more than 2,147,483,647 variables",
     };
     return number < sizeof text / sizeof text[0] ? text[number] : "unknown refusal";
 }
@@ -154,7 +155,7 @@ static int check(const struct job *j)
 }
 
 /* What SIZE answers, in order. */
-enum { SIZE_STATE, SIZE_PROPERTY, SIZE_VARIABLES = 4, SIZE_CLAUSES, SIZE_WORDS, SIZE_LEN };
+enum { SIZE_STATE, SIZE_PROPERTY, SIZE_MOVERS, SIZE_STEP, SIZE_VARIABLES, SIZE_CLAUSES, SIZE_WORDS, SIZE_LEN };
 
 /* Memory for so many elements, or NULL; never for none, since a lent pointer is not null. */
 static void *lend(uint64_t count, size_t element)

@@ -24,6 +24,9 @@
 #define STM_VALUES 32
 #define STM_STATUSES 8
 
+/* The most variables of a formula: a literal is an int32_t. */
+#define STM_MAX_VARIABLES INT32_MAX
+
 /* CHECK: refusals 1 to 10. Every other call on a design has these first. */
 uint64_t stm_check(const uint8_t *design, size_t design_len);
 
@@ -44,10 +47,11 @@ uint64_t stm_holds(const uint8_t *design, size_t design_len, const int16_t value
 uint64_t stm_replay(const uint8_t *design, size_t design_len, uint64_t property, const uint8_t *choices, size_t choices_len,
                     uint64_t answer[2]);
 
-/* SIZE: 13, 14. answer is S, P, w, G, n, clauses, words. For property 2 P is 0, and its gates are in G. */
+/* SIZE: 13, 14, 19 where n is over STM_MAX_VARIABLES. answer is S, P, w, G, n, clauses, words. For property 2 P is 0, and its
+ * gates are in G. */
 uint64_t stm_size(const uint8_t *design, size_t design_len, uint64_t property, uint64_t bound, uint64_t answer[7]);
 
-/* ENCODE: 13, 14, 15, 16. Writes the words of one part; answer[0] is their number. */
+/* ENCODE: 13, 14, 19, 15, 16. Writes the words of one part; answer[0] is their number. */
 uint64_t stm_encode(const uint8_t *design, size_t design_len, uint64_t property, uint64_t bound, uint64_t part, int32_t *clauses,
                     size_t clauses_len, uint64_t answer[1]);
 
@@ -56,12 +60,12 @@ uint64_t stm_encode(const uint8_t *design, size_t design_len, uint64_t property,
 uint64_t stm_solve(uint64_t n, const int32_t *words, size_t words_len, uint8_t *values, size_t values_len, uint32_t *trail,
                    size_t trail_len, uint64_t budget, uint64_t answer[2]);
 
-/* DECODE: 13, 14, 16, 18. Writes `bound` choices and keeps the rest. */
+/* DECODE: 13, 14, 19, 16, 18. Writes `bound` choices and keeps the rest. */
 uint64_t stm_decode(const uint8_t *design, size_t design_len, uint64_t property, uint64_t bound, const uint8_t *values,
                     size_t values_len, uint8_t *choices, size_t choices_len);
 
-/* VERDICT: 13, 14, 16. answer[0] is 0 for CLEAN, 1 for VIOLATED, 2 for SPENT; answer[1] the step that breaks, or the bound
- * that was spent, else 0; answer[2] the tries. On VIOLATED the first answer[1] choices are written. */
+/* VERDICT: 13, 14, then 19 and 16 for its own bound. answer[0] is 0 for CLEAN, 1 for VIOLATED, 2 for SPENT; answer[1] the step
+ * that breaks, or the bound that was spent, else 0; answer[2] the tries. On VIOLATED the first answer[1] choices are written. */
 uint64_t stm_verdict(const uint8_t *design, size_t design_len, uint64_t property, uint64_t bound, uint64_t budget,
                      int32_t *clauses, size_t clauses_len, uint8_t *values, size_t values_len, uint32_t *trail,
                      size_t trail_len, uint8_t *choices, size_t choices_len, uint64_t answer[3]);

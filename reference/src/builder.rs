@@ -126,6 +126,11 @@ fn write_integer(out: &mut Vec<u8>, e: &Integer) {
         Integer::Status(m) => out.extend_from_slice(&[0x03, *m]),
         Integer::Sum(a, b) => write_integers(out, 0x04, a, b),
         Integer::Difference(a, b) => write_integers(out, 0x05, a, b),
+        Integer::Product(c, a) => {
+            out.push(0x08);
+            out.extend_from_slice(&c.to_le_bytes());
+            write_integer(out, a);
+        }
         Integer::NextVariable(v) => out.extend_from_slice(&[0x06, *v]),
         Integer::NextStatus(m) => out.extend_from_slice(&[0x07, *m]),
     }

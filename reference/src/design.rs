@@ -44,6 +44,7 @@ pub enum Integer {
     Status(u8),
     Sum(Box<Integer>, Box<Integer>),
     Difference(Box<Integer>, Box<Integer>),
+    Product(i16, Box<Integer>),
     NextVariable(u8),
     NextStatus(u8),
 }
@@ -444,7 +445,7 @@ impl Reader<'_> {
 
     fn integer(&mut self, depth: u32) -> Option<Integer> {
         match self.operator(depth)? {
-            0x01 => Some(Integer::Constant(i16::from_le_bytes([self.byte()?, self.byte()?]))),
+            0x01 => self.constant().map(Integer::Constant),
             0x02 => self.integer_variable().map(Integer::Variable),
             0x03 => self.matrix().map(Integer::Status),
             0x04 => {
@@ -457,8 +458,16 @@ impl Reader<'_> {
             }
             0x06 if self.names.next_state => self.integer_variable().map(Integer::NextVariable),
             0x07 if self.names.next_state => self.matrix().map(Integer::NextStatus),
+            0x08 => {
+                let constant = self.constant()?;
+                Some(Integer::Product(constant, Box::new(self.integer(depth + 1)?)))
+            }
             _ => None,
         }
+    }
+
+    fn constant(&mut self) -> Option<i16> {
+        Some(i16::from_le_bytes([self.byte()?, self.byte()?]))
     }
 
     fn integer_variable(&mut self) -> Option<u8> {

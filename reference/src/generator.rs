@@ -5,8 +5,10 @@ mod constraints;
 mod faults;
 mod files;
 mod known;
+mod limit;
 mod lists;
 mod near;
+mod products;
 pub mod trees;
 
 use crate::random::Random;
@@ -51,6 +53,11 @@ impl Generator {
         }
         let operation = self.random.pick(&self.operations);
         let random = &mut self.random;
+        if random.chance(4) {
+            if let Some(request) = limit::request(random, operation) {
+                return request;
+            }
+        }
         self.pending = match operation {
             "encode" if random.chance(2) => known::all_parts(random),
             "verdict" if random.chance(2) => known::all_budgets(random),

@@ -183,6 +183,7 @@ fn integer(states: Pair<State>, e: &Integer) -> i16 {
         Integer::Status(m) => states.earlier.statuses[*m as usize] as i16,
         Integer::Sum(a, b) => integer(states, a).wrapping_add(integer(states, b)),
         Integer::Difference(a, b) => integer(states, a).wrapping_sub(integer(states, b)),
+        Integer::Product(c, a) => integer(states, a).wrapping_mul(*c),
         Integer::NextVariable(v) => states.next.values[*v as usize],
         Integer::NextStatus(m) => states.next.statuses[*m as usize] as i16,
     }

@@ -40,6 +40,10 @@ impl Operators {
             Integer::Difference(a, b) => self.integers(0x05, a, b),
             Integer::NextVariable(_) => 0x06,
             Integer::NextStatus(_) => 0x07,
+            Integer::Product(_, a) => {
+                self.integer(a);
+                0x08
+            }
         };
         self.0.insert(code);
     }
@@ -114,7 +118,7 @@ fn every_operator_is_used() {
     for (_, bytes) in all_files() {
         operators.design(&check(&bytes).unwrap());
     }
-    let all = (0x01..=0x07).chain(0x10..=0x17).chain(0x20..=0x21);
+    let all = (0x01..=0x08).chain(0x10..=0x17).chain(0x20..=0x21);
     assert_eq!(operators.0, all.collect());
 }
 
@@ -142,6 +146,8 @@ fn small_designs_break_where_they_should() {
         ("no-idle", 2, Some(1)),
         ("crossing-turns", 0, None),
         ("crossing-turns", 2, None),
+        ("vending", 0, Some(2)),
+        ("minus-three", 0, Some(3)),
     ];
     let files = all_files();
     for (name, property, step) in expected {

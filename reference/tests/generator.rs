@@ -201,7 +201,7 @@ fn files_of_version_2_meet_the_limits_of_the_offset() {
 fn the_next_state_is_read_where_it_may_not_be() {
     let mut generator = Generator::new(5, &["check"]).unwrap();
     let mut seen = BTreeSet::new();
-    for _ in 0..15_000 {
+    for _ in 0..40_000 {
         let request = generator.request();
         let file = bytes(&request["check ".len()..]).unwrap();
         let Err(refusal) = check(&file) else { continue };
@@ -313,6 +313,7 @@ fn next_numbers(e: &Integer, seen: &mut BTreeSet<u8>) {
             next_numbers(a, seen);
             next_numbers(b, seen);
         }
+        Integer::Product(_, a) => next_numbers(a, seen),
         _ => {}
     }
 }

@@ -1,7 +1,7 @@
 //! The line protocol, and the generator of its requests.
 
 use reference::builder::file_bytes;
-use reference::designs::{design_a, moved};
+use reference::designs::{design_a, minus_three, most_gates, moved};
 use reference::generator::{all_operations, Generator};
 use reference::operations::{Operations, Reference};
 use reference::protocol::{hex, reply, serve};
@@ -58,6 +58,8 @@ fn the_examples_of_the_document() {
     for (start, design, count) in [
         ("With the file of Design A", design_a(), 7),
         ("With the file of `designs/moved.stm`", moved(), 5),
+        ("With the file of `designs/minus-three.stm`", minus_three(), 5),
+        ("With the file of `designs/most-gates.stm`", most_gates(), 7),
     ] {
         let section = document.lines().skip_while(|line| !line.starts_with(start)).skip(1);
         let rows = section.take_while(|line| !line.starts_with("With "));
@@ -198,5 +200,5 @@ fn generated_requests_are_well_formed_and_reach_every_refusal() {
             numbers.insert(rest.split(' ').next().unwrap().parse::<u8>().unwrap());
         }
     }
-    assert_eq!(numbers, (1..=18).collect());
+    assert_eq!(numbers, (1..=19).collect());
 }

@@ -3,18 +3,18 @@
 -- one over a mover's result, whose variables are smaller.
 use mathlib.Core.Path.{_≡_, refl, sym, ap, ap₂, subst, _∙_}
 use mathlib.Core.Logic.{_↔_}
-use mathlib.Core.Bool.{not, _&&_}
+use mathlib.Core.Bool.{Bool, true, false, not, _&&_}
 use mathlib.Core.List.{List, [], _∷_, _++_, map, map-append}
-use Prim.Native.Nat.{ℕ, zero, suc}
+use Prim.Native.Nat.{ℕ, zero, suc, _/_, _%_}
 use native.Mathlib.Omega.{arith}
 use lib.ListN.{length, getD, length-map}
-use Rattle.design.specs.Tree.{IntExpr, BoolExpr, constant, variable, status, sum, difference, constantB, variableB, notB, andB, orB, equal, less, Design}
+use Rattle.design.specs.Tree.{IntExpr, BoolExpr, constant, variable, status, sum, difference, product, constantB, variableB, notB, andB, orB, equal, less, truth, Design}
 use Rattle.design.specs.State.{Layout, layout, statusSlot}
 use Rattle.step.specs.Property.{Property, invariant, noInvalidCell, constraint}
 use Rattle.clauses.specs.Literal.{Literal, positive, negative, negate, trueLiteral, falseLiteral, literalOf}
 use Rattle.clauses.specs.Meaning.{Assignment, literalTrue}
 use Rattle.clauses.specs.Gate.{Gate, and, xor}
-use Rattle.clauses.specs.Circuit.{Built, Build, give, _>>=_, and!, xor!, or!, Bits, Summed, sum!, difference!, negateTop, less!, xors!, chain!, equal! }
+use Rattle.clauses.specs.Circuit.{Built, Build, give, _>>=_, and!, xor!, or!, Bits, Summed, sum!, difference!, shift, addend, product!, negateTop, less!, xors!, chain!, equal! }
 use Rattle.clauses.specs.Expression.{Slots, constantBits, pad, lowest, int!, bool! }
 use Rattle.clauses.specs.Formula.{flat, stepProperty! }
 use Rattle.clauses.proofs.Gates.{differ, negate-true, Facts}
@@ -126,6 +126,22 @@ module _ (T : Literal → Literal → Type 0) where
     unfolding difference!
     difference!-alike n p q = sum!-alike n p (negate-alike q) (t .same trueLiteral)
 
+    shift-alike : {x y : Literal} {xs ys : Bits} → T x y → BitsAlike xs ys → BitsAlike (shift x xs) (shift y ys)
+    shift-alike r none = none
+    shift-alike r (more h p) = more r (shift-alike h p)
+
+    addend-alike : (b : Bool) {xs ys : Bits} → BitsAlike xs ys → BitsAlike (addend b xs) (addend b ys)
+    addend-alike true p = p
+    addend-alike false none = none
+    addend-alike false (more h p) = more (t .same falseLiteral) (addend-alike false p)
+
+    product!-alike : (left c : ℕ) {xs ys us vs : Bits} (n : ℕ) → BitsAlike xs us → BitsAlike ys vs → Alike BitsAlike (product! left c xs ys n) (product! left c us vs n)
+    unfolding product!
+    product!-alike zero c n p q = alike-give _ _ _ q
+    product!-alike (suc left) c n p q =
+        alike-bind _ _ _ _ _ (sum!-alike n q (addend-alike (truth (c % 2)) p) (t .same falseLiteral)) λ x y k h.
+        product!-alike left (c / 2) k (shift-alike (t .same falseLiteral) p) (h .bits)
+
     less!-alike : {xs ys us vs : Bits} (n : ℕ) → BitsAlike xs us → BitsAlike ys vs → Alike T (less! xs ys n) (less! us vs n)
     unfolding less!
     less!-alike n p q = alike-bind _ _ _ _ _ (difference!-alike n (negateTop-alike p) (negateTop-alike q)) λ x y k h. alike-give _ _ _ (t .negated _ _ (h .carry))
@@ -169,6 +185,8 @@ module _ (T : Literal → Literal → Type 0) where
           alike-bind _ _ _ _ _ (int!-alike a n) λ x₁ x₂ k₁ hx.
           alike-bind _ _ _ _ _ (int!-alike b k₁) λ y₁ y₂ k₂ hy.
           alike-bind _ _ _ _ _ (difference!-alike k₂ hx hy) λ r₁ r₂ k₃ hr. alike-give _ _ _ (hr .bits)
+      int!-alike (product c a) n =
+          alike-bind _ _ _ _ _ (int!-alike a n) λ x₁ x₂ k hx. product!-alike 16 c k hx (each-same (t .same) (constantBits 16 0))
 
       bool!-alike : (e : BoolExpr) (n : ℕ) → Alike T (bool! l s e n) (bool! l u e n)
       unfolding bool!

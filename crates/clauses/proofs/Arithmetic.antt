@@ -1,17 +1,17 @@
--- The circuits on bits: sum, difference, signed less, equal, each over any width w. The number that bits stand for is low first.
+-- The circuits on bits: sum, difference, product by a constant, signed less, equal, each over any width w. The number that bits stand for is low first.
 use mathlib.Core.Path.{_≡_, refl, sym, ap, ap₂, _∙_}
 use mathlib.Core.Bool.{Bool, true, false, not, _&&_, _||_}
 use mathlib.Core.List.{[], _∷_, map}
-use Prim.Native.Nat.{ℕ, zero, suc, _+_, _-_, _*_, _^_, _%_, _<_, _≤_}
-use native.Mathlib.Nat.{le-refl, pow-suc, mul-comm, mod-eq-of-lt, add-mul-mod-self-left}
+use Prim.Native.Nat.{ℕ, zero, suc, _+_, _-_, _*_, _/_, _^_, _%_, _<_, _≤_}
+use native.Mathlib.Nat.{le-refl, pow-suc, mul-comm, mod-eq-of-lt, add-mul-mod-self-left, mod-add-div}
 use native.Mathlib.Omega.{arith}
 use lib.Dec.{ltb, eqb}
 use borrow.Author.Tests.{eqb-true, eqb-false, eq-eqb, ne-eqb, lt-ltb, le-ltb}
-use lib.ListN.{length}
-use Rattle.design.specs.Tree.{bit}
+use lib.ListN.{length, length-map}
+use Rattle.design.specs.Tree.{bit, truth}
 use Rattle.clauses.specs.Literal.{Literal, negate, trueLiteral, falseLiteral}
 use Rattle.clauses.specs.Meaning.{Assignment, literalTrue}
-use Rattle.clauses.specs.Circuit.{Bits, Summed, sum!, difference!, negateTop, less!, xors!, chain!, equal! }
+use Rattle.clauses.specs.Circuit.{Bits, Summed, sum!, difference!, shift, addend, product!, negateTop, less!, xors!, chain!, equal! }
 use Rattle.clauses.proofs.Gates.{differ, negate-true, and-assoc}
 use Rattle.clauses.proofs.Correct.{LiteralBelow, Correct, correct-give, correct-bind, correct-weaken, correct-means, and-correct, xor-correct, or-correct, negate-below}
 
@@ -142,6 +142,92 @@ difference-correct w xs ys n h bx by =
       λ ρ one e. sum-mod w ρ xs (map negate ys) trueLiteral r k (bx .wide) br e
           ∙ ap (λ x. x % 2 ^ w) (rw one (minus-negate (number ρ xs) (number ρ ys) (number ρ (map negate ys)) (2 ^ w) (rw (by .wide) at (number-negate ρ ys)))),
     )
+
+-- A product by a constant. One place up: twice the number, without what is dropped.
+pub length-shift : (x : Literal) (ys : Bits) → length (shift x ys) ≡ length ys
+length-shift x [] = refl
+length-shift x (y ∷ ys) = ap suc (length-shift y ys)
+
+bits-shift : (n : ℕ) (x : Literal) (ys : Bits) → LiteralBelow n x → BitsBelow n ys → BitsBelow n (shift x ys)
+bits-shift n x [] b c = tt
+bits-shift n x (y ∷ ys) b c = (b, bits-shift n y ys (c .0) (c .1))
+
+shift-word : {w n : ℕ} (xs : Bits) → 1 < n → Word w n xs → Word w n (shift falseLiteral xs)
+shift-word {n = n} xs h x = record { below = bits-shift n falseLiteral xs (omega arith) (x .below); wide = length-shift falseLiteral xs ∙ x .wide }
+
+-- what a shift drops
+abbrev dropped : Assignment → Literal → Bits → Bool
+dropped ρ x [] = literalTrue ρ x
+dropped ρ x (y ∷ ys) = dropped ρ y ys
+
+shift-step : (x y F t N W : ℕ) → F + W * t ≡ y + 2 * N → x + 2 * F + W * 2 * t ≡ x + 2 * (y + 2 * N)
+shift-step x y F t N W e = omega arith
+
+number-shift : (ρ : Assignment) (x : Literal) (ys : Bits) → number ρ (shift x ys) + 2 ^ length ys * bit (dropped ρ x ys) ≡ bit (literalTrue ρ x) + 2 * number ρ ys
+number-shift ρ x [] = omega arith
+number-shift ρ x (y ∷ ys) =
+    rw (pow-suc 2 (length ys))
+    (shift-step (bit (literalTrue ρ x)) (bit (literalTrue ρ y)) (number ρ (shift y ys)) (bit (dropped ρ y ys)) (number ρ ys) (2 ^ length ys) (number-shift ρ y ys))
+
+double-mod : (w : ℕ) (ρ : Assignment) → ρ 1 ≡ true → (xs : Bits) → length xs ≡ w → number ρ (shift falseLiteral xs) ≡ (2 * number ρ xs) % 2 ^ w
+double-mod w ρ one xs e =
+    mod-of (number ρ (shift falseLiteral xs)) (2 * number ρ xs) (2 ^ w) (bit (dropped ρ falseLiteral xs))
+    (rw (length-shift falseLiteral xs ∙ e) at (number-lt ρ (shift falseLiteral xs)))
+    (rw (one, e) at (number-shift ρ falseLiteral xs) ∙ omega arith)
+
+-- what a turn adds: the operand as often as the bit says
+pub length-addend : (b : Bool) (xs : Bits) → length (addend b xs) ≡ length xs
+length-addend true xs = refl
+length-addend false xs = length-map xs (λ (x : Literal). falseLiteral)
+
+addend-word : {w n : ℕ} (b : Bool) (xs : Bits) → 1 < n → Word w n xs → Word w n (addend b xs)
+addend-word {n = n} b xs h x = record { below = go b xs (x .below); wide = length-addend b xs ∙ x .wide }
+  where
+    go : (b : Bool) (xs : Bits) → BitsBelow n xs → BitsBelow n (addend b xs)
+    go true xs p = p
+    go false [] p = tt
+    go false (y ∷ ys) p = (omega arith, go false ys (p .1))
+
+number-addend : (ρ : Assignment) → ρ 1 ≡ true → (b : Bool) (xs : Bits) → number ρ (addend b xs) ≡ bit b * number ρ xs
+number-addend ρ one true xs = omega arith
+number-addend ρ one false [] = refl
+number-addend ρ one false (x ∷ xs) = let h = number-addend ρ one false xs in rw one (omega arith)
+
+-- remainders taken before a multiple is added or after: the same
+gather : (a y h W p q : ℕ) → a + h * y + W * (p + h * q) ≡ a + W * p + h * (y + W * q)
+gather a y h W p q = omega arith
+
+mod-mul : (A Y h W : ℕ) → (A % W + h * (Y % W)) % W ≡ (A + h * Y) % W
+mod-mul A Y h W =
+    sym (add-mul-mod-self-left (A % W + h * (Y % W)) W (A / W + h * (Y / W)))
+    ∙ ap (λ x. x % W) (gather (A % W) (Y % W) h W (A / W) (Y / W) ∙ ap₂ (λ x y. x + h * y) (mod-add-div A W) (mod-add-div Y W))
+
+-- the low bit's share, and twice the operand for the rest of the constant
+spread : (A X h b W : ℕ) → ((A + b * X) % W + h * (2 * X % W)) % W ≡ (A + (b + 2 * h) * X) % W
+spread A X h b W = mod-mul (A + b * X) (2 * X) h W ∙ ap (λ x. x % W) (omega arith)
+
+pub bit-truth : (n : ℕ) → n < 2 → bit (truth n) ≡ n
+bit-truth zero h = refl
+bit-truth (suc zero) h = refl
+bit-truth (suc (suc n)) h = absurd (omega arith)
+
+-- Of any width and any number of sums, enough for the constant's bits: the sum so far and the product, wrapped. Each turn is one sum.
+pub product-correct : (w left c : ℕ) (xs partial : Bits) (n : ℕ) → 1 < n → c < 2 ^ left → Word w n xs → Word w n partial
+    → Correct n (product! left c xs partial n) (Word w) (λ ρ r. number ρ r ≡ (number ρ partial + c * number ρ xs) % 2 ^ w)
+unfolding product!
+product-correct w zero c xs partial n h hc bx bp =
+    correct-give _ bp λ ρ one.
+    let z : c ≡ 0 = omega arith in
+    sym (mod-eq-of-lt (rw (bp .wide) at (number-lt ρ partial))) ∙ ap (λ y. y % 2 ^ w) (rw z (omega arith))
+product-correct w (suc left) c xs partial n h hc bx bp =
+    let hc′ : c < 2 ^ left * 2 = rw (pow-suc 2 left) at hc in
+    let b = truth (c % 2) in
+    correct-bind _ _ (add-correct w partial (addend b xs) n h bp (addend-word b xs h bx)) λ r k l br.
+    correct-means (product-correct w left (c / 2) (shift falseLiteral xs) (r .bits) k (omega arith) (omega arith) (shift-word xs (omega arith) (word-up l bx)) br)
+    λ ρ a one e er.
+    let q : bit b + 2 * (c / 2) ≡ c = omega (arith, bit-truth (c % 2) (omega arith)) in
+    e ∙ rw (er, number-addend ρ one b xs, double-mod w ρ one xs (bx .wide))
+    (spread (number ρ partial) (number ρ xs) (c / 2) (bit b) (2 ^ w) ∙ ap (λ y. (number ρ partial + y * number ρ xs) % 2 ^ w) q)
 
 -- the top bit negated: half the range is added
 abbrev top : Assignment → Bits → Bool

@@ -1,4 +1,4 @@
--- "the limits keep n below 2^31": the sizes of an accepted design, and of its formula for any bound.
+-- The sizes of an accepted design: its state bits, its movers, and its gates of a frame, at most `mostGates`. So n is at most `mostVariables` for any bound (Limits).
 use mathlib.Core.Path.{_≡_, refl, sym, ap, _∙_}
 use mathlib.Core.Bool.{Bool, true, false}
 use mathlib.Core.List.{List, [], _∷_, _++_, map}
@@ -18,7 +18,7 @@ use Rattle.design.proofs.Positions.{event-reads, cell-reads, expressions-order,
 use Rattle.step.specs.Property.{propertyOf}
 use Rattle.clauses.specs.Formula.{total, S, w}
 use Rattle.clauses.specs.Cost.{gatesIn, boolCost, enableCost, effectCost, moverCost, moversCost, invalidCost, propertyCost, stepPropertyCost, stepCost}
-use Rattle.clauses.specs.Limits.{gatesOfByte, gatesOfActionByte, gatesOfEvent, mostGates}
+use Rattle.clauses.specs.Limits.{gatesOfByte, gatesOfEvent, mostGates}
 use Rattle.clauses.proofs.Bytes.{bool-bytes, list-bytes}
 
 -- an event has at most 255 bytes
@@ -107,7 +107,7 @@ module _ (file : List ℕ) (bytes : (i : ℕ) → getD file i 0 < 256) where
     entryGates (normal c) = gatesIn (moverCost bits (cell c))
     entryGates (invalid p) = gatesIn (invalidCost (p ∷ []))
 
-    entry-bytes : (at : ℕ) (x : Entry) → EntryRead file E N (matricesOffset file) f at (c-kind file at) x → entryGates x + gatesOfActionByte * at ≤ gatesOfActionByte * c-past file at + gatesOfEvent
+    entry-bytes : (at : ℕ) (x : Entry) → EntryRead file E N (matricesOffset file) f at (c-kind file at) x → entryGates x + gatesOfByte * at ≤ gatesOfByte * c-past file at + gatesOfEvent
     unfolding moverCost enableCost effectCost invalidCost
     entry-bytes at (normal c) r =
         let e = cheap (c-matrix file at) (c-event file at) in
@@ -120,13 +120,13 @@ module _ (file : List ℕ) (bytes : (i : ℕ) → getD file i 0 < 256) where
         let q = ap (λ x. gatesIn (boolCost x)) (r .1 .event) in
         omega arith
 
-    cell-bytes : (before at : ℕ) (x : Entry) (n : ℕ) → cellAt file E N (matricesOffset file) f before at ≡ item x n → entryGates x + gatesOfActionByte * at ≤ gatesOfActionByte * n + gatesOfEvent
+    cell-bytes : (before at : ℕ) (x : Entry) (n : ℕ) → cellAt file E N (matricesOffset file) f before at ≡ item x n → entryGates x + gatesOfByte * at ≤ gatesOfByte * n + gatesOfEvent
     cell-bytes before at x n e =
         let r = cell-reads file E N (matricesOffset file) f before at x n e in
         rw (r .past) (entry-bytes at x (r .entry))
 
     cells-bytes : (es : List Entry) (before at past : ℕ) → Cells file f before at es past
-        → gatesIn (moversCost bits (map cell (normals es))) + gatesIn (invalidCost (invalids es)) + gatesOfActionByte * at ≤ gatesOfActionByte * past + gatesOfEvent * length es
+        → gatesIn (moversCost bits (map cell (normals es))) + gatesIn (invalidCost (invalids es)) + gatesOfByte * at ≤ gatesOfByte * past + gatesOfEvent * length es
     unfolding moversCost invalidCost
     cells-bytes [] before at past r = omega arith
     cells-bytes (normal c ∷ xs) before at past r = let h = cell-bytes before at (normal c) (r .0) (r .1) in let k = cells-bytes xs at (r .0) past (r .2) in omega arith
@@ -155,7 +155,7 @@ module _ (file : List ℕ) (bytes : (i : ℕ) → getD file i 0 < 256) (d : Desi
   cheap : (m e : ℕ) → Cheap (eventIn (h .parts .rows) m e)
   cheap m e = event-cheap (getD (h .parts .rows) m []) e (row-cheap (h .parts .rows) m (rows-cheap file bytes (h .parts .rows) 0 (eventsOffset file) (cellsOffset file) (h .parts .row-run)))
 
-  cells-bound : gatesIn (moversCost (S d) (map cell (d .cells))) + gatesIn (invalidCost (d .invalid)) ≤ gatesOfActionByte * invariantOffset file + gatesOfEvent * maxCells
+  cells-bound : gatesIn (moversCost (S d) (map cell (d .cells))) + gatesIn (invalidCost (d .invalid)) ≤ gatesOfByte * invariantOffset file + gatesOfEvent * maxCells
   cells-bound =
       let c = cells-bytes file bytes (S d) S-bound (eventIn (h .parts .rows)) cheap (h .parts .entries) (cellsOffset file) (cellsOffset file) (invariantOffset file) (h .parts .cell-run) in
       let k : gatesOfEvent * length (h .parts .entries) ≤ gatesOfEvent * maxCells = omega (arith, h .parts .cell-count, h .cells) in

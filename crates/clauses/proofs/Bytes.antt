@@ -1,5 +1,4 @@
--- How many gates an expression or an action may have by the bytes it is read from: at most 80 a byte for an expression, and at most a
--- third of what S can be, or one more, a byte for an action.
+-- How many gates an expression or an action may have by the bytes it is read from: at most `gatesOfByte` a byte.
 use mathlib.Core.Path.{_≡_, refl, subst}
 use mathlib.Core.Bool.{Bool, true, false, cond, not}
 use mathlib.Core.List.{List, [], _∷_}
@@ -12,7 +11,7 @@ use Rattle.design.specs.Reading.{Read, got, bad, Reader, bind, provided, Line, 
 use Rattle.design.specs.Expression.{Names, IntOp, BoolOp, intOps, boolOps, intOp, boolOp, byte, word, legal, numbered, intOf, boolOf, intExpr, boolExpr}
 use Rattle.design.specs.Action.{StmtOp, stmtOp, value, assignment, statements, listOf, conditional, stmtOf, statement, list}
 use Rattle.clauses.specs.Cost.{gatesIn, intCost, boolCost, statementCost, statementsCost}
-use Rattle.clauses.specs.Limits.{gatesOfByte, gatesOfActionByte}
+use Rattle.clauses.specs.Limits.{gatesOfByte}
 
 -- what is read, and where it ends, are in this relation
 pub record Reads {A : Type 0} (I : A → ℕ → Type 0) (r : Read A) : Type 0 where
@@ -53,9 +52,10 @@ unfolding AllLines
 lookup-all P other [] b p h = p
 lookup-all P other (l ∷ ls) b p h = cond-all P (eqb b (l .code)) (l .means) (lookup other ls b) (h .0) (lookup-all P other ls b p (h .1))
 
--- an operator adds at most 80 gates
+-- an operator of two operands adds at most the gates of its own byte
 abbrev IntAdds : IntOp → Type 0
 IntAdds IntOp.op-constant = Unit {0}
+IntAdds IntOp.op-product = Unit {0}
 IntAdds (IntOp.op-variable next) = Unit {0}
 IntAdds (IntOp.op-status next) = Unit {0}
 IntAdds IntOp.op-unknown = Unit {0}
@@ -71,7 +71,7 @@ BoolAdds (BoolOp.op-ints f) = (a b : IntExpr) → gatesIn (boolCost (f a b)) ≤
 
 int-adds : (b : ℕ) → IntAdds (intOp b)
 unfolding intOp AllLines intCost
-int-adds b = lookup-all IntAdds IntOp.op-unknown intOps b tt (tt, (tt, (tt, ((λ x y. omega arith), ((λ x y. omega arith), (tt, (tt, tt)))))))
+int-adds b = lookup-all IntAdds IntOp.op-unknown intOps b tt (tt, (tt, (tt, ((λ x y. omega arith), ((λ x y. omega arith), (tt, (tt, (tt, tt))))))))
 
 bool-adds : (b : ℕ) → BoolAdds (boolOp b)
 unfolding boolOp AllLines boolCost
@@ -93,7 +93,7 @@ module _ (text : List ℕ) (names : Names) (end : ℕ) where
   reads-word : (at : ℕ) → Reads (λ b n. n ≡ at + 2) (word text names end at)
   reads-word at = reads-provided (leb (at + 2) end) _ (reads-got _ _ refl)
 
-  -- what follows an operator that stands at `at`
+  -- what follows an operator that stands at `at`; a product has three bytes for its gates
   intOf-bytes : (operand : Reader IntExpr) → ((at : ℕ) → Reads (IntBytes at) (operand at)) → (o : IntOp) → IntAdds o → (at n : ℕ) → n ≡ at + 1
       → Reads (IntBytes at) (intOf text names end operand o n)
   unfolding intCost
@@ -104,6 +104,10 @@ module _ (text : List ℕ) (names : Names) (end : ℕ) where
   intOf-bytes operand h (IntOp.op-status next) k at n e =
       reads-bind (byte text names end n) _ (reads-byte n) λ v m q.
       reads-provided (legal text names end next) _ (reads-provided (ltb v (names .matrices)) _ (reads-got _ _ (omega arith)))
+  intOf-bytes operand h IntOp.op-product k at n e =
+      reads-bind (word text names end n) _ (reads-word n) λ c m q.
+      reads-bind (operand m) _ (h m) λ a j r.
+      reads-got _ _ (omega arith)
   intOf-bytes operand h IntOp.op-unknown k at n e = reads-bad
   intOf-bytes operand h (IntOp.op-ints f) k at n e =
       reads-bind (operand n) _ (h n) λ a m q.
@@ -144,17 +148,17 @@ module _ (text : List ℕ) (names : Names) (end : ℕ) where
       reads-bind (byte text names end at) _ (reads-byte at) λ op n e.
       boolOf-bytes (intExpr text names end d) (int-bytes d) (boolExpr text names end d) (bool-bytes d) (boolOp op) (bool-adds op) at n e
 
-  -- with S state bits an if adds S gates, for three bytes
+  -- with S state bits an if adds S gates, for three bytes too
   module _ (bits : ℕ) (few : bits ≤ maxBits) where
     abbrev pub StmtBytes : ℕ → Stmt → ℕ → Type 0
-    StmtBytes at x n = gatesIn (statementCost x bits) + gatesOfActionByte * at ≤ gatesOfActionByte * n
+    StmtBytes at x n = gatesIn (statementCost x bits) + gatesOfByte * at ≤ gatesOfByte * n
 
     -- of statements, and of a list, which has a byte for their number
     abbrev pub StmtsBytes : ℕ → Stmts → ℕ → Type 0
-    StmtsBytes at x n = gatesIn (statementsCost x bits) + gatesOfActionByte * at ≤ gatesOfActionByte * n
+    StmtsBytes at x n = gatesIn (statementsCost x bits) + gatesOfByte * at ≤ gatesOfByte * n
 
     abbrev pub ListBytes : ℕ → Stmts → ℕ → Type 0
-    ListBytes at x n = gatesIn (statementsCost x bits) + gatesOfActionByte * (at + 1) ≤ gatesOfActionByte * n
+    ListBytes at x n = gatesIn (statementsCost x bits) + gatesOfByte * (at + 1) ≤ gatesOfByte * n
 
     value-bytes : (v : ℕ) (t : Bool) (at : ℕ) → Reads (StmtBytes at) (value text names end v t at)
     unfolding statementCost

@@ -1,23 +1,23 @@
 -- Every circuit has the gates of its cost, wherever its variables start.
 use mathlib.Core.Path.{_≡_, refl, sym, ap, ap₂, _∙_}
 use mathlib.Core.List.{List, [], _∷_, _++_, map}
-use Prim.Native.Nat.{ℕ, zero, suc, _+_, _*_}
+use Prim.Native.Nat.{ℕ, zero, suc, _+_, _*_, _/_, _%_}
 use native.Mathlib.Omega.{arith}
 use lib.ListN.{length, getD, set}
 use lib.Seq.{set-getD}
-use Rattle.design.specs.Tree.{IntExpr, BoolExpr, Stmt, Stmts, constant, variable, status, sum, difference, constantB, variableB, notB, andB, orB, equal, less, assign, assignB, ifElse, done, then, InvalidCell, Design, Mover, cell, raise, movers}
+use Rattle.design.specs.Tree.{IntExpr, BoolExpr, Stmt, Stmts, constant, variable, status, sum, difference, product, constantB, variableB, notB, andB, orB, equal, less, truth, assign, assignB, ifElse, done, then, InvalidCell, Design, Mover, cell, raise, movers}
 use Rattle.design.specs.State.{Layout, layout, statusSlot, statusWidth, widths}
 use Rattle.design.specs.WellFormed.{StmtOk, StmtsOk, MoverOk, MoversOk, WellFormed}
 use Rattle.step.specs.Property.{Property, invariant, noInvalidCell, constraint}
 use Rattle.clauses.specs.Literal.{Literal, negate, trueLiteral, falseLiteral}
 use Rattle.clauses.specs.Words.{words}
 use Rattle.clauses.specs.Gate.{Gate, and, xor, mux, gatesClauses}
-use Rattle.clauses.specs.Circuit.{Built, Build, give, _>>=_, and!, xor!, mux!, or!, Bits, sum!, difference!, negateTop, less!, xors!, chain!, equal! }
+use Rattle.clauses.specs.Circuit.{Built, Build, give, _>>=_, and!, xor!, mux!, or!, Bits, sum!, difference!, shift, addend, product!, negateTop, less!, xors!, chain!, equal! }
 use Rattle.clauses.specs.Expression.{Slots, constantBits, integerAt, int!, bool! }
 use Rattle.clauses.specs.Action.{muxBits!, muxes!, statement!, statements!, statusAndEvent!, enable!, effect!, mover!, movers!, noInvalid! }
 use Rattle.clauses.specs.Formula.{total, property!, stepProperty!, step!, S}
 use Rattle.clauses.specs.Cost.{Cost, cost, addCosts, gatesIn, clausesIn, wordsIn, intCost, boolCost, statementCost, statementsCost, statusAndEventCost, enableCost, effectCost, moverCost, moversCost, invalidCost, propertyCost, stepPropertyCost}
-use Rattle.clauses.proofs.Arithmetic.{length-negate, length-negateTop}
+use Rattle.clauses.proofs.Arithmetic.{length-negate, length-shift, length-addend, length-negateTop}
 use Rattle.clauses.proofs.Expressions.{length-pad, length-constant}
 use Rattle.clauses.proofs.Actions.{map-set, head-eq, tail-eq}
 
@@ -109,6 +109,17 @@ pub difference-costs : (w : ℕ) (xs ys : Bits) (n : ℕ) → length xs ≡ w �
 unfolding difference!
 difference-costs w xs ys n p q = sum-costs w xs (map negate ys) trueLiteral n p (length-negate ys ∙ q)
 
+-- whatever the constant, so many sums
+pub product-costs : (w left c : ℕ) (xs partial : Bits) (n : ℕ) → length xs ≡ w → length partial ≡ w
+    → Costs n (product! left c xs partial n) (cost (left * (3 * w)) (left * (2 * w))) (λ r. length r ≡ w)
+unfolding product!
+product-costs w zero c xs partial n p q = costs-same (omega arith) (omega arith) (costs-give _ q)
+product-costs w (suc left) c xs partial n p q =
+    let b = truth (c % 2) in
+    costs-same (omega arith) (omega arith) (
+    costs-bind _ _ (sum-costs w partial (addend b xs) falseLiteral n q (length-addend b xs ∙ p)) λ r k h.
+    product-costs w left (c / 2) (shift falseLiteral xs) (r .bits) k (length-shift falseLiteral xs ∙ p) h)
+
 pub less-costs : (w : ℕ) (xs ys : Bits) (n : ℕ) → length xs ≡ w → length ys ≡ w → Costs n (less! xs ys n) (cost (3 * w) (2 * w)) Any
 unfolding less!
 less-costs w xs ys n p q =
@@ -162,6 +173,8 @@ module _ (l : Layout) (s : Slots) where
       costs-bind _ _ (int-costs b k₁) λ y k₂ h₂.
       costs-bind _ _ (difference-costs 16 x y k₂ h₁ h₂) λ r k₃ h₃.
       costs-give _ h₃)
+  int-costs (product c a) n =
+      costs-bind _ _ (int-costs a n) λ x k h. product-costs 16 16 c x (constantBits 16 0) k h (length-constant 16 0)
 
   pub bool-costs : (e : BoolExpr) (n : ℕ) → Costs n (bool! l s e n) (boolCost e) Any
   unfolding bool! boolCost

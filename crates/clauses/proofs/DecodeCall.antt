@@ -9,27 +9,24 @@ use lib.ListN.{getD, length, take, drop}
 use lib.Dec.{leb}
 use borrow.Author.Tests.{le-leb, lt-leb}
 use Rattle.design.specs.Tree.{Design}
-use Rattle.design.specs.Check.{Checked, check, refusal}
-use Rattle.design.specs.Places.{Accepted}
-use Rattle.design.specs.declared.Refusal.{Refusal}
+use Rattle.design.specs.WellFormed.{WellFormed}
 use Rattle.design.proofs.WellFormed.{well-formed}
-use Rattle.design.proofs.Places.{Read as Tree, read}
-use Rattle.step.specs.Limits.{lastProperty, maxBound}
+use Rattle.design.proofs.Places.{read}
 use Rattle.step.specs.Property.{Property, propertyOf}
-use Rattle.step.specs.Gate.{gateRefusal}
-use Rattle.step.proofs.Gates.{in-range, gate-refuses}
 use Rattle.clauses.specs.Formula.{S, w, P, F, n, frame}
 use Rattle.clauses.specs.Cost.{gatesIn}
 use Rattle.design.specs.Answer.{Answer, refused, answer, need}
-use Rattle.clauses.specs.Decode.{justOne, firstOne, withChoice, flagValues, chosenFrom, choicesToWrite, written, decode}
+use Rattle.clauses.specs.Decode.{justOne, firstOne, withChoice, flagValues, chosenFrom, choicesOf, choicesToWrite, written, decode}
 use Rattle.clauses.specs.FrameSizes.{costIn, frameSizes, frameLength, variablesOf}
 use Rattle.clauses.specs.Chosen.{chosenIn, flagsFrom, firstBad, chosenList}
-use Rattle.clauses.specs.Replies.{DecodeExit, decodeExit, DECODE}
+use Rattle.clauses.specs.Replies.{admissionSizes, DecodeExit, decodeExit, DECODE}
 use Rattle.clauses.specs.declared.frame.FrameSizes.{FrameSizes}
+use Rattle.clauses.specs.declared.admission.Admission.the-variants as admission
 use Rattle.clauses.specs.declared.decode.DecodeReply.{DecodeReply}
 use Rattle.clauses.specs.declared.decode.DecodeReply.the-variants.{Refused, Done}
 use Rattle.clauses.proofs.Frames.{P-is}
 use Rattle.clauses.proofs.FrameNumbers.{length-is, variables-are}
+use Rattle.clauses.proofs.Admissions.{admission-refused, admission-admitted, admitted-in}
 
 -- the frames of a design, as the loops walk them
 module _ (d : Design) (p : Property) (values : List ℕ) where
@@ -105,88 +102,84 @@ pub frames-fit : (values : List ℕ) (s : FrameSizes) (k m size : ℕ) → m ≡
     → (1 + s .bits + gatesIn (costIn (s .property)) + k * size ≤ length values) × (s .movers ≤ size)
 frames-fit values s k m size q l e = let z : k * size ≡ k * frameLength s = ap (λ (i : ℕ). k * i) e in (omega arith, omega arith)
 
-module _ (file : List ℕ) (p k : ℕ) (values choices : List ℕ) where
+module _ (k : ℕ) (values choices : List ℕ) where
   abbrev exit : DecodeReply → List ℕ → DecodeExit
   exit r cs = record { reply = r; choices = cs }
 
-  -- a refusal, and an answer
-  refused-exit : (i j : ℕ) → choicesToWrite file p k values (length choices) ≡ refused i j → exit (Refused i j) choices ≡ DECODE file p k values choices
-  unfolding decode
-  refused-exit i j e = sym (ap (λ (x : Answer (List ℕ)). decodeExit (written x choices)) e)
+  -- the call of a design, past 19
+  module _ (d : Design) (q : Property) (wf : WellFormed d) (s : FrameSizes) (same : s ≡ frameSizes d q) where
+    abbrev asked : Answer (List ℕ)
+    asked = choicesOf d q k values (length choices)
 
-  answer-exit : (cs : List ℕ) → choicesToWrite file p k values (length choices) ≡ answer cs → length cs ≡ k
-      → exit Done (cs ++ drop k choices) ≡ DECODE file p k values choices
-  unfolding decode
-  answer-exit cs e l = ap (λ (i : ℕ). exit Done (cs ++ drop i choices)) (sym l) ∙ sym (ap (λ (x : Answer (List ℕ)). decodeExit (written x choices)) e)
+    abbrev exited : DecodeExit
+    exited = decodeExit (written asked choices)
 
-  pub decode-refused : (r : Refusal) → r ≡ gateRefusal file p k → (r .number ≡ 0 → ⊥)
-      → exit (Refused (r .number) (r .place)) choices ≡ DECODE file p k values choices
-  unfolding choicesToWrite
-  decode-refused r e z = refused-exit (r .number) (r .place) (gate-refuses file p k _ r e z)
+    -- a refusal, and an answer
+    refused-exit : (i j : ℕ) → asked ≡ refused i j → exit (Refused i j) choices ≡ exited
+    refused-exit i j e = sym (ap (λ (x : Answer (List ℕ)). decodeExit (written x choices)) e)
 
-  -- what DECODE says of a design, past 13 and 14
-  rest : Design → Property → Answer (List ℕ)
-  rest d q = need (leb (n d q k) (length values) && leb k (length choices)) 16 0 (chosenFrom d q values k 0)
+    answer-exit : (cs : List ℕ) → asked ≡ answer cs → length cs ≡ k → exit Done (cs ++ drop k choices) ≡ exited
+    answer-exit cs e l = ap (λ (i : ℕ). exit Done (cs ++ drop i choices)) (sym l) ∙ sym (ap (λ (x : Answer (List ℕ)). decodeExit (written x choices)) e)
 
-  module _ (h : Accepted file) where
-    tree : Tree file
-    tree = read file h
+    n-is : variablesOf s k ≡ n d q k
+    n-is = ap (λ (x : FrameSizes). variablesOf x k) same ∙ variables-are d wf q k
 
-    abbrev d : Design
-    d = tree .tree
+    pub short-values : (m : ℕ) → m ≡ variablesOf s k → length values < m → exit (Refused 16 0) choices ≡ exited
+    unfolding choicesOf
+    short-values m e l = refused-exit 16 0 (ap (λ (t : Bool). need (t && leb k (length choices)) 16 0 (chosenFrom d q values k 0)) (lt-leb (n d q k) (length values) (omega (arith, n-is))))
 
-    module _ (a : p ≤ lastProperty file) (b : k ≤ maxBound) (bytes : (i : ℕ) → getD file i 0 < 256) (s : FrameSizes) (f : (e : Design) → check file ≡ Checked.accepted e → s ≡ frameSizes e (propertyOf e p)) where
-      inner : choicesToWrite file p k values (length choices) ≡ need (leb (n d (propertyOf d p) k) (length values) && leb k (length choices)) 16 0 (chosenFrom d (propertyOf d p) values k 0)
-      unfolding choicesToWrite rest tree
-      inner = in-range file p k rest h a b
+    module _ (m : ℕ) (e : m ≡ variablesOf s k) (enough : m ≤ length values) where
+      wide-room : leb (n d q k) (length values) ≡ true
+      wide-room = le-leb (n d q k) (length values) (omega (arith, n-is))
 
-      same : s ≡ frameSizes d (propertyOf d p)
-      same = f d (tree .is)
+      pub short-choices : length choices < k → exit (Refused 16 0) choices ≡ exited
+      unfolding choicesOf
+      short-choices l = refused-exit 16 0 (ap₂ (λ (t u : Bool). need (t && u) 16 0 (chosenFrom d q values k 0)) wide-room (lt-leb k (length choices) l))
 
-      n-is : variablesOf s k ≡ n d (propertyOf d p) k
-      n-is = ap (λ (x : FrameSizes). variablesOf x k) same ∙ variables-are d (well-formed file bytes d (tree .is)) (propertyOf d p) k
+      module _ (fits : k ≤ length choices) (size base flags : ℕ) (sz : size ≡ frameLength s) (bs : base ≡ 1 + s .bits + gatesIn (costIn (s .property))) (fl : flags ≡ s .movers) where
+        deep : asked ≡ chosenFrom d q values k 0
+        unfolding choicesOf
+        deep = ap₂ (λ (t u : Bool). need (t && u) 16 0 (chosenFrom d q values k 0)) wide-room (le-leb k (length choices) fits)
 
-      pub short-values : (m : ℕ) → m ≡ variablesOf s k → length values < m → exit (Refused 16 0) choices ≡ DECODE file p k values choices
-      short-values m q l =
-          refused-exit 16 0 (inner ∙ ap (λ (t : Bool). need (t && leb k (length choices)) 16 0 (chosenFrom d (propertyOf d p) values k 0)) (lt-leb (n d (propertyOf d p) k) (length values) (omega (arith, n-is))))
+        size-is : size ≡ F d q
+        size-is = sz ∙ ap frameLength same ∙ length-is d wf q
 
-      module _ (m : ℕ) (q : m ≡ variablesOf s k) (enough : m ≤ length values) where
-        wide-room : leb (n d (propertyOf d p) k) (length values) ≡ true
-        wide-room = le-leb (n d (propertyOf d p) k) (length values) (omega (arith, n-is))
+        base-is : base ≡ frame d q 0 + S d + P d q - 1
+        unfolding frameSizes
+        base-is =
+            bs ∙ ap (λ (x : FrameSizes). 1 + x .bits + gatesIn (costIn (x .property))) same ∙ ap (λ (x : ℕ). 1 + S d + x) (sym (P-is d q))
+            ∙ sym (start-first d q values)
 
-        pub short-choices : length choices < k → exit (Refused 16 0) choices ≡ DECODE file p k values choices
-        short-choices l =
-            refused-exit 16 0 (inner ∙ ap₂ (λ (t u : Bool). need (t && u) 16 0 (chosenFrom d (propertyOf d p) values k 0)) wide-room (lt-leb k (length choices) l))
+        flags-is : flags ≡ w d
+        unfolding frameSizes
+        flags-is = fl ∙ ap (λ (x : FrameSizes). x .movers) same
 
-        module _ (fits : k ≤ length choices) (size base flags : ℕ) (sz : size ≡ frameLength s) (bs : base ≡ 1 + s .bits + gatesIn (costIn (s .property))) (fl : flags ≡ s .movers) where
-          deep : choicesToWrite file p k values (length choices) ≡ chosenFrom d (propertyOf d p) values k 0
-          deep = inner ∙ ap₂ (λ (t u : Bool). need (t && u) 16 0 (chosenFrom d (propertyOf d p) values k 0)) wide-room (le-leb k (length choices) fits)
+        bad-is : firstBad values size flags k base 0 ≡ firstBad values (F d q) (w d) k base 0
+        bad-is = ap₂ (λ (x y : ℕ). firstBad values x y k base 0) size-is flags-is
 
-          size-is : size ≡ F d (propertyOf d p)
-          size-is = sz ∙ ap frameLength same ∙ length-is d (well-formed file bytes d (tree .is)) (propertyOf d p)
+        pub bad-frame : (r : ℕ) → r ≡ firstBad values size flags k base 0 → r < k → exit (Refused 18 r) choices ≡ exited
+        bad-frame r e l =
+            let z : r ≡ firstBad values (F d q) (w d) k base 0 = e ∙ bad-is in
+            refused-exit 18 r (deep ∙ from-bad d q values k base 0 base-is (omega arith) ∙ ap (refused 18) (sym z))
 
-          base-is : base ≡ frame d (propertyOf d p) 0 + S d + P d (propertyOf d p) - 1
-          unfolding frameSizes
-          base-is =
-              bs ∙ ap (λ (x : FrameSizes). 1 + x .bits + gatesIn (costIn (x .property))) same ∙ ap (λ (x : ℕ). 1 + S d + x) (sym (P-is d (propertyOf d p)))
-              ∙ sym (start-first d (propertyOf d p) values)
+        pub good-frames : (r : ℕ) → r ≡ firstBad values size flags k base 0 → k ≤ r → (after : List ℕ) → after ≡ chosenList values size flags k base ++ drop k choices → exit Done after ≡ exited
+        good-frames r e l after c =
+            let z : r ≡ firstBad values (F d q) (w d) k base 0 = e ∙ bad-is in
+            let u : chosenList values size flags k base ≡ chosenList values (F d q) (w d) k base = ap₂ (λ (x y : ℕ). chosenList values x y k base) size-is flags-is in
+            ap (exit Done) (c ∙ ap (λ (xs : List ℕ). xs ++ drop k choices) u)
+            ∙ answer-exit (chosenList values (F d q) (w d) k base) (deep ∙ from-good d q values k base 0 base-is (omega arith)) (list-long values (F d q) (w d) k base)
 
-          flags-is : flags ≡ w d
-          unfolding frameSizes
-          flags-is = fl ∙ ap (λ (x : FrameSizes). x .movers) same
+  -- the call of a file
+  module _ (file : List ℕ) (p : ℕ) where
+    pub decode-refused : (number place : ℕ) → admission.Refused number place ≡ admissionSizes file p k → exit (Refused number place) choices ≡ DECODE file p k values choices
+    unfolding decode choicesToWrite
+    decode-refused number place e = sym (ap (λ (x : Answer (List ℕ)). decodeExit (written x choices)) (admission-refused file p k number place e _))
 
-          bad-is : firstBad values size flags k base 0 ≡ firstBad values (F d (propertyOf d p)) (w d) k base 0
-          bad-is = ap₂ (λ (x y : ℕ). firstBad values x y k base 0) size-is flags-is
-
-          pub bad-frame : (r : ℕ) → r ≡ firstBad values size flags k base 0 → r < k → exit (Refused 18 r) choices ≡ DECODE file p k values choices
-          bad-frame r e l =
-              let z : r ≡ firstBad values (F d (propertyOf d p)) (w d) k base 0 = e ∙ bad-is in
-              refused-exit 18 r (deep ∙ from-bad d (propertyOf d p) values k base 0 base-is (omega arith) ∙ ap (refused 18) (sym z))
-
-          pub good-frames : (r : ℕ) → r ≡ firstBad values size flags k base 0 → k ≤ r → (after : List ℕ)
-              → after ≡ chosenList values size flags k base ++ drop k choices → exit Done after ≡ DECODE file p k values choices
-          good-frames r e l after c =
-              let z : r ≡ firstBad values (F d (propertyOf d p)) (w d) k base 0 = e ∙ bad-is in
-              let u : chosenList values size flags k base ≡ chosenList values (F d (propertyOf d p)) (w d) k base = ap₂ (λ (x y : ℕ). chosenList values x y k base) size-is flags-is in
-              ap (exit Done) (c ∙ ap (λ (xs : List ℕ). xs ++ drop k choices) u)
-              ∙ answer-exit (chosenList values (F d (propertyOf d p)) (w d) k base) (deep ∙ from-good d (propertyOf d p) values k base 0 base-is (omega arith)) (list-long values (F d (propertyOf d p)) (w d) k base)
+    pub decode-passed : (s : FrameSizes) → admission.Passed s ≡ admissionSizes file p k → ((i : ℕ) → getD file i 0 < 256) → (x : DecodeExit)
+        → ((d : Design) (q : Property) → WellFormed d → s ≡ frameSizes d q → x ≡ decodeExit (written (choicesOf d q k values (length choices)) choices)) → x ≡ DECODE file p k values choices
+    unfolding decode choicesToWrite
+    decode-passed s e bytes x f =
+        let a = admission-admitted file p k s e bytes in
+        let t = read file (a .accepted) in
+        f (t .tree) (propertyOf (t .tree) p) (well-formed file bytes (t .tree) (t .is)) (a .sizes (t .tree) (t .is))
+        ∙ sym (ap (λ (y : Answer (List ℕ)). decodeExit (written y choices)) (admitted-in a bytes _ (t .tree) (t .is)))

@@ -12,6 +12,7 @@ use Rattle.step.specs.Gate.{gate}
 use Rattle.step.proofs.Properties.{property-ok}
 use Rattle.clauses.specs.Formula.{F, encoding}
 use Rattle.design.specs.Answer.{answer, onDesign}
+use Rattle.clauses.specs.Admission.{admit}
 use Rattle.clauses.specs.Size.{Sizes, sizesOf, size}
 use Rattle.clauses.specs.Theorem.{Model, Exactly}
 use Rattle.clauses.proofs.Counting.{breakers, models}
@@ -30,12 +31,12 @@ frame-A = refl
 
 -- "Bound 0: n=102, 295 clauses."
 pub size-A-0 : size bytesA 0 0 ≡ answer (sizesA 102 295 1038)
-unfolding bytesA checking encoding gate onDesign sizesOf size
+unfolding bytesA checking encoding gate admit onDesign sizesOf size
 size-A-0 = refl
 
 -- "Bound 3: n=1527, 5413 clauses."
 pub size-A-3 : size bytesA 0 3 ≡ answer (sizesA 1527 5413 20136)
-unfolding bytesA checking encoding gate onDesign sizesOf size
+unfolding bytesA checking encoding gate admit onDesign sizesOf size
 size-A-3 = refl
 
 -- "Bound 3 has 1 model; bound 4 has 9."

@@ -1,16 +1,18 @@
 -- Loops over words of sixteen literals. Assumes nothing.
-use Prim.Native.Nat.{ℕ, zero, suc, _+_, _<_, _≤_}
+use Prim.Native.Nat.{ℕ, zero, suc, _+_, _-_, _<_, _≤_}
 use mathlib.Core.Path.{_≡_, refl, sym, ap, ap₂, _∙_}
+use mathlib.Core.Bool.{false}
 use mathlib.Core.List.{List, [], _∷_, _++_, map}
 use native.Mathlib.Omega.{arith}
-use lib.ListN.{length, getD, take, drop, set, length-set}
+use lib.ListN.{length, getD, take, drop, set, replicate, length-set}
 use lib.IntN.{ℤ}
-use Rattle.clauses.specs.Literal.{Literal, negate, trueLiteral}
-use Rattle.clauses.specs.Circuit.{Build, give, _>>=_, and!, xor!, or!, Bits, Summed, sum!, difference!, negateTop, less!, xors!, chain!, equal! }
+use Rattle.design.specs.Tree.{truth}
+use Rattle.clauses.specs.Literal.{Literal, negate, trueLiteral, falseLiteral}
+use Rattle.clauses.specs.Circuit.{Build, give, _>>=_, and!, xor!, or!, Bits, Summed, sum!, difference!, shift, addend, negateTop, less!, xors!, chain!, equal! }
 use Rattle.clauses.specs.Writing.{fromCode, fromCodes, Emits}
 use Rattle.clauses.specs.Piece.{SumBit, sumBit! }
-use Rattle.clauses.proofs.EmitWords.{append-nil}
-use Rattle.clauses.proofs.EmitLists.{drop-one, drop-all, take-all, codes-more}
+use Rattle.clauses.proofs.EmitWords.{append-nil, code-no}
+use Rattle.clauses.proofs.EmitLists.{drop-one, drop-all, drop-none, take-all, codes-more}
 use Rattle.clauses.proofs.EmitBuilds.{emits-same, emits-result, emits-bind, emits-map, Left, left-start, left-on, left-map, left-same, left-result, left-end}
 
 pub bit-emits : (n : ℕ) (a b c p s u t k : Literal) {xs x1 x2 x3 x4 x5 : List ℤ} {c0 c1 c2 c3 c4 c5 v1 v2 v3 v4 v5 : ℕ}
@@ -158,6 +160,48 @@ negate-top (x ∷ []) zero s h e = ap (λ (l : Literal). l ∷ []) e
 negate-top (x ∷ []) (suc k) s h e = absurd (omega arith)
 negate-top (x ∷ y ∷ b) zero s h e = absurd (omega arith)
 negate-top (x ∷ y ∷ b) (suc k) s h e = ap (λ (r : Bits). fromCode x ∷ r) (negate-top (y ∷ b) k s (omega arith) e) ∙ refl
+
+-- a word shifted by a place: the last literal that was passed comes in below what is left
+pub record Shifting (x out : List ℕ) (i : ℕ) : Type 0 where
+  pub begun : 1 ≤ i
+  pub within : i ≤ 16
+  pub size : length out ≡ 16
+  pub same : fromCodes (take i out) ++ shift (fromCode (getD x (i - 1) 0)) (fromCodes (drop i x)) ≡ shift falseLiteral (fromCodes x)
+
+pub shifting-start : (x : List ℕ) → length x ≡ 16 → Shifting x (replicate 16 3) 1
+shifting-start [] h = absurd (omega arith)
+shifting-start (y ∷ x) h =
+    record { begun = omega arith; within = omega arith; size = refl; same = ap₂ (λ (a : Literal) (r : List ℕ). a ∷ shift (fromCode y) (fromCodes r)) code-no (drop-none x) }
+
+pub shifting-on : (x out : List ℕ) (i : ℕ) → length x ≡ 16 → i < 16 → Shifting x out i → Shifting x (set out i (getD x (i - 1) 0)) (i + 1)
+shifting-on x out i lx h l =
+    let last = getD x (i - 1) 0 in
+    record {
+      begun = omega arith;
+      within = omega arith;
+      size = length-set out i last ∙ l .size;
+      same = ap (λ (j : ℕ). fromCodes (take (i + 1) (set out i last)) ++ shift (fromCode (getD x j 0)) (fromCodes (drop (i + 1) x))) (let q : i + 1 - 1 ≡ i = omega arith in q)
+          ∙ sym (codes-more out i last (fromCode last) (shift (fromCode (getD x i 0)) (fromCodes (drop (i + 1) x))) (omega (arith, l .size)) refl)
+          ∙ ap (λ (r : List ℕ). fromCodes (take i out) ++ shift (fromCode last) (fromCodes r)) (sym (drop-one x i (omega arith))) ∙ l .same;
+    }
+
+pub shifting-end : (x out : List ℕ) (i : ℕ) → length x ≡ 16 → 16 ≤ i → Shifting x out i → fromCodes out ≡ shift falseLiteral (fromCodes x)
+shifting-end x out i lx h l =
+    sym (append-nil (fromCodes out)) ∙ ap₂ (λ (a b : List ℕ). fromCodes a ++ shift (fromCode (getD x (i - 1) 0)) (fromCodes b)) (sym (take-all out i (omega (arith, l .size)))) (sym (drop-all x i (omega arith))) ∙ l .same
+
+-- what a product adds, by a bit of the constant
+all-false : (x : List ℕ) (n : ℕ) → length x ≡ n → fromCodes (replicate n 3) ≡ addend false (fromCodes x)
+all-false [] zero h = refl
+all-false [] (suc n) h = absurd (omega arith)
+all-false (y ∷ x) zero h = absurd (omega arith)
+all-false (y ∷ x) (suc n) h = ap₂ (λ (a : Literal) (r : Bits). a ∷ r) code-no (all-false x n (omega arith))
+
+pub addend-no : (b : ℕ) (x : List ℕ) (n : ℕ) → length x ≡ n → b ≡ 0 → fromCodes (replicate n 3) ≡ addend (truth b) (fromCodes x)
+addend-no b x n h e = all-false x n h ∙ ap (λ (k : ℕ). addend (truth k) (fromCodes x)) (sym e)
+
+pub addend-yes : (b : ℕ) (xs : Bits) → (b ≡ 0 → ⊥) → xs ≡ addend (truth b) xs
+addend-yes zero xs h = absurd (h refl)
+addend-yes (suc b) xs h = refl
 
 -- the circuits that use the sum
 pub difference-emits : (n : ℕ) (a b b′ : Bits) (c : Literal) {xs ys : List ℤ} {cur : ℕ} {r : Summed} {cur′ v : ℕ} → b′ ≡ map negate b → c ≡ trueLiteral → Emits n (sum! a b′ c n) xs ys cur r cur′ v → Emits n (difference! a b n) xs ys cur r cur′ v

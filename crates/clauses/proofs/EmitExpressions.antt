@@ -1,7 +1,8 @@
 -- Gates of expressions: an operator after its operands, over the bytes. Assumes nothing.
-use Prim.Native.Nat.{ℕ, _+_, _-_, _*_, _<_, _≤_}
-use mathlib.Core.Path.{_≡_, refl, sym, ap, subst, _∙_}
+use Prim.Native.Nat.{ℕ, zero, suc, _+_, _-_, _*_, _/_, _%_, _<_, _≤_}
+use mathlib.Core.Path.{_≡_, refl, sym, ap, ap₂, subst, _∙_}
 use native.Mathlib.Omega.{arith}
+use native.Mathlib.Numerals.{unary-clauses}
 use mathlib.Core.Bool.{Bool, true, false, cond, not, _||_}
 use mathlib.Core.Logic.{_⊎_, ⊎-elim}
 use mathlib.Core.List.{List, []}
@@ -9,8 +10,9 @@ use lib.ListN.{length, getD}
 use lib.Dec.{eqb, ltb}
 use borrow.Author.Tests.{eq-eqb, ne-eqb}
 use lib.IntN.{ℤ}
-use Rattle.design.specs.Tree.{IntExpr, BoolExpr, constant, variable, status, sum, difference, constantB, variableB, notB, andB, orB, equal, less, truth}
+use Rattle.design.specs.Tree.{IntExpr, BoolExpr, constant, variable, status, sum, difference, product, constantB, variableB, notB, andB, orB, equal, less, truth}
 use Rattle.design.specs.Reading.{got, Reader}
+use Rattle.design.specs.DesignFile.{at16}
 use Rattle.design.specs.Expression.{Names, withLater, numbered, intExpr, boolExpr}
 use Rattle.design.specs.Check.{namesOf}
 use Rattle.design.specs.declared.shape.Shape.{Shape}
@@ -18,7 +20,7 @@ use Rattle.step.specs.Accepted.{isRead, past}
 use Rattle.step.proofs.Values.{integerByte, statusByte, booleanByte, arithmeticOf, logicOf, compareOf, int-forward, bool-forward}
 use Rattle.design.specs.State.{Layout, numberIn, statusSlot}
 use Rattle.clauses.specs.Literal.{Literal, negate, falseLiteral, literalOf}
-use Rattle.clauses.specs.Circuit.{Build, give, _>>=_, and!, or!, Bits, Summed, sum!, difference!, equal!, less! }
+use Rattle.clauses.specs.Circuit.{Build, give, _>>=_, and!, or!, Bits, Summed, sum!, difference!, shift, addend, product!, equal!, less! }
 use Rattle.clauses.specs.Expression.{Slots, constantBits, integerAt, booleanAt, int!, bool! }
 use Rattle.clauses.specs.Writing.{fromCodes, Emits}
 use Rattle.clauses.specs.Piece.{arithmetic!, logic!, compare! }
@@ -28,7 +30,7 @@ use Rattle.clauses.specs.declared.gate.Cursor.{Cursor}
 use Rattle.clauses.specs.declared.expression.IntOut.{IntOut}
 use Rattle.clauses.proofs.EmitBuilds.{emits-same, emits-result, emits-give, emits-bind, emits-map}
 use Rattle.clauses.proofs.EmitSlots.{slotted-for}
-use Rattle.clauses.proofs.EmitReads.{OneRead, TwoRead, Named, above, int-inside, bool-inside, read-constant, read-variable, read-status, names-slot, is-next-status, read-arithmetic, read-truth, read-flag, is-flag, read-not, read-logic, read-compare}
+use Rattle.clauses.proofs.EmitReads.{OneRead, TwoRead, Named, above, int-inside, bool-inside, read-constant, read-variable, read-status, names-slot, is-next-status, read-arithmetic, read-product, read-truth, read-flag, is-flag, read-not, read-logic, read-compare}
 
 -- by the operator byte
 plus-is : (op : ℕ) (x y : Bits) → op ≡ 0x04 → arithmetic! op x y ≡ (sum! x y falseLiteral >>= (λ (r : Summed). give (r .bits)))
@@ -45,6 +47,22 @@ sum-emits n op x y c e q w =
 
 pub minus-emits : (n op : ℕ) (x y : Bits) {xs ys : List ℤ} {cur : ℕ} {r : Summed} {cur′ v : ℕ} → (op ≡ 0x04 → ⊥) → Emits n (difference! x y n) xs ys cur r cur′ v → Emits n (arithmetic! op x y n) xs ys cur (r .bits) cur′ v
 minus-emits n op x y e w = emits-same _ _ (ap (λ (b : Build Bits). b n) (sym (minus-is op x y e))) (emits-map (difference! x y) (λ (r : Summed). r .bits) w)
+
+-- a product: no sum is left, or the first one and then the rest
+pub product-done : (n left c : ℕ) (x y : Bits) {xs : List ℤ} {cur : ℕ} → left ≡ 0 → Emits n (product! left c x y n) xs xs cur y cur n
+unfolding product!
+product-done n left c x y {xs} {cur} e = emits-same _ _ (ap (λ (k : ℕ). product! k c x y n) (sym e)) (emits-give n y xs cur)
+
+product-step : (left c : ℕ) (x y : Bits) → (left ≡ 0 → ⊥) → product! left c x y ≡ (sum! y (addend (truth (c % 2)) x) falseLiteral >>= (λ (r : Summed). product! (left - 1) (c / 2) (shift falseLiteral x) (r .bits)))
+unfolding product!
+product-step zero c x y h = absurd (h refl)
+product-step (suc left) c x y h = simp unary-clauses
+
+pub product-on : (n left c : ℕ) (x y a x′ : Bits) (z : Literal) {xs ys zs : List ℤ} {cur cur′ v cur″ v″ : ℕ} (r : Summed) {out : Bits} → (left ≡ 0 → ⊥) → a ≡ addend (truth (c % 2)) x → z ≡ falseLiteral → x′ ≡ shift falseLiteral x
+    → Emits n (sum! y a z n) xs ys cur r cur′ v → Emits v (product! (left - 1) (c / 2) x′ (r .bits) v) ys zs cur′ out cur″ v″ → Emits n (product! left c x y n) xs zs cur out cur″ v″
+product-on n left c x y a x′ z {v = v} r h ea ez ex w u =
+    emits-same _ _ (ap (λ (b : Build Bits). b n) (sym (product-step left c x y h)))
+    (emits-bind (sum! y (addend (truth (c % 2)) x) falseLiteral) _ (emits-same _ _ (ap₂ (λ (p : Bits) (q : Literal). sum! y p q n) ea ez) w) (emits-same _ _ (ap (λ (q : Bits). product! (left - 1) (c / 2) q (r .bits) v) ex) u))
 
 pub logic-and : (op : ℕ) (x y : Literal) (n : ℕ) → op ≡ 0x13 → logic! op x y n ≡ and! x y n
 unfolding logic!
@@ -81,12 +99,17 @@ two-reads p = record { tree = p .first; past = p .middle; reads = p .reads }
 pub two-then : {A B : Type 0} {one : Reader A} {f : A → A → B} {at : ℕ} {e : B} {k m : ℕ} (p : TwoRead one f at e k) → m ≡ p .middle → Reads (one m)
 two-then {one = one} {k = k} p q = record { tree = p .second; past = k; reads = ap one q ∙ p .then }
 
+-- one operand, then an operator
+module _ {A B R Q : Type 0} (one : Reader A) (f : A → B) (build : A → Build R) (build′ : B → Build Q) (g : R → Build Q) (law : (a : A) → build′ (f a) ≡ (build a >>= g)) {at : ℕ} {e : B} {k : ℕ} (p : OneRead one f at e k) where
+  pub then-emits : {n : ℕ} {xs ys zs : List ℤ} {cur : ℕ} {a : R} {c v m : ℕ} {r : Q} {c′ v′ : ℕ} → Wrote one build at n xs ys cur a c v m → Emits v (g a v) ys zs c r c′ v′ → Emits n (build′ e n) xs zs cur r c′ v′ × (m ≡ k)
+  then-emits {n = n} w u =
+      let h = w (p .first) k (p .reads) in
+      (emits-same _ _ (ap (λ (b : Build Q). b n) (sym (ap build′ (p .tree) ∙ law (p .first)))) (emits-bind (build (p .first)) g (h .0) u), h .1)
+
 -- one operand, then a value made of it
 module _ {A B R Q : Type 0} (one : Reader A) (f : A → B) (build : A → Build R) (build′ : B → Build Q) (g : R → Q) (law : (a : A) → build′ (f a) ≡ (build a >>= (λ x. give (g x)))) {at : ℕ} {e : B} {k : ℕ} (p : OneRead one f at e k) where
   pub one-emits : {n : ℕ} {xs ys : List ℤ} {cur : ℕ} {a : R} {c v m : ℕ} (r : Q) → Wrote one build at n xs ys cur a c v m → r ≡ g a → Emits n (build′ e n) xs ys cur r c v × (m ≡ k)
-  one-emits {n = n} r w q =
-      let h = w (p .first) k (p .reads) in
-      (emits-result r (sym q) (emits-same _ _ (ap (λ (b : Build Q). b n) (sym (ap build′ (p .tree) ∙ law (p .first)))) (emits-map (build (p .first)) g (h .0))), h .1)
+  one-emits {ys = ys} {a = a} {c = c} {v = v} r w q = then-emits one f build build′ (λ x. give (g x)) law p w (emits-result r (sym q) (emits-give v (g a) ys c))
 
 -- two operands, then an operator
 module _ {A B R Q : Type 0} (one : Reader A) (f : A → A → B) (build : A → Build R) (build′ : B → Build Q) (g : R → R → Build Q) (law : (a b : A) → build′ (f a b) ≡ (build a >>= (λ x. build b >>= g x))) {at : ℕ} {e : B} {k : ℕ} (p : TwoRead one f at e k) where
@@ -120,6 +143,10 @@ module _ (l : Layout) (s : Slots) where
       go : (t : Bool) → bool! l s (cond t equal less a b) ≡ (int! l s a >>= (λ (x : Bits). int! l s b >>= (λ (y : Bits). cond t (equal! x y) (less! x y))))
       go true = refl
       go false = refl
+
+  pub product-tree : (c : ℕ) (a : IntExpr) → int! l s (product c a) ≡ (int! l s a >>= (λ (x : Bits). product! 16 c x (constantBits 16 0)))
+  unfolding int!
+  product-tree c a = refl
 
   pub not-tree : (a : BoolExpr) → bool! l s (notB a) ≡ (bool! l s a >>= (λ (x : Literal). give (negate x)))
   unfolding bool!
@@ -176,16 +203,25 @@ pair-node inner outer f pair build build′ g law a b w1 w2 u = record {
       (k .0, u .1 ∙ k .1);
 }
 
--- the same with one operand
-abbrev pub Only : {A B : Type 0} → (ℕ → ℕ → Reader A) → (ℕ → ℕ → Reader B) → (A → B) → ℕ → Type 0
-Only {A} {B} inner outer f at = (end levels : ℕ) (e : B) (n : ℕ) → outer end levels at ≡ got e n → OneRead (inner end (levels - 1)) f (at + 1) e n
+-- the same with one operand, which starts at `from`
+abbrev pub Only : {A B : Type 0} → (ℕ → ℕ → Reader A) → (ℕ → ℕ → Reader B) → (A → B) → ℕ → ℕ → Type 0
+Only {A} {B} inner outer f at from = (end levels : ℕ) (e : B) (n : ℕ) → outer end levels at ≡ got e n → OneRead (inner end (levels - 1)) f from e n
 
-pub only-here : {A B : Type 0} {text : List ℕ} (inner : ℕ → ℕ → Reader A) (outer : ℕ → ℕ → Reader B) (f : A → B) {at : ℕ} → Only inner outer f at → Here text outer at → Here text inner (at + 1)
+pub only-here : {A B : Type 0} {text : List ℕ} (inner : ℕ → ℕ → Reader A) (outer : ℕ → ℕ → Reader B) (f : A → B) {at from : ℕ} → Only inner outer f at from → Here text outer at → Here text inner from
 only-here inner outer f one h = record { end = h .end; levels = h .levels - 1; inside = h .inside; read = one-reads (one (h .end) (h .levels) _ _ (h .read .reads)) }
 
-pub only-node : {A B R Q : Type 0} {text : List ℕ} (inner : ℕ → ℕ → Reader A) (outer : ℕ → ℕ → Reader B) (f : A → B) {at : ℕ} → Only inner outer f at
+pub then-node : {A B R Q : Type 0} {text : List ℕ} (inner : ℕ → ℕ → Reader A) (outer : ℕ → ℕ → Reader B) (f : A → B) {at from : ℕ} → Only inner outer f at from
+    → (build : A → Build R) (build′ : B → Build Q) (g : R → Build Q) → ((a : A) → build′ (f a) ≡ (build a >>= g))
+    → {pen p1 p2 : Cursor} {x0 x1 x2 : List ℤ} (a : R) {r : Q} {m1 m2 : ℕ} → Encodes text inner build from pen x0 x1 a p1 m1 → Writes p1 (g a) x1 x2 r p2 × (m2 ≡ m1) → Encodes text outer build′ at pen x0 x2 r p2 m2
+then-node inner outer f one build build′ g law a w u = record {
+  encodes = λ end levels t n i h.
+      let k = then-emits (inner end (levels - 1)) f build build′ g law (one end levels t n h) (λ e m q. w .encodes end (levels - 1) e m i q) (u .0) in
+      (k .0, u .1 ∙ k .1);
+}
+
+pub only-node : {A B R Q : Type 0} {text : List ℕ} (inner : ℕ → ℕ → Reader A) (outer : ℕ → ℕ → Reader B) (f : A → B) {at from : ℕ} → Only inner outer f at from
     → (build : A → Build R) (build′ : B → Build Q) (g : R → Q) → ((a : A) → build′ (f a) ≡ (build a >>= (λ x. give (g x))))
-    → {pen p1 : Cursor} {xs ys : List ℤ} (a : R) {m : ℕ} (r : Q) → Encodes text inner build (at + 1) pen xs ys a p1 m → r ≡ g a → Encodes text outer build′ at pen xs ys r p1 m
+    → {pen p1 : Cursor} {xs ys : List ℤ} (a : R) {m : ℕ} (r : Q) → Encodes text inner build from pen xs ys a p1 m → r ≡ g a → Encodes text outer build′ at pen xs ys r p1 m
 only-node inner outer f one build build′ g law a r w q = record {
   encodes = λ end levels t n i h. one-emits (inner end (levels - 1)) f build build′ g law (one end levels t n h) r (λ e m k. w .encodes end (levels - 1) e m i k) q;
 }
@@ -197,6 +233,12 @@ int-outs {text = text} {reader = reader} {build = build} {at = at} {pen = pen} {
     subst (λ (l : List ℕ). Encodes text reader build at pen xs ys (fromCodes l) (r .pen) (r .next)) (sym a)
     (subst (λ (p : Cursor). Encodes text reader build at pen xs ys (fromCodes lits) p (r .next)) (sym b)
     (subst (λ (n : ℕ). Encodes text reader build at pen xs ys (fromCodes lits) after n) (sym c) w))
+
+-- what goes on from a value that is handed on by its parts
+pub from-parts : (build : Bits → Build Bits) {xs ys : List ℤ} {out : Bits} {after : Cursor} {m : ℕ} (s : IntOut) {lits : List ℕ} {pen : Cursor} {next : ℕ}
+    → (s .lits ≡ lits) × (s .pen ≡ pen) × (s .next ≡ next) → Writes (s .pen) (build (fromCodes (s .lits))) xs ys out after × (m ≡ s .next) → Writes pen (build (fromCodes lits)) xs ys out after × (m ≡ next)
+from-parts build {xs = xs} {ys = ys} {out = out} {after = after} s {lits} {pen} {next} (a, b, c) (w, q) =
+    (subst (λ (l : List ℕ). Writes pen (build (fromCodes l)) xs ys out after) a (subst (λ (p : Cursor). Writes p (build (fromCodes (s .lits))) xs ys out after) b w), q ∙ c)
 
 -- the number of a slot that the text names
 numbered-is : (text file : List ℕ) (shape : Shape) (later : Bool) (end : ℕ) (next : Bool) (i : ℕ) → numbered text (withLater later (namesOf file shape)) end next i ≡ numberIn (layoutOf shape) next i
@@ -217,6 +259,9 @@ module _ (text file : List ℕ) (shape : Shape) (later : Bool) (at : ℕ) where
   pub arithmetic-pair : 4 ≤ op → op ≤ 5 → (end levels : ℕ) (e : IntExpr) (n : ℕ) → intExpr text N end levels at ≡ got e n → TwoRead (intExpr text N end (levels - 1)) (arithmeticOf op) (at + 1) e n
   arithmetic-pair l u end levels e n h = read-arithmetic text N end levels at e n h l (omega arith)
 
+  pub product-one : op ≡ 8 → (end levels : ℕ) (e : IntExpr) (n : ℕ) → intExpr text N end levels at ≡ got e n → OneRead (intExpr text N end (levels - 1)) (product (at16 text (at + 1))) (at + 3) e n
+  product-one q end levels e n h = read-product text N end levels at e n h q .1
+
   pub logic-pair : 0x12 ≤ op → (op ≡ 0x12 → ⊥) → op < 0x15 → (end levels : ℕ) (e : BoolExpr) (n : ℕ) → boolExpr text N end levels at ≡ got e n → TwoRead (boolExpr text N end (levels - 1)) (logicOf op) (at + 1) e n
   logic-pair l z u end levels e n h = read-logic text N end levels at e n h (above op 0x12 z l) u
 
@@ -233,17 +278,20 @@ module _ (text file : List ℕ) (shape : Shape) (later : Bool) (at : ℕ) where
     pub constant-here : op ≡ 1 → at + 3 ≤ length text
     constant-here q = omega (arith, read-constant text N (h .end) (h .levels) at _ _ (h .read .reads) q .0, h .inside)
 
-    module _ (s : (op < 4) ⊎ (5 < op)) (z : op ≡ 1 → ⊥) where
+    pub product-here : op ≡ 8 → at + 3 ≤ length text
+    product-here q = omega (arith, read-product text N (h .end) (h .levels) at _ _ (h .read .reads) q .0, h .inside)
+
+    module _ (s : (op < 4) ⊎ (5 < op)) (p : op ≡ 8 → ⊥) (z : op ≡ 1 → ⊥) where
       pub slot-here : at + 2 ≤ length text
       slot-here =
-          let (next, k) = names-slot text N (h .end) (h .levels) at _ _ (h .read .reads) s z in
+          let (next, k) = names-slot text N (h .end) (h .levels) at _ _ (h .read .reads) s p z in
           ⊎-elim
           (λ q. omega (arith, read-variable text N (h .end) (h .levels) at _ _ (h .read .reads) next q .0 .inside, h .inside))
           (λ q. omega (arith, read-status text N (h .end) (h .levels) at _ _ (h .read .reads) next q .0 .inside, h .inside))
           k
 
       pub status-is : (op ≡ 2 → ⊥) → (op ≡ 3 → ⊥) → (op ≡ 6 → ⊥) → op ≡ 7
-      status-is = is-next-status text N (h .end) (h .levels) at _ _ (h .read .reads) s z
+      status-is = is-next-status text N (h .end) (h .levels) at _ _ (h .read .reads) s p z
 
     -- what the loaders ask for
     module _ (next : Bool) {codes : List ℕ} (slots : Slotted later file shape codes) (v : ℕ) (e : v ≡ ix) where
@@ -284,11 +332,19 @@ module _ (text file : List ℕ) (shape : Shape) (later : Bool) (at : ℕ) where
   pub bools-ahead : (end levels j : ℕ) (e : BoolExpr) (n : ℕ) → boolExpr text N end levels j ≡ got e n → j ≤ n
   bools-ahead end levels j e n h = bool-forward text N end levels j n (ap isRead h) (sym (ap past h))
 
-  -- leaves: nothing is written
   module _ (codes : List ℕ) where
     abbrev SL : Slots
     SL = readSlots later file shape codes
 
+    -- a product: c is its constant as the code reads it, z what the sums start from
+    pub product-node : op ≡ 8 → (c : ℕ) (z : Bits) → c ≡ at16 text (at + 1) → z ≡ constantBits 16 0 → {pen p1 p2 : Cursor} {x0 x1 x2 : List ℤ} (a : Bits) {r : Bits} {m1 m2 : ℕ}
+        → Encodes text (intsAt text file shape later) (int! (layoutOf shape) SL) (at + 3) pen x0 x1 a p1 m1 → Writes p1 (product! 16 c a z) x1 x2 r p2 × (m2 ≡ m1)
+        → Encodes text (intsAt text file shape later) (int! (layoutOf shape) SL) at pen x0 x2 r p2 m2
+    product-node q c z ec ez {p1 = p1} a w (u, e) =
+        then-node (intsAt text file shape later) (intsAt text file shape later) (product (at16 text (at + 1))) (product-one q) (int! (layoutOf shape) SL) (int! (layoutOf shape) SL)
+        (λ (x : Bits). product! 16 (at16 text (at + 1)) x (constantBits 16 0)) (product-tree (layoutOf shape) SL _) a w (emits-same _ _ (ap₂ (λ (k : ℕ) (y : Bits). product! 16 k a y (p1 .var)) ec ez) u, e)
+
+    -- leaves: nothing is written
     pub constant-leaf : {pen : Cursor} {xs : List ℤ} {out : Bits} {next x : ℕ} → op ≡ 1 → x ≡ ix + 256 * getD text (at + 1 + 1) 0 → out ≡ constantBits 16 x → next ≡ at + 3
         → Encodes text (intsAt text file shape later) (int! (layoutOf shape) SL) at pen xs xs out pen next
     constant-leaf q ex o l = record {

@@ -2,9 +2,8 @@
 use mathlib.Core.Path.{_≡_, refl, sym, ap, subst, _∙_}
 use mathlib.Core.Bool.{Bool, cond}
 use mathlib.Core.List.{List, [], _∷_, _++_, map}
-use Prim.Native.Nat.{ℕ, zero, suc, _+_, _-_, _*_, _^_, _<_, _≤_}
+use Prim.Native.Nat.{ℕ, zero, suc, _+_, _-_, _*_, _<_, _≤_}
 use native.Mathlib.Omega.{arith}
-use native.Mathlib.Nat.{mul-le-mul}
 use native.Mathlib.Numerals.{add-one}
 use lib.ListN.{length, getD, take}
 use lib.IntN.{ℤ}
@@ -12,7 +11,7 @@ use borrow.Author.Tests.{le-leb, lt-leb, le-ltb, lt-ltb}
 use Rattle.step.specs.Property.{Property, propertyOf}
 use Rattle.design.specs.Tree.{Design, movers}
 use Rattle.design.specs.Check.{Checked, check}
-use Rattle.design.specs.Places.{Accepted, EventsIndexed, CellsIndexed, Measured, externalsFrom}
+use Rattle.design.specs.Places.{EventsIndexed, CellsIndexed, Measured, externalsFrom}
 use Rattle.design.specs.WellFormed.{WellFormed}
 use Rattle.design.proofs.WellFormed.{well-formed}
 use Rattle.design.specs.Sections.{Parts}
@@ -26,16 +25,16 @@ use Rattle.clauses.specs.Words.{clauseWords, words}
 use Rattle.clauses.specs.Expression.{Slots}
 use Rattle.clauses.specs.Action.{movers! }
 use Rattle.clauses.specs.Formula.{variablesFrom, flat, pairs, allTies, S, w, P, G, F, n, property!, stepProperty!, stateAt, frame, firstPart, propertyClauses, stepClauses, framePart, lastClause, part, partsFrom, formula}
-use Rattle.clauses.specs.Limits.{frameLimit}
+use Rattle.clauses.specs.Limits.{lastVariable}
 use Rattle.clauses.specs.Writing.{variableLimit, fromCodes, Puts, Emits}
 use Rattle.clauses.specs.FlatState.{slotsOf, layoutOf}
-use Rattle.clauses.specs.FrameSizes.{frameSizes, SmallFrame, frameLength}
-use Rattle.clauses.specs.Ready.{FrameReady, resultFrom}
-use Rattle.step.specs.Limits.{maxBound}
+use Rattle.clauses.specs.FrameSizes.{frameSizes, frameLength}
+use Rattle.clauses.specs.Ready.{FormulaReady, Admitted, resultFrom}
+use Rattle.clauses.specs.declared.instance.Instance.{Instance}
 use Rattle.clauses.specs.declared.frame.FrameSizes.{FrameSizes}
 use Rattle.clauses.proofs.Frames.{P-is, G-is}
 use Rattle.clauses.proofs.Within.{frame-suc, last-past}
-use Rattle.clauses.proofs.Limits.{small-of-file}
+use Rattle.clauses.proofs.FrameNumbers.{small-numbers}
 use Rattle.clauses.proofs.EmitWords.{append-nil, puts-same, words-append}
 use Rattle.clauses.proofs.EmitSteps.{layout-is}
 use Rattle.clauses.proofs.EmitClauses.{PutsLeft, puts-start, puts-on, puts-end}
@@ -63,14 +62,16 @@ unfolding frame F
 frame-starts d p s wf e j = ap (λ (k : ℕ). 2 + j * k) (numbers d p s wf e .length)
 
 -- where frame j starts, as a product of machine numbers
-pub start-is : (s : FrameSizes) → SmallFrame s → (j l t : ℕ) → j ≤ maxBound → l ≡ frameLength s → t ≡ j * l → (t ≡ j * frameLength s) × (t ≤ maxBound * frameLimit)
-start-is s h j l t few e q =
-    let z : t ≡ j * frameLength s = q ∙ ap (λ (k : ℕ). j * k) e in
-    let f : frameLength s ≤ frameLimit = omega (arith, h .bits, h .movers, h .gates) in
-    let m : j * frameLength s ≤ maxBound * frameLimit = mul-le-mul few f in
-    (z, omega arith)
+pub start-is : (s : FrameSizes) (j l t : ℕ) → l ≡ frameLength s → t ≡ j * l → t ≡ j * frameLength s
+start-is s j l t e q = q ∙ ap (λ (k : ℕ). j * k) e
 
-module _ {file events cells : List ℕ} {shape : Shape} {s : FrameSizes} (h : FrameReady file events cells shape s) where
+module _ {file events cells : List ℕ} {z : Instance} (h : FormulaReady file events cells z) where
+  abbrev s : FrameSizes
+  s = z .sizes
+
+  abbrev shape : Shape
+  shape = z .shape
+
   -- the step out of the frame at v
   pub step-written : (p v flags after var all bits : ℕ) (codes firsts : List ℕ) {x0 x1 x2 x3 x4 x5 : List ℤ} {c0 c1 c2 c3 c4 c5 u u′ : ℕ} {out : Literal}
       → all ≡ s .movers → bits ≡ s .bits → flags ≡ v + (s .bits + s .property .ands + s .property .wides) → after ≡ v + frameLength s → var ≡ flags + all → length firsts ≡ maxMovers
@@ -80,13 +81,13 @@ module _ {file events cells : List ℕ} {shape : Shape} {s : FrameSizes} (h : Fr
       → ((d : Design) (w : Parts file d) → v + S d ≤ variableLimit → after + S d ≤ variableLimit → Emits u (stepProperty! d (propertyOf d p) (stateAt d v) (stateAt d after) u) x3 x4 c3 out c4 u′)
       → (flags + all ≤ variableLimit → after + bits ≤ variableLimit → ((k : ℕ) → k < all → getD firsts k 0 + bits ≤ variableLimit) → (R : ℕ → Slots) → ((v : ℕ) → flat (R v) ≡ variablesFrom v bits)
       → Puts (words (allTies (variablesFrom flags all) (map R (take all firsts)) (variablesFrom after bits))) x4 x5 c4 c5)
-      → (d : Design) (j : ℕ) → check file ≡ Checked.accepted d → s ≡ frameSizes d (propertyOf d p) → j < maxBound → v ≡ frame d (propertyOf d p) j → slotsOf file shape codes ≡ stateAt d v → Puts (words (stepClauses d (propertyOf d p) j)) x0 x5 c0 c5
+      → (d : Design) (j : ℕ) → check file ≡ Checked.accepted d → s ≡ frameSizes d (propertyOf d p) → j < z .bound → v ≡ frame d (propertyOf d p) j → slotsOf file shape codes ≡ stateAt d v → Puts (words (stepClauses d (propertyOf d p) j)) x0 x5 c0 c5
   unfolding w
   step-written p v flags after var all bits codes firsts {x0} {x1} {x2} {x3} {x4} {x5} {c0} {c1} {c2} {c3} {c4} {c5} {u} {u′} {out} ea eb ef et ev long any prs gates more ties d j ok es low at state =
       let wf = well-formed file (h .bytes) d ok in
       let ps = whole file d ok .parts in
       let N = numbers d (propertyOf d p) s wf es in
-      let few = small-of-file file (h .bytes) d ok p (suc j) (omega arith) .variables in
+      let few = small-numbers d wf (propertyOf d p) (h .small) es (suc j) low in
       let q : all ≡ w d = ea ∙ N .movers in
       let r : bits ≡ S d = eb ∙ N .bits in
       let fl : flags ≡ frame d (propertyOf d p) j + S d + P d (propertyOf d p) = omega (arith, N .bits, N .property) in
@@ -107,7 +108,7 @@ module _ {file events cells : List ℕ} {shape : Shape} {s : FrameSizes} (h : Fr
       R (λ x. result-bits (h .ready .shaped) d ps x ∙ ap (variablesFrom x) (sym r)))))
 
   -- the state's literals of frame j, and its property's gates
-  module _ (p j v bits : ℕ) (codes : List ℕ) (ev : v ≡ 2 + j * frameLength s) (eb : bits ≡ s .bits) (few : j ≤ maxBound) (long : length codes ≡ maxBits)
+  module _ (p j v bits : ℕ) (codes : List ℕ) (ev : v ≡ 2 + j * frameLength s) (eb : bits ≡ s .bits) (few : j ≤ z .bound) (long : length codes ≡ maxBits)
       (vars : v + bits ≤ variableLimit → take bits (fromCodes codes) ≡ variablesFrom v bits) (d : Design) (ok : check file ≡ Checked.accepted d) (es : s ≡ frameSizes d (propertyOf d p)) where
     wf : WellFormed d
     wf = well-formed file (h .bytes) d ok
@@ -115,8 +116,8 @@ module _ {file events cells : List ℕ} {shape : Shape} {s : FrameSizes} (h : Fr
     pub frame-at : v ≡ frame d (propertyOf d p) j
     frame-at = ev ∙ frame-starts d (propertyOf d p) s wf es j
 
-    low : n d (propertyOf d p) j < 2 ^ 31
-    low = small-of-file file (h .bytes) d ok p j few .variables
+    low : n d (propertyOf d p) j ≤ lastVariable
+    low = small-numbers d wf (propertyOf d p) (h .small) es j few
 
     pub state-at : slotsOf file shape codes ≡ stateAt d v
     state-at =
@@ -130,7 +131,7 @@ module _ {file events cells : List ℕ} {shape : Shape} {s : FrameSizes} (h : Fr
         property-puts d (propertyOf d p) j var (slotsOf file shape codes) low (state-at ∙ ap (stateAt d) frame-at) (omega (arith, numbers d (propertyOf d p) s wf es .bits, frame-at)) (gates d (whole file d ok .parts))
 
   pub step-state : (p v bits : ℕ) (codes : List ℕ) → bits ≡ s .bits → length codes ≡ maxBits → (v + bits ≤ variableLimit → take bits (fromCodes codes) ≡ variablesFrom v bits)
-      → (d : Design) (j : ℕ) → check file ≡ Checked.accepted d → s ≡ frameSizes d (propertyOf d p) → j < maxBound → v ≡ frame d (propertyOf d p) j → slotsOf file shape codes ≡ stateAt d v
+      → (d : Design) (j : ℕ) → check file ≡ Checked.accepted d → s ≡ frameSizes d (propertyOf d p) → j < z .bound → v ≡ frame d (propertyOf d p) j → slotsOf file shape codes ≡ stateAt d v
   step-state p v bits codes eb long vars d j ok es low at =
       state-at p j v bits codes (at ∙ sym (frame-starts d (propertyOf d p) s (well-formed file (h .bytes) d ok) es j)) eb (omega arith) long vars d ok es
 
@@ -163,18 +164,16 @@ module _ (d : Design) (p : Property) (k : ℕ) where
   last-is zero l = absurd (omega arith)
   last-is (suc j) l = sym (ap (λ (t : Bool). cond t (framePart d p k j) (lastClause d p k ∷ [])) (lt-leb j k (let q : k < j = omega arith in q)))
 
-module _ {file events cells : List ℕ} {shape : Shape} {s : FrameSizes} (h : FrameReady file events cells shape s) (p k i : ℕ)
-    {xs ys : List ℤ} {cur c : ℕ} (d : Design) (ok : check file ≡ Checked.accepted d) (es : s ≡ frameSizes d (propertyOf d p)) where
+module _ (file : List ℕ) (s : FrameSizes) (p k i : ℕ) {xs ys : List ℤ} {cur c : ℕ} (d : Design) (ok : check file ≡ Checked.accepted d) (es : s ≡ frameSizes d (propertyOf d p)) where
   pub first-part : i ≡ 0 → ((d : Design) (w : Parts file d) (q : Property) → Puts (words (firstPart d q)) xs ys cur c) → Puts (words (part d (propertyOf d p) k i)) xs ys cur c
   first-part e f = puts-same (ap words (first-is d (propertyOf d p) k i e)) (f d (whole file d ok .parts) (propertyOf d p))
 
   pub frame-part : (i ≡ 0 → ⊥) → i ≤ k + 1 → ((d : Design) → check file ≡ Checked.accepted d → s ≡ frameSizes d (propertyOf d p) → Puts (words (framePart d (propertyOf d p) k (i - 1))) xs ys cur c) → Puts (words (part d (propertyOf d p) k i)) xs ys cur c
   frame-part z l f = puts-same (ap words (frame-is d (propertyOf d p) k i z l)) (f d ok es)
 
-  pub last-part : k ≤ maxBound → k + 1 < i
-      → ((d : Design) → check file ≡ Checked.accepted d → s ≡ frameSizes d (propertyOf d p) → n d (propertyOf d p) k < variableLimit → Puts (words (lastClause d (propertyOf d p) k ∷ [])) xs ys cur c)
+  pub last-part : k + 1 < i → ((d : Design) → check file ≡ Checked.accepted d → s ≡ frameSizes d (propertyOf d p) → Puts (words (lastClause d (propertyOf d p) k ∷ [])) xs ys cur c)
       → Puts (words (part d (propertyOf d p) k i)) xs ys cur c
-  last-part few l f = puts-same (ap words (last-is d (propertyOf d p) k i l)) (f d ok es (omega (arith, small-of-file file (h .bytes) d ok p k few .variables)))
+  last-part l f = puts-same (ap words (last-is d (propertyOf d p) k i l)) (f d ok es)
 
 -- All parts, one after the other.
 module _ (file : List ℕ) (s : FrameSizes) (p k : ℕ) (xs₀ : List ℤ) where
@@ -210,17 +209,18 @@ module _ (file : List ℕ) (s : FrameSizes) (p k : ℕ) (xs₀ : List ℤ) where
   parts-end {i = i} l g d ok es = puts-end (ap (λ (j : ℕ). words (partsFrom d (propertyOf d p) k j i)) (let q : k + 3 - i ≡ 0 = omega arith in q)) (g .left d ok es)
 
 -- what the writer of parts is given, from the tables that were made
-pub frame-ready : {file events cells : List ℕ} {shape : Shape} (p count : ℕ) (s : FrameSizes) → Accepted file → ((i : ℕ) → getD file i 0 < 256) → EventsIndexed file events → CellsIndexed file cells count → SmallFrame s
-    → ((d : Design) → check file ≡ Checked.accepted d → s ≡ frameSizes d (propertyOf d p)) → Measured file count shape → FrameReady file events cells shape s
+pub formula-ready : {file events cells : List ℕ} {shape : Shape} {p k : ℕ} {s : FrameSizes} (count : ℕ) → Admitted file p k s → ((i : ℕ) → getD file i 0 < 256)
+    → EventsIndexed file events → CellsIndexed file cells count → Measured file count shape → FormulaReady file events cells (record { shape = shape; sizes = s; property = p; bound = k })
 unfolding w
-frame-ready {file} {events} {cells} {shape} p count s h bytes ei ci small sizes m =
+formula-ready {file} {events} {cells} {shape} {p} {k} {s} count a bytes ei ci m =
+    let h = a .accepted in
     let t = read file h in
-    let N = numbers (t .tree) (propertyOf (t .tree) p) s (well-formed file bytes (t .tree) (t .is)) (sizes (t .tree) (t .is)) in
+    let N = numbers (t .tree) (propertyOf (t .tree) p) s (well-formed file bytes (t .tree) (t .is)) (a .sizes (t .tree) (t .is)) in
     let raised = m .externals ∙ ap (λ (n : ℕ). length (externalsFrom file 0 n)) (m .shaped .variables) in
     record {
       ready = record { shaped = record { accepted = h; counts = m .shaped; externals = m .externals; bits = m .bits }; events = ei };
       bytes = bytes;
       normals = subst (CellsIndexed file cells) (sym (m .normals)) ci;
-      small = small;
+      small = a .small;
       movers = omega (arith, N .movers, mover-count file (t .tree) (t .all .parts), ci .count, m .normals, raised);
     }

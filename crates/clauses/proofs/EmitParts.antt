@@ -4,6 +4,7 @@ use mathlib.Core.Path.{_≡_, refl, sym, ap, ap₂, subst, _∙_}
 use mathlib.Core.Bool.{cond, _&&_, _||_}
 use mathlib.Core.List.{List, [], _∷_, _++_, map, append-assoc}
 use native.Mathlib.Omega.{arith}
+use native.Mathlib.Nat.{le-refl, suc-mul}
 use native.Mathlib.Numerals.{add-one}
 use lib.Dec.{leb, eqb}
 use lib.ListN.{length, getD, drop, take, replicate, length-map}
@@ -29,18 +30,18 @@ use Rattle.clauses.specs.Words.{wordOf, clauseWords, words}
 use Rattle.clauses.specs.Circuit.{Bits}
 use Rattle.clauses.specs.Expression.{Slots}
 use Rattle.clauses.specs.Formula.{total, variablesFrom, slotsFrom, unitsOf, initialUnits, S, stateAt, property!, stepProperty!, propertyAt, stepAt, stepPropertyAt, P, F, frame, n, firstPart, propertyLiteral, framesTaken, stepPropertyIn, propertyLiteralIn, negatedFrom, lastClause}
-use Rattle.clauses.specs.Limits.{frameLimit}
+use Rattle.clauses.specs.Limits.{lastVariable}
 use Rattle.clauses.specs.Writing.{fromCode, fromCodes, gateWords, variableLimit, Puts, Emits}
 use Rattle.clauses.specs.FlatState.{widthsFrom, slotsOf}
 use Rattle.clauses.specs.Cost.{gatesIn, stepPropertyCost, stepCost}
 use Rattle.clauses.specs.FrameSizes.{HasGates, frameSizes, frameLength}
-use Rattle.clauses.specs.Ready.{ShapedFile, propertyLiteralAt, PropertyLiteralFits}
+use Rattle.clauses.specs.Ready.{ShapedFile, SmallFormula, propertyLiteralAt, PropertyLiteralFits}
 use Rattle.clauses.specs.declared.cost.GatesAt.{GatesAt}
 use Rattle.clauses.specs.declared.frame.FrameSizes.{FrameSizes}
 use Rattle.clauses.proofs.Costs.{gates-counted, words-counted}
 use Rattle.clauses.proofs.StateBits.{variables-append}
 use Rattle.clauses.proofs.Frames.{property-costs-at, step-costs-at, step-property-costs-at, property-next, P-is, G-is}
-use Rattle.clauses.proofs.FrameNumbers.{length-is, frames-are}
+use Rattle.clauses.proofs.FrameNumbers.{length-is, small-numbers, frames-are}
 use Rattle.clauses.proofs.Models.{frame-zero}
 use Rattle.clauses.proofs.Within.{past-le, last-past}
 use Rattle.clauses.proofs.EmitWords.{puts-then, puts-same, words-append, append-nil, code-yes}
@@ -202,14 +203,14 @@ module _ (d : Design) where
   literal-of-step (suc (suc p)) h v after e l f room = f (omega arith) ∙ ap (λ (k : ℕ). (stepPropertyAt d (constraint (d .constraint)) v (stateAt d k)) .out) e
 
   -- in the frames that count it is within the limit
-  state-fits : (q : Property) (j k : ℕ) → j ≤ k → n d q k < variableLimit → frame d q j + S d + P d q ≤ variableLimit
+  state-fits : (q : Property) (j k : ℕ) → j ≤ k → n d q k ≤ lastVariable → frame d q j + S d + P d q ≤ variableLimit
   state-fits q j k l room = let e : j + (k - j) ≡ k = omega arith in omega (arith, rw e at (past-le d q j (k - j)), last-past d q k)
 
   next-is : (q : Property) (j : ℕ) → frame d q j + F d q ≡ frame d q (suc j)
   unfolding frame
   next-is q j = omega arith
 
-  literal-fits : (q : Property) (j k : ℕ) → j < framesTaken q k → n d q k < variableLimit → PropertyLiteralFits d q (frame d q j)
+  literal-fits : (q : Property) (j k : ℕ) → j < framesTaken q k → n d q k ≤ lastVariable → PropertyLiteralFits d q (frame d q j)
   literal-fits (invariant e) j k l room = state-fits (invariant e) j k (omega arith) room
   literal-fits noInvalidCell j k l room = state-fits noInvalidCell j k (omega arith) room
   literal-fits (constraint e) j k l room = omega (arith, state-fits (constraint e) (suc j) k (omega arith) room, next-is (constraint e) j)
@@ -218,8 +219,9 @@ module _ (d : Design) where
   unfolding propertyLiteralIn stepPropertyIn
   property-literal-is q j = ap (λ (k : ℕ). propertyLiteral q ((propertyAt d q (frame d q j)) .out) ((stepPropertyAt d q (frame d q j) (stateAt d k)) .out)) (next-is q j)
 
-  next-frame : (q : Property) (stride x y j : ℕ) → stride ≡ F d q → x ≡ frame d q j → y ≡ x + stride → y ≡ frame d q (j + 1)
-  next-frame q stride x y j e at ey = ey ∙ ap₂ (λ (a b : ℕ). a + b) at e ∙ next-is q j ∙ ap (frame d q) (sym (add-one j))
+  start-frame : (q : Property) (stride x j : ℕ) → stride ≡ F d q → x ≡ 2 + j * stride → x ≡ frame d q j
+  unfolding frame
+  start-frame q stride x j e at = at ∙ ap (λ (i : ℕ). 2 + j * i) e
 
   -- the frames that count, from the sizes
   counted : (q : Property) (s : FrameSizes) (k : ℕ) → s ≡ frameSizes d q → k + s .last ≡ framesTaken q k
@@ -229,34 +231,31 @@ module _ (d : Design) where
 -- the last clause, a frame at a time
 pub record Closing (file : List ℕ) (p stride frames : ℕ) (xs₀ : List ℤ) (cur₀ : ℕ) (xs : List ℤ) (cur x j : ℕ) : Type 0 where
   pub within : j ≤ frames
-  pub small : x ≤ 2 + frameLimit * j
-  pub here : (d : Design) → stride ≡ F d (propertyOf d p) → x ≡ frame d (propertyOf d p) j
-  pub left : (d : Design) (bound : ℕ) → check file ≡ Checked.accepted d → stride ≡ F d (propertyOf d p) → frames ≡ framesTaken (propertyOf d p) bound → n d (propertyOf d p) bound < variableLimit
+  pub start : x ≡ 2 + j * stride
+  pub left : (d : Design) (bound : ℕ) → check file ≡ Checked.accepted d → stride ≡ F d (propertyOf d p) → frames ≡ framesTaken (propertyOf d p) bound → n d (propertyOf d p) bound ≤ lastVariable
       → PutsLeft (clauseWords (lastClause d (propertyOf d p) bound)) xs₀ cur₀ (clauseWords (negatedFrom d (propertyOf d p) (frames - j) j)) xs cur
 
 module _ (file : List ℕ) (p stride frames : ℕ) (xs₀ : List ℤ) (cur₀ : ℕ) where
   pub closing-start : Closing file p stride frames xs₀ cur₀ xs₀ cur₀ 2 0
-  unfolding frame lastClause
+  unfolding lastClause
   closing-start = record {
     within = omega arith;
-    small = omega arith;
-    here = λ d e. omega arith;
+    start = omega arith;
     left = λ d bound ok e f room.
         let q = propertyOf d p in
         subst (λ (m : ℕ). PutsLeft (clauseWords (negatedFrom d q (framesTaken q bound) 0)) xs₀ cur₀ (clauseWords (negatedFrom d q m 0)) xs₀ cur₀) (let z : framesTaken q bound ≡ frames - 0 = omega arith in z) (puts-start _ xs₀ cur₀);
   }
 
-  pub closing-on : {xs : List ℤ} {cur x j : ℕ} → j < frames → stride ≤ frameLimit → Closing file p stride frames xs₀ cur₀ xs cur x j → (y : ℕ) (l m : Literal) → y ≡ x + stride
+  pub closing-on : {xs : List ℤ} {cur x j : ℕ} → j < frames → Closing file p stride frames xs₀ cur₀ xs cur x j → (y : ℕ) (l m : Literal) → y ≡ x + stride
       → ((d : Design) → check file ≡ Checked.accepted d → stride ≡ F d (propertyOf d p) → PropertyLiteralFits d (propertyOf d p) x → l ≡ propertyLiteralAt d (propertyOf d p) x) → m ≡ negate l
       → {ys : List ℤ} {c : ℕ} → Puts (wordOf m ∷ []) xs ys cur c → Closing file p stride frames xs₀ cur₀ ys c y (j + 1)
   unfolding negatedFrom
-  closing-on {x = x} {j = j} lt few k y l m ey el em {ys} {c} puts = record {
+  closing-on {x = x} {j = j} lt k y l m ey el em {ys} {c} puts = record {
     within = omega arith;
-    small = omega (arith, k .small);
-    here = λ d e. next-frame d (propertyOf d p) stride x y j e (k .here d e) ey;
+    start = omega (arith, k .start, suc-mul j stride, ap (λ (i : ℕ). i * stride) (add-one j));
     left = λ d bound ok e f room.
         let q = propertyOf d p in
-        let at = k .here d e in
+        let at = start-frame d q stride x j e (k .start) in
         let fits = literal-fits d q j bound (omega arith) room in
         let lit : l ≡ propertyLiteralIn d q j = el d ok e (subst (PropertyLiteralFits d q) (sym at) fits) ∙ ap (propertyLiteralAt d q) at ∙ property-literal-is d q j in
         let one : wordOf m ∷ [] ≡ wordOf (negate (propertyLiteralIn d q j)) ∷ [] = ap (λ (t : Literal). wordOf t ∷ []) (em ∙ ap negate lit) in
@@ -267,12 +266,14 @@ module _ (file : List ℕ) (p stride frames : ℕ) (xs₀ : List ℤ) (cur₀ : 
   }
 
   pub closing-end : {xs : List ℤ} {cur x j : ℕ} → frames ≤ j → Closing file p stride frames xs₀ cur₀ xs cur x j → {ys : List ℤ} {c : ℕ} → Puts (pos 0 ∷ []) xs ys cur c
-      → ((i : ℕ) → getD file i 0 < 256) → (s : FrameSizes) (bound : ℕ) → stride ≡ frameLength s → frames ≡ bound + s .last
-      → (d : Design) → check file ≡ Checked.accepted d → s ≡ frameSizes d (propertyOf d p) → n d (propertyOf d p) bound < variableLimit → Puts (words (lastClause d (propertyOf d p) bound ∷ [])) xs₀ ys cur₀ c
+      → ((i : ℕ) → getD file i 0 < 256) → {s : FrameSizes} {bound : ℕ} → SmallFormula s bound → stride ≡ frameLength s → frames ≡ bound + s .last
+      → (d : Design) → check file ≡ Checked.accepted d → s ≡ frameSizes d (propertyOf d p) → Puts (words (lastClause d (propertyOf d p) bound ∷ [])) xs₀ ys cur₀ c
   unfolding negatedFrom
-  closing-end {j = j} l k puts bytes s bound es ef d ok e room =
+  closing-end {j = j} l k puts bytes {s} {bound} h es ef d ok e =
       let q = propertyOf d p in
-      let stride-is : stride ≡ F d q = es ∙ ap frameLength e ∙ length-is d (well-formed file bytes d ok) q in
+      let wf = well-formed file bytes d ok in
+      let stride-is : stride ≡ F d q = es ∙ ap frameLength e ∙ length-is d wf q in
+      let room = small-numbers d wf q h e bound (le-refl bound) in
       let z : frames - j ≡ 0 = omega (arith, k .within) in
       puts-same (sym (append-nil (clauseWords (lastClause d q bound))))
       (k .left d bound ok stride-is (ef ∙ counted d q s bound e) room .then _ _ (puts-same (sym (ap (λ (i : ℕ). clauseWords (negatedFrom d q i j)) z)) puts))

@@ -9,12 +9,13 @@ use native.Mathlib.Nat.{eq-or-lt-of-le}
 use lib.ListN.{getD}
 use lib.Dec.{ltb, eqb}
 use borrow.Author.Tests.{ltb-true, ltb-false, lt-ltb, le-ltb, eqb-true, eqb-false, not-true}
-use Rattle.design.specs.Tree.{IntExpr, BoolExpr, constant, variable, status, constantB, variableB, notB, truth}
+use Rattle.design.specs.Tree.{IntExpr, BoolExpr, constant, variable, status, product, constantB, variableB, notB, truth}
 use Rattle.design.specs.Reading.{Read, got, bad, Reader, bind, provided}
+use Rattle.design.specs.DesignFile.{at16}
 use Rattle.design.specs.Expression.{Names, IntOp, BoolOp, intOp, boolOp, byte, legal, numbered, intExpr, boolExpr}
 use Rattle.design.proofs.Readers.{int-step, bool-step}
 use Rattle.step.specs.Accepted.{isRead}
-use Rattle.step.proofs.Values.{integerByte, statusByte, booleanByte, arithmeticOf, logicOf, compareOf, int-live, bool-live, int-unknown, bool-unknown, int-constant, int-variable, int-status, bool-constant, bool-variable, i-two, b-one, b-logic, b-compare}
+use Rattle.step.proofs.Values.{integerByte, statusByte, booleanByte, arithmeticOf, logicOf, compareOf, int-live, bool-live, int-unknown, bool-unknown, int-constant, int-variable, int-status, i-product, bool-constant, bool-variable, i-two, b-one, b-logic, b-compare}
 
 pub provided-got : {A : Type 0} (t : Bool) (r : Read A) (a : A) (n : ℕ) → provided t r ≡ got a n → (t ≡ true) × (r ≡ got a n)
 provided-got true r a n e = (refl, e)
@@ -138,24 +139,34 @@ module _ (text : List ℕ) (names : Names) (end : ℕ) where
     pub read-arithmetic : 4 ≤ getD text at 0 → getD text at 0 < 6 → TwoRead (I (d - 1)) (arithmeticOf (getD text at 0)) (at + 1) e n
     read-arithmetic lo hi = two-read (I (d - 1)) (arithmeticOf (getD text at 0)) (at + 1) e n (sym (i-two text names end d at int-read lo hi) ∙ h)
 
-    int-range : (0 < getD text at 0) × (getD text at 0 < 8)
+    -- the operand of a product stands behind its constant
+    pub read-product : getD text at 0 ≡ 8 → (at + 3 ≤ end) × OneRead (I (d - 1)) (product (at16 text (at + 1))) (at + 3) e n
+    read-product q =
+        let k = i-product text names end d at int-read q in
+        let p : at + 1 + 2 ≡ at + 3 = omega arith in
+        (omega (arith, k .0), subst (λ (j : ℕ). OneRead (I (d - 1)) (product (at16 text (at + 1))) j e n) p (one-read (I (d - 1)) (product (at16 text (at + 1))) (at + 1 + 2) e n (sym (k .1) ∙ h)))
+
+    int-range : (0 < getD text at 0) × (getD text at 0 < 9)
     int-range = (
       ⊎-elim (λ k. absurd (int-unknown text names end d at int-read (inl k))) (λ g. g) (below (getD text at 0) 1),
-      ⊎-elim (λ k. k) (λ g. absurd (int-unknown text names end d at int-read (inr g))) (below (getD text at 0) 8),
+      ⊎-elim (λ k. k) (λ g. absurd (int-unknown text names end d at int-read (inr g))) (below (getD text at 0) 9),
     )
 
-    -- beside the operators with two operands there are the constant, and those that name a slot
-    module _ (s : (getD text at 0 < 4) ⊎ (5 < getD text at 0)) (h1 : getD text at 0 ≡ 1 → ⊥) where
+    -- beside the operators with operands there are the constant, and those that name a slot
+    module _ (s : (getD text at 0 < 4) ⊎ (5 < getD text at 0)) (h8 : getD text at 0 ≡ 8 → ⊥) (h1 : getD text at 0 ≡ 1 → ⊥) where
+      no-product : getD text at 0 < 8
+      no-product = ⊎-elim (λ k. k) (λ g. let m = above _ _ h8 g in absurd (omega (arith, int-range .1))) (below (getD text at 0) 8)
+
       pub names-slot : (next : Bool) × ((getD text at 0 ≡ integerByte next) ⊎ (getD text at 0 ≡ statusByte next))
       names-slot = ⊎-elim
           (λ l. ⊎-elim (λ (q : getD text at 0 ≡ 2). (false, inl q)) (λ h2. let g = above _ _ h2 (above _ _ h1 (int-range .0)) in (false, inr (omega arith))) (test (getD text at 0) 2))
-          (λ l. ⊎-elim (λ (q : getD text at 0 ≡ 6). (true, inl q)) (λ h6. let g = above _ _ h6 l in (true, inr (omega (arith, int-range .1)))) (test (getD text at 0) 6))
+          (λ l. ⊎-elim (λ (q : getD text at 0 ≡ 6). (true, inl q)) (λ h6. let g = above _ _ h6 l in (true, inr (omega (arith, no-product)))) (test (getD text at 0) 6))
           s
 
       pub is-next-status : (getD text at 0 ≡ 2 → ⊥) → (getD text at 0 ≡ 3 → ⊥) → (getD text at 0 ≡ 6 → ⊥) → getD text at 0 ≡ 7
       is-next-status h2 h3 h6 = ⊎-elim
           (λ l. let g = above _ _ h3 (above _ _ h2 (above _ _ h1 (int-range .0))) in absurd (omega arith))
-          (λ l. let g = above _ _ h6 l in omega (arith, int-range .1))
+          (λ l. let g = above _ _ h6 l in omega (arith, no-product))
           s
 
   module _ (d at : ℕ) (e : BoolExpr) (n : ℕ) (h : B d at ≡ got e n) where

@@ -1,7 +1,7 @@
 -- Room for the clauses of a frame, and gates that were written as clauses that were put. Assumes nothing.
 use mathlib.Core.Path.{_≡_, sym, ap, ap₂, subst, _∙_}
 use mathlib.Core.List.{List, [], _∷_, _++_}
-use Prim.Native.Nat.{ℕ, suc, _+_, _^_, _<_, _≤_}
+use Prim.Native.Nat.{ℕ, suc, _+_, _≤_}
 use native.Mathlib.Omega.{arith}
 use lib.ListN.{length}
 use lib.IntN.{ℤ}
@@ -16,6 +16,7 @@ use Rattle.clauses.specs.Circuit.{Built, Bits}
 use Rattle.clauses.specs.Expression.{Slots}
 use Rattle.clauses.specs.Action.{movers! }
 use Rattle.clauses.specs.Formula.{variablesFrom, flat, pairs, allTies, S, w, P, G, n, property!, stepProperty!, step!, stateAt, propertyAt, flagsAt, stepAt, stepPropertyAt, frame, propertyClauses, stepPropertyIn, stepClauses}
+use Rattle.clauses.specs.Limits.{lastVariable}
 use Rattle.clauses.specs.Cost.{stepCost}
 use Rattle.clauses.specs.Writing.{gateWords, variableLimit, wordLimit, Puts, Emits}
 use Rattle.clauses.proofs.Costs.{gates-counted}
@@ -57,7 +58,7 @@ module _ (d : Design) (p : Property) where
       omega (arith, gates-counted ((stepAt d p v) .gates), gates-counted ((stepPropertyAt d p v next) .gates), c .ands, c .wides, s .ands, s .wides, G-is d wf p)
 
   -- the property's clauses of frame j
-  pub property-puts : (j var : ℕ) (s : Slots) {xs ys : List ℤ} {cur c : ℕ} {out : Literal} {u : ℕ} → n d p j < 2 ^ 31 → s ≡ stateAt d (frame d p j) → var ≡ frame d p j + S d
+  pub property-puts : (j var : ℕ) (s : Slots) {xs ys : List ℤ} {cur c : ℕ} {out : Literal} {u : ℕ} → n d p j ≤ lastVariable → s ≡ stateAt d (frame d p j) → var ≡ frame d p j + S d
       → Emits var (property! d p s var) xs ys cur out c u → Puts (words (propertyClauses d p j)) xs ys cur c
   unfolding propertyClauses propertyAt
   property-puts j var s low es ev e =
@@ -67,7 +68,7 @@ module _ (d : Design) (p : Property) where
 
   -- the step's clauses out of frame j: the flags', the gates', property 2's, the ties'. The ties rely on the results.
   pub step-puts : (j flags after var : ℕ) (l : Layout) (s : Slots) (rs : List Slots) {x0 x1 x2 x3 x4 x5 : List ℤ} {c0 c1 c2 c3 c4 c5 u u′ : ℕ} {out : Literal}
-      → WellFormed d → n d p (suc j) < 2 ^ 31 → s ≡ stateAt d (frame d p j) → layout d ≡ l → flags ≡ frame d p j + S d + P d p → after ≡ frame d p (suc j) → var ≡ flags + w d
+      → WellFormed d → n d p (suc j) ≤ lastVariable → s ≡ stateAt d (frame d p j) → layout d ≡ l → flags ≡ frame d p j + S d + P d p → after ≡ frame d p (suc j) → var ≡ flags + w d
       → Puts (clauseWords (variablesFrom flags (w d))) x0 x1 c0 c1 → Puts (words (pairs (variablesFrom flags (w d)))) x1 x2 c1 c2
       → Emits var (movers! l s (movers d) var) x2 x3 c2 rs c3 u
       → Emits u (stepProperty! d p (stateAt d (frame d p j)) (stateAt d after) u) x3 x4 c3 out c4 u′

@@ -8,10 +8,10 @@ use native.Mathlib.Nat.{pow-suc}
 use native.Mathlib.Omega.{arith}
 use lib.Dec.{ltb, eqb}
 use lib.ListN.{length, getD, List·getD-map}
-use Rattle.design.specs.Tree.{IntExpr, BoolExpr, constant, variable, status, sum, difference, constantB, variableB, notB, andB, orB, equal, less, bit, truth}
+use Rattle.design.specs.Tree.{IntExpr, BoolExpr, constant, variable, status, sum, difference, product, constantB, variableB, notB, andB, orB, equal, less, bit, truth}
 use Rattle.design.specs.State.{State, Layout, statusSlot}
 use Rattle.design.specs.WellFormed.{Narrow, IntOk, BoolOk}
-use Rattle.step.specs.Pattern.{plus, minus, below}
+use Rattle.step.specs.Pattern.{plus, minus, times, below}
 use Rattle.step.specs.Evaluation.{evalInt, evalBool}
 use Rattle.clauses.specs.Literal.{literalOf}
 use Rattle.clauses.specs.Meaning.{Assignment, literalTrue}
@@ -19,7 +19,7 @@ use Rattle.clauses.specs.Circuit.{Bits}
 use Rattle.clauses.specs.Expression.{Slots, constantBits, pad, integerAt, lowest, booleanAt, int!, bool! }
 use Rattle.clauses.proofs.Gates.{negate-true}
 use Rattle.clauses.proofs.Correct.{LiteralBelow, Correct, correct-give, correct-bind, correct-means, and-correct, or-correct, negate-below}
-use Rattle.clauses.proofs.Arithmetic.{BitsBelow, bits-up, Word, word-up, number, add-correct, difference-correct, less-correct, equal-correct}
+use Rattle.clauses.proofs.Arithmetic.{BitsBelow, bits-up, Word, word-up, number, add-correct, difference-correct, bit-truth, product-correct, less-correct, equal-correct}
 
 -- the state that an assignment gives literals
 abbrev pub stateOf : Assignment → Slots → State
@@ -79,11 +79,6 @@ constant-word n w c h = record { below = constant-below n w c h; wide = length-c
 pub literalOf-true : (ρ : Assignment) → ρ 1 ≡ true → (b : Bool) → literalTrue ρ (literalOf b) ≡ b
 literalOf-true ρ one true = one
 literalOf-true ρ one false = ap not one
-
-bit-truth : (n : ℕ) → n < 2 → bit (truth n) ≡ n
-bit-truth zero h = refl
-bit-truth (suc zero) h = refl
-bit-truth (suc (suc n)) h = absurd (omega arith)
 
 pub number-constant : (ρ : Assignment) → ρ 1 ≡ true → (w c : ℕ) → c < 2 ^ w → number ρ (constantBits w c) ≡ c
 number-constant ρ one zero c h = omega arith
@@ -162,6 +157,9 @@ plus-is a b = refl
 minus-is : (a b : ℕ) → (a + (2 ^ 16 - b)) % 2 ^ 16 ≡ minus a b
 minus-is a b = refl
 
+times-is : (c b : ℕ) → (0 + c * b) % 2 ^ 16 ≡ times c b
+times-is c b = ap (λ (x : ℕ). x % 65536) (omega arith)
+
 below-is : (a b : ℕ) → ltb ((a + 2 ^ 15) % 2 ^ 16) ((b + 2 ^ 15) % 2 ^ 16) ≡ below a b
 below-is a b = refl
 
@@ -182,6 +180,11 @@ module _ (ws : List ℕ) (l : Layout) (s : Slots) where
       correct-bind _ _ (int-correct b n₁ (fits-up l₁ f) (k .1)) λ y n₂ l₂ by.
       correct-bind _ _ (difference-correct 16 x y n₂ (omega (arith, f .known)) (word-up l₂ bx) by) λ r n₃ l₃ br.
       correct-give _ br λ ρ one er ey ex. er ∙ minus-is (number ρ x) (number ρ y) ∙ ap₂ minus ex ey
+  int-correct (product c a) n f k =
+      correct-bind _ _ (int-correct a n f (k .1)) λ x n₁ l₁ bx.
+      let h : 1 < n₁ = omega (arith, f .known) in
+      correct-means (product-correct 16 16 c x (constantBits 16 0) n₁ h (k .0) bx (constant-word n₁ 16 0 h)) λ ρ r one e ex.
+      e ∙ rw (number-constant ρ one 16 0 (omega arith)) (times-is c (number ρ x)) ∙ ap (times c) ex
 
   pub bool-correct : (e : BoolExpr) (n : ℕ) → Fits ws n s → BoolOk ws l e
       → Correct n (bool! l s e n) LiteralBelow (λ ρ r. literalTrue ρ r ≡ evalBool l (stateOf ρ s) e)

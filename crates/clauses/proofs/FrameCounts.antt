@@ -146,7 +146,7 @@ last-few (invariant e) = omega arith
 last-few noInvalidCell = omega arith
 last-few (constraint e) = omega arith
 
-frame-bound : (d : Design) (prop : ℕ) → Bounded d → SmallFrame (frameSizes d (propertyOf d prop))
+pub frame-bound : (d : Design) (prop : ℕ) → Bounded d → SmallFrame (frameSizes d (propertyOf d prop))
 unfolding frameSizes
 frame-bound d prop k = record { bits = k .bits; movers = k .movers; gates = k .gates prop; last = last-few (propertyOf d prop) }
 

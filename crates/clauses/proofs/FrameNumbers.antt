@@ -2,7 +2,7 @@
 use mathlib.Core.Path.{_≡_, refl, sym, ap, ap₂, _∙_}
 use Prim.Native.Nat.{ℕ, zero, suc, _+_, _*_, _-_, _/_, _≤_, _<_}
 use native.Mathlib.Omega.{arith}
-use native.Mathlib.Nat.{mul-le-mul}
+use native.Mathlib.Nat.{le-refl, mul-le-mul}
 use mathlib.Core.Bool.{cond}
 use lib.Dec.{leb, ltb}
 use lib.ListN.{length}
@@ -12,15 +12,17 @@ use Rattle.design.specs.WellFormed.{WellFormed}
 use Rattle.step.specs.Property.{Property, invariant, noInvalidCell, constraint}
 use Rattle.design.specs.Limits.{maxMovers, maxBits}
 use Rattle.clauses.specs.Words.{words}
-use Rattle.clauses.specs.Writing.{variableLimit}
 use Rattle.step.specs.Limits.{maxBound}
-use Rattle.clauses.specs.Limits.{frameLimit, countLimit, sizeLimit}
+use Rattle.clauses.specs.Limits.{lastVariable, frameLimit, mostVariables, countLimit, sizeLimit}
+use Rattle.clauses.specs.Writing.{variableLimit}
 use Rattle.clauses.specs.Formula.{S, w, F, n, part, framesTaken}
 use Rattle.clauses.specs.Cost.{gatesIn, clausesIn, wordsIn, pairCount, propertyCost, firstWords, stepWordCount, partWordCount}
 use Rattle.clauses.specs.FrameSizes.{costIn, lastFrames, frameSizes, SmallFrame, frameLength, stepClausesOf, stepWordsOf, partWordsOf, variablesOf, formulaSizes}
+use Rattle.clauses.specs.Ready.{SmallFormula}
 use Rattle.clauses.specs.declared.frame.FrameSizes.{FrameSizes}
 use Rattle.clauses.specs.declared.frame.FormulaSizes.{FormulaSizes}
 use Rattle.clauses.proofs.Frames.{P-is, G-is}
+use Rattle.clauses.proofs.Within.{n-up}
 use Rattle.clauses.proofs.SizeNumbers as sizes
 use Rattle.clauses.proofs.Limits.{pairs-twice}
 
@@ -43,10 +45,16 @@ module _ (s : FrameSizes) (h : SmallFrame s) where
       mul-le-mul l p
 
   pub variables-sum : (k f t : ℕ) → k ≤ maxBound → f ≡ frameLength s → t ≡ k * f
-      → (1 + t + s .bits + gatesIn (costIn (s .property)) ≡ variablesOf s k) × (1 + t + s .bits + gatesIn (costIn (s .property)) < variableLimit)
+      → (1 + t + s .bits + gatesIn (costIn (s .property)) ≡ variablesOf s k) × (1 + t + s .bits + gatesIn (costIn (s .property)) ≤ mostVariables)
   variables-sum k f t l e q =
       let z : t ≡ k * frameLength s = q ∙ ap (λ (x : ℕ). k * x) e in
       (omega arith, omega (arith, frames-small k l, h .bits, h .gates))
+
+-- where the frames of a formula that may be written start: none of its variables is past `lastVariable`
+pub start-low : {s : FrameSizes} {k : ℕ} → SmallFormula s k → (j stride v : ℕ) → j ≤ k → stride ≡ frameLength s → v ≡ 2 + j * stride → v ≤ variableLimit
+start-low {s} {k} h j stride v l e q =
+    let m : j * frameLength s ≤ k * frameLength s = mul-le-mul l (le-refl (frameLength s)) in
+    omega (arith, h .numbers, ap (λ (i : ℕ). j * i) e)
 
 -- the words of a part by its number
 module _ (s : FrameSizes) (k : ℕ) where
@@ -112,6 +120,10 @@ module _ (d : Design) (wf : WellFormed d) (p : Property) where
   pub variables-are : (k : ℕ) → variablesOf (frameSizes d p) k ≡ n d p k
   unfolding frameSizes n F
   variables-are k = ap₂ (λ (x y : ℕ). 1 + k * (S d + x + w d + y) + S d + x) (sym (P-is d p)) (sym (G-is d wf p))
+
+  -- of a formula that may be written, and of every bound below its own
+  pub small-numbers : {s : FrameSizes} {k : ℕ} → SmallFormula s k → s ≡ frameSizes d p → (j : ℕ) → j ≤ k → n d p j ≤ lastVariable
+  small-numbers {s} {k} h e j l = omega (arith, h .numbers, ap (λ (x : FrameSizes). variablesOf x k) e, variables-are k, n-up d p j k l)
 
   pub part-is : (k i : ℕ) → partWordsOf (frameSizes d p) k i ≡ length (words (part d p k i))
   unfolding frameSizes partWordCount firstWords stepWordCount

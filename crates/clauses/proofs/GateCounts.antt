@@ -9,14 +9,15 @@ use native.Mathlib.Omega.{arith}
 use lib.ListN.{getD}
 use lib.Dec.{eqb}
 use borrow.Author.Tests.{eq-eqb, ne-eqb}
-use Rattle.design.specs.Tree.{IntExpr, BoolExpr, sum, difference, notB, andB, orB, equal, less}
+use Rattle.design.specs.Tree.{IntExpr, BoolExpr, sum, difference, product, notB, andB, orB, equal, less}
 use Rattle.design.specs.Reading.{Read, got, bad, bind}
+use Rattle.design.specs.DesignFile.{at16}
 use Rattle.design.specs.Expression.{Names, intExpr, boolExpr}
 use Rattle.step.specs.Accepted.{isRead, past}
 use Rattle.step.proofs.Accepted.{two, three}
-use Rattle.step.proofs.Values.{arithmeticOf, logicOf, compareOf, integerByte, statusByte, booleanByte, int-forward, bool-forward, i-two, b-one, b-logic, b-compare, int-constant, int-variable, int-status, bool-constant, bool-variable, int-second, logic-second, compare-second}
+use Rattle.step.proofs.Values.{arithmeticOf, logicOf, compareOf, integerByte, statusByte, booleanByte, int-forward, bool-forward, i-two, i-product, product-first, b-one, b-logic, b-compare, int-constant, int-variable, int-status, bool-constant, bool-variable, int-second, logic-second, compare-second}
 use Rattle.clauses.specs.Cost.{Cost, cost, addCosts, intCost, boolCost}
-use Rattle.clauses.specs.FrameSizes.{gatesAt, both}
+use Rattle.clauses.specs.FrameSizes.{noGates, gatesAt, both}
 use Rattle.clauses.specs.declared.cost.GatesAt.{GatesAt}
 
 abbrev pub gates : ℕ → ℕ → ℕ → GatesAt
@@ -35,6 +36,15 @@ module _ {A C : Type 0} (f : A → C) (cA : A → Cost) (cC : C → Cost) (law :
   pub one-gates : (x : Read A) → gatesAt cA x ≡ gatesAt cC (bind x (λ a n. got (f a) n))
   one-gates (got a n) = ap (λ (c : Cost). gates (c .ands) (c .wides) n) (sym (law a))
   one-gates bad = refl
+
+-- one operand, and so many gates more
+module _ {A C : Type 0} (f : A → C) (cA : A → Cost) (cC : C → Cost) (u v : ℕ) (law : (a : A) → cC (f a) ≡ addCosts (cA a) (cost u v)) where
+  pub more-gates : (x : Read A) → isRead (bind x (λ a n. got (f a) n)) ≡ true → (m : ℕ) (r s : GatesAt) → r ≡ noGates m → s ≡ gatesAt cA x → both r s u v ≡ gatesAt cC (bind x (λ a n. got (f a) n))
+  more-gates (got a n) h m r s e k =
+      let p : 0 + cA a .ands + u ≡ cA a .ands + u = omega arith in
+      let q : 0 + cA a .wides + v ≡ cA a .wides + v = omega arith in
+      ap₂ (λ (y z : GatesAt). both y z u v) e k ∙ ap₂ (λ (x y : ℕ). gates x y n) p q ∙ ap (λ (c : Cost). gates (c .ands) (c .wides) n) (sym (law a))
+  more-gates bad h m r s e k = absurd (false≢true h)
 
 -- two operands, and so many gates more
 module _ {A B C : Type 0} (f : A → B → C) (cA : A → Cost) (cB : B → Cost) (cC : C → Cost) (u v : ℕ) (law : (a : A) (b : B) → cC (f a b) ≡ addCosts (addCosts (cA a) (cB b)) (cost u v)) where
@@ -82,6 +92,10 @@ arithmetic-cost : (t : Bool) (a b : IntExpr) → intCost (cond t sum difference 
 unfolding intCost
 arithmetic-cost true a b = refl
 arithmetic-cost false a b = refl
+
+product-cost : (c : ℕ) (a : IntExpr) → intCost (product c a) ≡ addCosts (intCost a) (cost 768 512)
+unfolding intCost
+product-cost c a = refl
 
 logic-cost : (t : Bool) (a b : BoolExpr) → boolCost (cond t andB orB a b) ≡ addCosts (addCosts (boolCost a) (boolCost b)) (cost 1 0)
 unfolding boolCost
@@ -133,6 +147,23 @@ module _ (text : List ℕ) (N : Names) (end d at : ℕ) where
         (λ e. let k = int-variable text N end d at h next e in (omega (arith, k .0), no-gates intCost (I d at) _ _ (at + 2) (k .2) refl (omega arith)))
         (λ e. let k = int-status text N end d at h next (e ∙ status-byte next) in (omega (arith, k .0), no-gates intCost (I d at) _ _ (at + 2) (k .2) refl (omega arith)))
         (one-of-two op (integerByte next) p q)
+
+    -- a product: its operand, and the gates of sixteen sums more
+    module _ (e : op ≡ 0x08) where
+      pub product-inside : at + 3 ≤ end
+      product-inside = omega (arith, i-product text N end d at h e .0)
+
+      behind : at + 1 + 2 ≡ at + 3
+      behind = omega arith
+
+      pub product-operand : isRead (I (d - 1) (at + 3)) ≡ true
+      product-operand = ap (λ (j : ℕ). isRead (I (d - 1) j)) (sym behind) ∙ product-first text N end d at h e
+
+      pub product-joined : (m : ℕ) (r s : GatesAt) → r ≡ noGates m → s ≡ gatesAt intCost (I (d - 1) (at + 3)) → both r s 768 512 ≡ gatesAt intCost (I d at)
+      product-joined m r s k l =
+          let q = i-product text N end d at h e .1 in
+          let p : s ≡ gatesAt intCost (I (d - 1) (at + 1 + 2)) = l ∙ ap (λ (j : ℕ). gatesAt intCost (I (d - 1) j)) (sym behind) in
+          more-gates (product (at16 text (at + 1))) intCost intCost 768 512 (product-cost (at16 text (at + 1))) (I (d - 1) (at + 1 + 2)) (sym (ap isRead q) ∙ h) m r s k p ∙ sym (ap (gatesAt intCost) q)
 
     pub int-then : (lo : 0x04 ≤ op) (hi : op < 0x06) (r : GatesAt) → r ≡ gatesAt intCost (I (d - 1) (at + 1)) → isRead (I (d - 1) (r .next)) ≡ true
     int-then lo hi r e = int-second text N end d at h lo hi (r .next) (gates-past intCost (I (d - 1) (at + 1)) r e)

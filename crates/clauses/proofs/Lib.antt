@@ -29,6 +29,7 @@ pub mod Results
 -- given designs
 pub mod DesignA
 pub mod Constrained
+pub mod Multiplied
 -- the code of SIZE
 pub mod TextGates
 pub mod GateCounts
@@ -36,6 +37,7 @@ pub mod ActionCounts
 pub mod CellCounts
 pub mod FrameCounts
 pub mod FrameNumbers
+pub mod Admissions
 pub mod SizeCall
 -- the code of DECODE
 pub mod FlagChoices

@@ -1,5 +1,5 @@
--- "the limits keep n below 2^31": the formula of an accepted design for any bound fits its machine numbers, and SIZE's answer is the
--- numbers that are computed from the tree.
+-- How large the formula of an accepted design for any bound can get: its sizes fit their machine numbers, but n may exceed 2^31-1, which the calls test (19). And SIZE's
+-- answer is the numbers that are computed from the tree.
 use mathlib.Core.Path.{_≡_, refl, sym}
 use mathlib.Core.Bool.{Bool, true, false, cond}
 use mathlib.Core.List.{List}
@@ -19,7 +19,7 @@ use Rattle.clauses.specs.Formula.{framesTaken, S, w, F, n, part, formula
 use Rattle.clauses.specs.Cost.{gatesIn, clausesIn, wordsIn, pairCount, propertyCost, stepCost, firstClauses, firstWords, stepClauseCount, stepWordCount, clauseCount, wordCount, partWordCount}
 use Rattle.clauses.specs.Size.{sizesOf}
 use Rattle.step.specs.Limits.{maxBound}
-use Rattle.clauses.specs.Limits.{frameLimit}
+use Rattle.clauses.specs.Limits.{frameLimit, mostVariables}
 use Rattle.clauses.proofs.Frames.{P-is, G-is}
 use Rattle.clauses.proofs.SizeNumbers.{formula-counts, part-words}
 use Rattle.clauses.proofs.Bounds.{Bounded, bounded}
@@ -58,12 +58,12 @@ few-taken (invariant e) k = omega arith
 few-taken noInvalidCell k = omega arith
 few-taken (constraint e) k = omega arith
 
--- what is bounded: the variables, the clauses and words of the formula, and the words of a part
+-- what is bounded: the variables, which may still be more than `lastVariable`; the clauses and words of the formula; the words of a part
 pub record Small (d : Design) (p : Property) (k : ℕ) : Type 0 where
-  pub variables : n d p k < 2 ^ 31
-  pub formula-clauses : length (formula d p k) < 2 ^ 35
-  pub formula-words : length (words (formula d p k)) < 2 ^ 35
-  pub part-words : (i : ℕ) → length (words (part d p k i)) < 2 ^ 28
+  pub variables : n d p k ≤ mostVariables
+  pub formula-clauses : length (formula d p k) < 2 ^ 34
+  pub formula-words : length (words (formula d p k)) < 2 ^ 36
+  pub part-words : (i : ℕ) → length (words (part d p k i)) < 2 ^ 30
 
 module _ (d : Design) (wf : WellFormed d) (b : Bounded d) (number k : ℕ) (few : k ≤ maxBound) where
   abbrev p : Property
@@ -73,7 +73,8 @@ module _ (d : Design) (wf : WellFormed d) (b : Bounded d) (number k : ℕ) (few 
   unfolding F
   frame-bound = omega (arith, P-is d p, G-is d wf p, b .gates number, b .bits, b .movers)
 
-  n-bound : n d p k < 2 ^ 31
+  -- k frames, and the state and the property of one more
+  n-bound : n d p k ≤ mostVariables
   unfolding n
   n-bound = let f : k * F d p ≤ maxBound * frameLimit = mul-le-mul few frame-bound in omega (arith, P-is d p, b .gates number, b .bits)
 
@@ -95,26 +96,26 @@ module _ (d : Design) (wf : WellFormed d) (b : Bounded d) (number k : ℕ) (few 
   unfolding stepClauseCount
   step-clauses = omega (arith, ties-bound, pair-bound (w d) (b .movers), b .movers)
 
-  words-bound : wordCount d p k < 2 ^ 35
+  words-bound : wordCount d p k < 2 ^ 36
   unfolding wordCount firstWords
   words-bound =
       let x : (1 + k) * wordsIn (propertyCost d p) ≤ (1 + maxBound) * wordsIn (propertyCost d p) = mul-le-mul (let q : 1 + k ≤ 1 + maxBound = omega arith in q) (le-refl (wordsIn (propertyCost d p))) in
       let y : k * stepWordCount d p ≤ maxBound * (16 * gatesIn (stepCost d p) + besideWords) = mul-le-mul few step-words in
       omega (arith, b .gates number, b .bits, few-taken p k)
 
-  clauses-bound : clauseCount d p k < 2 ^ 35
+  clauses-bound : clauseCount d p k < 2 ^ 34
   unfolding clauseCount firstClauses
   clauses-bound =
       let x : (1 + k) * clausesIn (propertyCost d p) ≤ (1 + maxBound) * clausesIn (propertyCost d p) = mul-le-mul (let q : 1 + k ≤ 1 + maxBound = omega arith in q) (le-refl (clausesIn (propertyCost d p))) in
       let y : k * stepClauseCount d p ≤ maxBound * (4 * gatesIn (stepCost d p) + besideClauses) = mul-le-mul few step-clauses in
       omega (arith, b .gates number, b .bits)
 
-  part-bound : (i : ℕ) → partWordCount d p k i < 2 ^ 28
+  part-bound : (i : ℕ) → partWordCount d p k i < 2 ^ 30
   unfolding partWordCount firstWords
   part-bound zero = omega (arith, b .bits)
   part-bound (suc j) = go (leb j k) (ltb j k)
     where
-      go : (t u : Bool) → cond t (wordsIn (propertyCost d p) + cond u (stepWordCount d p) 0) (suc (framesTaken p k)) < 2 ^ 28
+      go : (t u : Bool) → cond t (wordsIn (propertyCost d p) + cond u (stepWordCount d p) 0) (suc (framesTaken p k)) < 2 ^ 30
       go true true = omega (arith, b .gates number, step-words)
       go true false = omega (arith, b .gates number)
       go false u = omega (arith, few-taken p k)

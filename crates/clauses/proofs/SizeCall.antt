@@ -1,29 +1,25 @@
 -- SIZE's answers.
 use mathlib.Core.Path.{_≡_, sym, ap, ap₂, _∙_}
 use mathlib.Core.List.{List}
-use Prim.Native.Nat.{ℕ, _+_, _*_, _≤_, _<_}
+use Prim.Native.Nat.{ℕ, _+_, _*_, _<_}
 use lib.ListN.{getD}
 use Rattle.design.specs.Tree.{Design}
-use Rattle.design.specs.Check.{Checked, check}
-use Rattle.design.specs.Places.{Accepted}
-use Rattle.design.specs.declared.Refusal.{Refusal}
 use Rattle.design.specs.WellFormed.{WellFormed}
 use Rattle.design.proofs.WellFormed.{well-formed}
 use Rattle.design.proofs.Places.{read}
-use Rattle.step.specs.Limits.{lastProperty, maxBound}
 use Rattle.step.specs.Property.{Property, propertyOf}
-use Rattle.step.specs.Gate.{gateRefusal}
-use Rattle.step.proofs.Gates.{in-range, gate-refuses}
 use Rattle.clauses.specs.Formula.{S, w, n}
 use Rattle.clauses.specs.Cost.{gatesIn, wordsIn, propertyCost, stepCost, firstClauses, firstWords, stepClauseCount, stepWordCount, clauseCount, wordCount}
 use Rattle.clauses.specs.Size.{sizesOf, size}
 use Rattle.clauses.specs.FrameSizes.{frameSizes, formulaSizes}
-use Rattle.clauses.specs.Replies.{sevenOf, sizeReply}
+use Rattle.clauses.specs.Replies.{sevenOf, admissionSizes, sizeReply}
 use Rattle.clauses.specs.declared.frame.FrameSizes.{FrameSizes}
 use Rattle.clauses.specs.declared.frame.FormulaSizes.{FormulaSizes}
+use Rattle.clauses.specs.declared.admission.Admission.the-variants as admission
 use Rattle.clauses.specs.declared.size.SizeReply.the-variants.{Refused, Sized}
 use Rattle.clauses.proofs.Limits.{sizes-computed}
 use Rattle.clauses.proofs.FrameNumbers.{variables-are, frames-are}
+use Rattle.clauses.proofs.Admissions.{admission-refused, admission-admitted, admitted-in}
 
 -- SIZE's numbers, from the sizes of a frame of the design
 module _ (d : Design) (wf : WellFormed d) (p : Property) where
@@ -51,15 +47,14 @@ module _ (d : Design) (wf : WellFormed d) (p : Property) where
       }) (variables-are d wf p k) (frames-are k p)
 
 module _ (file : List ℕ) (p k : ℕ) where
-  pub size-refused : (r : Refusal) → r ≡ gateRefusal file p k → (r .number ≡ 0 → ⊥) → Refused (r .number) (r .place) ≡ sizeReply (size file p k)
+  pub size-refused : (number place : ℕ) → admission.Refused number place ≡ admissionSizes file p k → Refused number place ≡ sizeReply (size file p k)
   unfolding size
-  size-refused r e z = sym (ap sizeReply (gate-refuses file p k _ r e z))
+  size-refused number place e = sym (ap sizeReply (admission-refused file p k number place e _))
 
-  pub size-answer : Accepted file → p ≤ lastProperty file → k ≤ maxBound → ((i : ℕ) → getD file i 0 < 256) → (s : FrameSizes)
-      → ((d : Design) → check file ≡ Checked.accepted d → s ≡ frameSizes d (propertyOf d p)) → (r : FormulaSizes) → r ≡ formulaSizes s k
-      → Sized r ≡ sizeReply (size file p k)
+  pub size-answer : (s : FrameSizes) → admission.Passed s ≡ admissionSizes file p k → ((i : ℕ) → getD file i 0 < 256) → (r : FormulaSizes) → r ≡ formulaSizes s k → Sized r ≡ sizeReply (size file p k)
   unfolding size
-  size-answer h a b bytes s f r q =
-      let t = read file h in
-      ap Sized (q ∙ ap (λ (x : FrameSizes). formulaSizes x k) (f (t .tree) (t .is)) ∙ seven-are (t .tree) (well-formed file bytes (t .tree) (t .is)) (propertyOf (t .tree) p) k)
-      ∙ sym (ap sizeReply (in-range file p k _ h a b))
+  size-answer s e bytes r q =
+      let a = admission-admitted file p k s e bytes in
+      let t = read file (a .accepted) in
+      ap Sized (q ∙ ap (λ (x : FrameSizes). formulaSizes x k) (a .sizes (t .tree) (t .is)) ∙ seven-are (t .tree) (well-formed file bytes (t .tree) (t .is)) (propertyOf (t .tree) p) k)
+      ∙ sym (ap sizeReply (admitted-in a bytes _ (t .tree) (t .is)))

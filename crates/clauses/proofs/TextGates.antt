@@ -12,7 +12,7 @@ use Rattle.design.specs.Reading.{Read, got, bad, Reader, provided}
 use Rattle.design.specs.Expression.{Names, IntOp, BoolOp, intOp, boolOp, byte, word, legal, numbered, intOf, boolOf, intExpr, boolExpr}
 use Rattle.design.specs.Action.{StmtOp, stmtOp, value, assignment, statements, listOf, conditional, stmtOf, statement, list}
 use Rattle.clauses.specs.Cost.{Cost, gatesIn, intCost, boolCost, statementCost, statementsCost}
-use Rattle.clauses.specs.Limits.{gatesOfActionByte, textGates}
+use Rattle.clauses.specs.Limits.{gatesOfByte, textGates}
 use Rattle.clauses.specs.FrameSizes.{gatesAt}
 use Rattle.clauses.specs.declared.cost.GatesAt.{GatesAt}
 use Rattle.clauses.proofs.Bytes.{Reads, reads-got, reads-bad, reads-provided, reads-bind, int-bytes, bool-bytes, statement-bytes, list-bytes}
@@ -39,6 +39,10 @@ module _ (text : List ℕ) (names : Names) (end : ℕ) where
   intOf-ends operand h (IntOp.op-status next) at =
       reads-bind (byte text names end at) _ (byte-ends at) λ v m q.
       reads-provided (legal text names end next) _ (reads-provided (ltb v (names .matrices)) _ (reads-got _ _ q))
+  intOf-ends operand h IntOp.op-product at =
+      reads-bind (word text names end at) _ (word-ends at) λ c m q.
+      reads-bind (operand m) _ (h m) λ a j r.
+      reads-got _ _ r
   intOf-ends operand h IntOp.op-unknown at = reads-bad
   intOf-ends operand h (IntOp.op-ints f) at =
       reads-bind (operand at) _ (h at) λ a m q.
@@ -123,13 +127,13 @@ module _ (text : List ℕ) (names : Names) (end : ℕ) where
   list-ends : (nest at : ℕ) → Ends (list text names end nest at)
   list-ends nest at = listOf-ends (statement text names end nest) (statement-ends nest) at
 
--- at most gatesOfActionByte gates a byte, of at most maxBytes bytes
+-- at most gatesOfByte gates a byte, of at most maxBytes bytes
 pub record Few (r : GatesAt) : Type 0 where
   pub ands : r .ands ≤ textGates
   pub wides : r .wides ≤ textGates
   pub next : r .next ≤ maxBytes
 
-few : {A : Type 0} (f : A → Cost) (x : Read A) (end : ℕ) → end ≤ maxBytes → Reads (λ (a : A) (n : ℕ). gatesIn (f a) ≤ gatesOfActionByte * n) x → Reads (λ (a : A) (n : ℕ). n ≤ end) x
+few : {A : Type 0} (f : A → Cost) (x : Read A) (end : ℕ) → end ≤ maxBytes → Reads (λ (a : A) (n : ℕ). gatesIn (f a) ≤ gatesOfByte * n) x → Reads (λ (a : A) (n : ℕ). n ≤ end) x
     → (r : GatesAt) → r ≡ gatesAt f x → Few r
 few f (got a n) end l h k r e =
     let p = h .of a n refl in

@@ -150,6 +150,11 @@ module _ (d : Design) (p : Property) where
   unfolding n frame
   last-past k = omega arith
 
+  -- a greater bound has no fewer variables
+  pub n-up : (j k : ℕ) → j ≤ k → n d p j ≤ n d p k
+  unfolding n frame
+  n-up j k h = omega (arith, past-up j k h)
+
 module _ (d : Design) (wf : WellFormed d) (p : Property) (ok : PropertyOk d p) where
   state-below : (j m : ℕ) → past d p j ≤ m → SlotsBelow m (stateAt d (frame d p j))
   state-below j m h = slots-up (omega arith) (stateAt d (frame d p j)) (state-fits d wf p (frame d p j) (frame-big d p j) .below)

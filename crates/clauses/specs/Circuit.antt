@@ -1,8 +1,10 @@
 -- Circuits. A builder is told the next free variable and gives its result, the variable that is free after it, and its gates in order.
 -- A name that ends in ! is a builder. Bits stand low first.
 use mathlib.Core.List.{List, [], _∷_, _++_, map}
-use Prim.Native.Nat.{ℕ, suc}
-use Rattle.clauses.specs.Literal.{Literal, positive, negate, trueLiteral}
+use Prim.Native.Nat.{ℕ, zero, suc, _/_, _%_}
+use mathlib.Core.Bool.{Bool, true, false}
+use Rattle.design.specs.Tree.{truth}
+use Rattle.clauses.specs.Literal.{Literal, positive, negate, trueLiteral, falseLiteral}
 use Rattle.clauses.specs.Gate.{Gate, and, xor, mux}
 
 pub record Built (A : Type 0) : Type 0 where
@@ -67,6 +69,24 @@ sum! (a ∷ xs) (b ∷ ys) c = do
 -- "Difference negates b and starts with carry true."
 unfoldable pub difference! : Bits → Bits → Build Summed
 difference! a b = sum! a (map negate b) trueLiteral
+
+-- one place up: x comes in below, and the top is dropped
+abbrev pub shift : Literal → Bits → Bits
+shift x [] = []
+shift x (y ∷ ys) = x ∷ shift y ys
+
+-- "the shifted operand or all false", by a bit of the constant
+abbrev pub addend : Bool → Bits → Bits
+addend true xs = xs
+addend false xs = map (λ (x : Literal). falseLiteral) xs
+
+-- A product by a constant (document 02, R-2): "16 sums from low bit to high, starting from all false, each adding the shifted operand or all false". Of so many sums
+-- that are left: the constant without the bits that are done, the operand shifted so far, and the sum so far.
+unfoldable pub product! : ℕ → ℕ → Bits → Bits → Build Bits
+product! zero c xs partial = give partial
+product! (suc left) c xs partial = do
+  r ← sum! partial (addend (truth (c % 2)) xs) falseLiteral
+  product! left (c / 2) (shift falseLiteral xs) (r .bits)
 
 -- the top bit negated
 abbrev pub negateTop : Bits → Bits

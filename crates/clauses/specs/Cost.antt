@@ -4,7 +4,7 @@ use mathlib.Core.Bool.{cond}
 use mathlib.Core.List.{List, [], _∷_}
 use Prim.Native.Nat.{ℕ, zero, suc, _+_, _*_}
 use lib.Dec.{leb, ltb}
-use Rattle.design.specs.Tree.{IntExpr, BoolExpr, Stmt, Stmts, constant, variable, status, sum, difference, constantB, variableB, notB, andB, orB, equal, less, assign, assignB, ifElse, done, then, InvalidCell, Design, Mover, cell, raise, movers}
+use Rattle.design.specs.Tree.{IntExpr, BoolExpr, Stmt, Stmts, constant, variable, status, sum, difference, product, constantB, variableB, notB, andB, orB, equal, less, assign, assignB, ifElse, done, then, InvalidCell, Design, Mover, cell, raise, movers}
 use Rattle.step.specs.Property.{Property, invariant, noInvalidCell, constraint}
 use Rattle.clauses.specs.Formula.{S, w, framesTaken}
 
@@ -32,6 +32,10 @@ wordsIn c = 10 * c .ands + 16 * c .wides
 abbrev pub sumCost : Cost
 sumCost = cost 48 32
 
+-- "It costs 16 sums": 1,280 gates (document 02, R-2)
+abbrev pub productCost : Cost
+productCost = cost (16 * 48) (16 * 32)
+
 abbrev pub equalCost : Cost
 equalCost = cost 16 16
 
@@ -41,6 +45,7 @@ intCost (variable v) = cost 0 0
 intCost (status m) = cost 0 0
 intCost (sum a b) = addCosts (addCosts (intCost a) (intCost b)) sumCost
 intCost (difference a b) = addCosts (addCosts (intCost a) (intCost b)) sumCost
+intCost (product c a) = addCosts (intCost a) productCost
 
 unfoldable pub boolCost : BoolExpr → Cost
 boolCost (constantB b) = cost 0 0

@@ -6,8 +6,8 @@ use lib.Dec.{leb, eqb}
 use lib.ListN.{length, take, drop}
 use Rattle.design.specs.Tree.{Design}
 use Rattle.step.specs.Property.{Property}
-use Rattle.step.specs.Gate.{gate}
 use Rattle.clauses.specs.Formula.{S, P, w, n, frame}
+use Rattle.clauses.specs.Admission.{admit}
 use Rattle.design.specs.Answer.{Answer, refused, answer, need}
 
 -- every one is 0 or 1; how many are 1; the place of the first 1
@@ -40,12 +40,17 @@ module _ (d : Design) (q : Property) (values : List ℕ) where
   chosenFrom zero j = answer []
   chosenFrom (suc m) j = need (justOne (flagValues j)) 18 j (withChoice (firstOne (flagValues j)) (chosenFrom m (suc j)))
 
--- the choices that are to be written where there is room for so many: "DECODE: 13; 14; 16 values under n or choices under k; 18"
-unfoldable pub choicesToWrite : List ℕ → ℕ → ℕ → List ℕ → ℕ → Answer (List ℕ)
-choicesToWrite file p k values room =
-    gate file p k λ d q.
+-- the choices that are to be written where there is room for so many, once the call is admitted: "16 values under n or choices under k; 18"
+unfoldable pub choicesOf : Design → Property → ℕ → List ℕ → ℕ → Answer (List ℕ)
+choicesOf d q k values room =
     need (leb (n d q k) (length values) && leb k room) 16 0
     (chosenFrom d q values k 0)
+
+-- "DECODE: 13; 14; 16 values under n or choices under k; 18". 19 is straight after 14 (document 02, R-2).
+unfoldable pub choicesToWrite : List ℕ → ℕ → ℕ → List ℕ → ℕ → Answer (List ℕ)
+choicesToWrite file p k values room =
+    admit file p k λ d q.
+    choicesOf d q k values room
 
 -- the answer, which holds nothing, and the choices after the call
 pub record AfterDecode : Type 0 where

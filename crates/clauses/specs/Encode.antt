@@ -4,15 +4,16 @@ use Prim.Native.Nat.{ℕ, _+_}
 use lib.Dec.{leb}
 use lib.ListN.{length, drop}
 use lib.IntN.{ℤ}
-use Rattle.step.specs.Gate.{gate}
 use Rattle.clauses.specs.Words.{words}
 use Rattle.clauses.specs.Formula.{part}
+use Rattle.clauses.specs.Admission.{admit}
 use Rattle.design.specs.Answer.{Answer, refused, answer, need}
 
--- the words that are to be written to a buffer of this length: "ENCODE: 13; 14; 15 part over k+2; 16 buffer short."
+-- the words that are to be written to a buffer of this length: "ENCODE: 13; 14; 15 part over k+2; 16 buffer short." 19 is straight after 14
+-- (document 02, R-2).
 unfoldable pub wordsToWrite : List ℕ → ℕ → ℕ → ℕ → ℕ → Answer (List ℤ)
 wordsToWrite file p k i room =
-    gate file p k λ d q.
+    admit file p k λ d q.
     need (leb i (k + 2)) 15 0
     (need (leb (length (words (part d q k i))) room) 16 0
     (answer (words (part d q k i))))

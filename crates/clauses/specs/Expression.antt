@@ -2,10 +2,10 @@
 use mathlib.Core.List.{List, [], _∷_}
 use Prim.Native.Nat.{ℕ, zero, suc, _/_, _%_}
 use lib.ListN.{getD}
-use Rattle.design.specs.Tree.{IntExpr, BoolExpr, constant, variable, status, sum, difference, constantB, variableB, notB, andB, orB, equal, less, truth}
+use Rattle.design.specs.Tree.{IntExpr, BoolExpr, constant, variable, status, sum, difference, product, constantB, variableB, notB, andB, orB, equal, less, truth}
 use Rattle.design.specs.State.{Layout, statusSlot}
 use Rattle.clauses.specs.Literal.{Literal, negate, falseLiteral, literalOf}
-use Rattle.clauses.specs.Circuit.{Build, give, _>>=_, and!, or!, Bits, sum!, difference!, less!, equal! }
+use Rattle.clauses.specs.Circuit.{Build, give, _>>=_, and!, or!, Bits, sum!, difference!, product!, less!, equal! }
 
 -- a state in literals: the bits of each slot
 abbrev pub Slots : Type 0
@@ -48,6 +48,9 @@ int! l s (difference a b) = do
   y ← int! l s b
   r ← difference! x y
   give (r .bits)
+int! l s (product c a) = do
+  x ← int! l s a
+  product! 16 c x (constantBits 16 0)
 
 unfoldable pub bool! : Layout → Slots → BoolExpr → Build Literal
 bool! l s (constantB b) = give (literalOf b)

@@ -13,7 +13,7 @@ unfoldable pub use Rattle.design.specs.State.{S}
 use Rattle.clauses.specs.Literal.{Literal, positive, negate, trueLiteral, Clause}
 use Rattle.clauses.specs.Meaning.{Assignment, literalTrue}
 use Rattle.clauses.specs.Gate.{gatesClauses}
-use Rattle.clauses.specs.Circuit.{Built, Build, give, _>>=_, and!, xor!, mux!, or!, Bits, sum!, difference!, less!, xors!, chain!, equal! }
+use Rattle.clauses.specs.Circuit.{Built, Build, give, _>>=_, and!, xor!, mux!, or!, Bits, sum!, difference!, product!, less!, xors!, chain!, equal! }
 use Rattle.clauses.specs.Expression.{Slots, int!, bool! }
 use Rattle.clauses.specs.Action.{muxBits!, muxes!, statement!, statements!, statusAndEvent!, enable!, effect!, mover!, movers!, noInvalid! }
 
@@ -192,7 +192,7 @@ module _ (d : Design) where
 
 -- Not part of the formula: to unfold this is to unfold all of it, for facts about given designs.
 unfoldable pub encoding : ℕ
-unfolding give _>>=_ and! xor! mux! or! sum! difference! less! xors! chain! equal! int! bool! muxBits! muxes! statement! statements! statusAndEvent!
+unfolding give _>>=_ and! xor! mux! or! sum! difference! product! less! xors! chain! equal! int! bool! muxBits! muxes! statement! statements! statusAndEvent!
     enable! effect! mover! movers! noInvalid! movers layout widths start S w propertyOf property! stepProperty! step! stateAt propertyAt flagsAt stepAt
     stepPropertyAt P G F frame n firstPart propertyClauses stepPropertyIn stepClauses framePart propertyLiteralIn negatedFrom lastClause part partsFrom formula choicesFrom choices
 encoding = 0

@@ -9,7 +9,9 @@ pub mod Circuit
 pub mod Expression
 pub mod Action
 pub mod Formula
--- the calls (document 01, "Turned-back calls"), and the theorem
+-- the calls (document 01, "Turned-back calls"; 19 of document 02, R-2), and the theorem
+pub mod Limits
+pub mod Admission
 pub mod Size
 pub mod Encode
 pub mod Decode
@@ -17,8 +19,7 @@ pub mod Replies
 pub mod Theorem
 -- sizes by arithmetic
 pub mod Cost
--- inner functions: limits, the buffer, the literals of a state, encoders, sizes, DECODE's loops
-pub mod Limits
+-- inner functions: the buffer, the literals of a state, encoders, sizes, DECODE's loops
 pub mod Writing
 pub mod Piece
 pub mod FlatState

@@ -1,7 +1,7 @@
 -- What the functions over an accepted file are given, its shape and its table of events, and what those for cells and movers write.
 use mathlib.Core.Path.{_≡_}
 use mathlib.Core.List.{List, [], _∷_, _++_, map}
-use Prim.Native.Nat.{ℕ, _+_, _*_, _<_, _≤_}
+use Prim.Native.Nat.{ℕ, _+_, _<_, _≤_}
 use lib.ListN.{length, getD, take, drop}
 use lib.IntN.{ℤ}
 use Rattle.design.specs.Tree.{BoolExpr, Variable, InvalidCell, Design, Mover, movers}
@@ -17,12 +17,12 @@ use Rattle.clauses.specs.Words.{words}
 use Rattle.clauses.specs.Formula.{total, variablesFrom, slotsFrom, flat, initialUnits, ties, allTies, property!, stepProperty!, stateAt, propertyAt, stepPropertyAt, propertyLiteral, S, P, F, n, frame, stepClauses, framePart, lastClause, part, formula}
 use Rattle.clauses.specs.Expression.{Slots, bool! }
 use Rattle.clauses.specs.Action.{statusAndEvent!, enable!, mover!, movers!, noInvalid! }
-use Rattle.clauses.specs.Limits.{frameLimit}
+use Rattle.clauses.specs.Limits.{lastVariable}
 use Rattle.clauses.specs.Writing.{variableLimit, fromCode, Puts, Emits}
 use Rattle.clauses.specs.Piece.{link! }
 use Rattle.clauses.specs.FlatState.{widthsIn, layoutOf, cut, slotsOf}
 use Rattle.clauses.specs.Encoders.{Gives, Writes}
-use Rattle.clauses.specs.FrameSizes.{frameSizes, SmallFrame}
+use Rattle.clauses.specs.FrameSizes.{frameSizes, SmallFrame, variablesOf}
 use Rattle.step.specs.Limits.{lastProperty, maxBound}
 use Rattle.clauses.specs.declared.gate.Cursor.{Cursor}
 use Rattle.clauses.specs.declared.gate.Out.{Out}
@@ -107,13 +107,13 @@ module _ (file : List ℕ) (xs ys : List ℤ) (cur cur′ : ℕ) where
   ValuesPut =
       (d : Design) (parts : Parts file d) → Puts (words (initialUnits (slotsFrom 2 (map (λ (x : Variable). width (x .kind)) (d .variables))) (map (λ (x : Variable). x .initial) (d .variables)))) xs ys cur cur′
 
-  abbrev pub StepPut : FrameSizes → ℕ → ℕ → Type 0
-  StepPut s p v =
-      (d : Design) (j : ℕ) → check file ≡ Checked.accepted d → s ≡ frameSizes d (propertyOf d p) → j < maxBound → v ≡ frame d (propertyOf d p) j
-      → Puts (words (stepClauses d (propertyOf d p) j)) xs ys cur cur′
+  abbrev pub StepPut : Instance → ℕ → Type 0
+  StepPut z v =
+      (d : Design) (j : ℕ) → check file ≡ Checked.accepted d → z .sizes ≡ frameSizes d (propertyOf d (z .property)) → j < z .bound → v ≡ frame d (propertyOf d (z .property)) j
+      → Puts (words (stepClauses d (propertyOf d (z .property)) j)) xs ys cur cur′
 
   abbrev pub LastPut : ℕ → ℕ → FrameSizes → Type 0
-  LastPut p k s = (d : Design) → check file ≡ Checked.accepted d → s ≡ frameSizes d (propertyOf d p) → n d (propertyOf d p) k < variableLimit → Puts (words (lastClause d (propertyOf d p) k ∷ [])) xs ys cur cur′
+  LastPut p k s = (d : Design) → check file ≡ Checked.accepted d → s ≡ frameSizes d (propertyOf d p) → Puts (words (lastClause d (propertyOf d p) k ∷ [])) xs ys cur cur′
 
   -- a frame's part, any part, and all, of the formula that is written
   abbrev pub FramePut : Instance → ℕ → Type 0
@@ -125,17 +125,26 @@ module _ (file : List ℕ) (xs ys : List ℤ) (cur cur′ : ℕ) where
   abbrev pub FormulaPut : Instance → Type 0
   FormulaPut z = (d : Design) → check file ≡ Checked.accepted d → z .sizes ≡ frameSizes d (propertyOf d (z .property)) → Puts (words (formula d (propertyOf d (z .property)) (z .bound))) xs ys cur cur′
 
--- no frame starts above this
-abbrev pub startLimit : ℕ
-startLimit = 2 + maxBound * frameLimit
+-- a formula that may be written: its bound is not too high, and n is not, which the calls have tested (19)
+pub record SmallFormula (s : FrameSizes) (k : ℕ) : Type 0 where
+  pub sizes : SmallFrame s
+  pub bound : k ≤ maxBound
+  pub numbers : variablesOf s k ≤ lastVariable
 
--- what the writer of parts is given beside: both tables, that bytes are bytes, and the sizes of a frame
-pub record FrameReady (file events cells : List ℕ) (shape : Shape) (s : FrameSizes) : Type 0 where
-  pub ready : Ready file events shape
+-- what the writer of parts is given beside: both tables, that bytes are bytes, and that the formula may be written
+pub record FormulaReady (file events cells : List ℕ) (z : Instance) : Type 0 where
+  pub ready : Ready file events (z .shape)
   pub bytes : (i : ℕ) → getD file i 0 < 256
-  pub normals : CellsIndexed file cells (shape .normals)
-  pub small : SmallFrame s
-  pub movers : s .movers ≡ shape .normals + shape .externals
+  pub normals : CellsIndexed file cells (z .shape .normals)
+  pub small : SmallFormula (z .sizes) (z .bound)
+  pub movers : z .sizes .movers ≡ z .shape .normals + z .shape .externals
+
+-- what a call about a formula has tested (`admit`), and the sizes of a frame
+pub record Admitted (file : List ℕ) (p k : ℕ) (s : FrameSizes) : Type 0 where
+  pub accepted : Accepted file
+  pub property : p ≤ lastProperty file
+  pub small : SmallFormula s k
+  pub sizes : (d : Design) → check file ≡ Checked.accepted d → s ≡ frameSizes d (propertyOf d p)
 
 -- What writing the whole formula for a bound asks for, and what it leaves: the words at the buffer's front, with the numbers of words and variables.
 pub record Writable (file : List ℕ) (p k : ℕ) (buffer : List ℤ) : Type 0 where
@@ -143,6 +152,7 @@ pub record Writable (file : List ℕ) (p k : ℕ) (buffer : List ℤ) : Type 0 w
   pub accepted : check file ≡ Checked.accepted design
   pub property : p ≤ lastProperty file
   pub bound : k ≤ maxBound
+  pub numbers : n design (propertyOf design p) k ≤ lastVariable
   pub room : length (words (formula design (propertyOf design p) k)) ≤ length buffer
 
 pub record Written (d : Design) (q : Property) (k : ℕ) (before after : List ℤ) (count variables : ℕ) : Type 0 where

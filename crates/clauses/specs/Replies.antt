@@ -3,10 +3,15 @@ use mathlib.Core.List.{List}
 use Prim.Native.Nat.{ℕ}
 use lib.IntN.{ℤ}
 use Rattle.design.specs.Answer.{Answer, refused, answer}
+use Rattle.clauses.specs.Admission.{admit}
+use Rattle.clauses.specs.FrameSizes.{frameSizes}
 use Rattle.clauses.specs.Size.{Sizes}
 use Rattle.clauses.specs.Encode.{AfterEncode, encode}
 use Rattle.clauses.specs.Decode.{AfterDecode, decode}
+use Rattle.clauses.specs.declared.frame.FrameSizes.{FrameSizes}
 use Rattle.clauses.specs.declared.frame.FormulaSizes.{FormulaSizes}
+use Rattle.clauses.specs.declared.admission.Admission.{Admission}
+use Rattle.clauses.specs.declared.admission.Admission.the-variants as admission
 use Rattle.clauses.specs.declared.size.SizeReply.{SizeReply}
 use Rattle.clauses.specs.declared.size.SizeReply.the-variants.{Sized}
 use Rattle.clauses.specs.declared.size.SizeReply.the-variants as size-reply
@@ -15,6 +20,14 @@ use Rattle.clauses.specs.declared.encode.EncodeReply.the-variants as enc
 use Rattle.clauses.specs.declared.decode.DecodeReply.{DecodeReply}
 use Rattle.clauses.specs.declared.decode.DecodeReply.the-variants.{Done}
 use Rattle.clauses.specs.declared.decode.DecodeReply.the-variants as decode-reply
+
+-- what every call about a formula refuses first, or else the sizes of a frame
+abbrev pub admissionReply : Answer FrameSizes → Admission
+admissionReply (refused number place) = admission.Refused number place
+admissionReply (answer s) = admission.Passed s
+
+abbrev pub admissionSizes : List ℕ → ℕ → ℕ → Admission
+admissionSizes file p k = admissionReply (admit file p k (λ d q. answer (frameSizes d q)))
 
 -- "S, P, w, G, n and the whole formula's clauses and words"
 abbrev pub sevenOf : Sizes → FormulaSizes

@@ -4,9 +4,9 @@ use Prim.Native.Nat.{ℕ}
 use lib.ListN.{length}
 use Rattle.design.specs.Tree.{Design}
 use Rattle.step.specs.Property.{Property}
-use Rattle.step.specs.Gate.{gate}
 use Rattle.clauses.specs.Words.{words}
 use Rattle.clauses.specs.Formula.{S, P, w, G, n, formula}
+use Rattle.clauses.specs.Admission.{admit}
 use Rattle.design.specs.Answer.{Answer, answer}
 
 pub record Sizes : Type 0 where
@@ -30,8 +30,8 @@ sizesOf d q k = record {
   words = length (words (formula d q k));
 }
 
--- "SIZE: 13; 14 bound over 100." 13 is "property over 1", with a constraint over 2. "Places not named are 0."
+-- "SIZE: 13; 14 bound over 100." 13 is "property over 1", with a constraint over 2. "Places not named are 0." Then 19 (document 02, R-2).
 unfoldable pub size : List ℕ → ℕ → ℕ → Answer Sizes
 size file p k =
-    gate file p k λ d q.
+    admit file p k λ d q.
     answer (sizesOf d q k)

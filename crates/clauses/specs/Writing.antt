@@ -7,6 +7,7 @@ use lib.Dec.{eqb}
 use lib.ListN.{length, set}
 use lib.IntN.{ℤ}
 use Rattle.clauses.specs.Literal.{Literal, positive, negative}
+use Rattle.clauses.specs.Limits.{lastVariable}
 use Rattle.clauses.specs.Words.{words}
 use Rattle.clauses.specs.Gate.{Gate, gatesClauses}
 use Rattle.clauses.specs.Circuit.{Built, Bits}
@@ -26,9 +27,9 @@ put at (w ∷ ws) xs = put (suc at) ws (set xs at w)
 unfoldable pub gateWords : List Gate → List ℤ
 gateWords gs = words (gatesClauses gs)
 
--- Variables are below 2^31. A cursor counts the words so far, up to 2^62.
+-- Variables are below this. A cursor counts the words so far, up to 2^62.
 abbrev pub variableLimit : ℕ
-variableLimit = 2147483648
+variableLimit = lastVariable + 1
 
 abbrev pub wordLimit : ℕ
 wordLimit = 4611686018427387904

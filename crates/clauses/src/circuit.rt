@@ -1,8 +1,9 @@
 // Circuits over words of sixteen literals, low first.
 ghost use mathlib.Core.Path.{_≡_};
 ghost use mathlib.Core.List.{map};
-ghost use Rattle.clauses.specs.Literal.{negate as negated};
-ghost use Rattle.clauses.specs.Circuit.{negateTop, sum!, difference!, less!, xors!, chain!, equal! };
+ghost use Rattle.design.specs.Tree.{truth};
+ghost use Rattle.clauses.specs.Literal.{negate as negated, falseLiteral};
+ghost use Rattle.clauses.specs.Circuit.{shift as shifted, addend as addendOf, negateTop, sum!, difference!, less!, xors!, chain!, equal! };
 ghost use Rattle.clauses.specs.Writing.{fromCode, fromCodes, Emits};
 ghost use Rattle.clauses.specs.Piece.{sumBit! };
 ghost use Rattle.clauses.specs.Encoders.{Sums, SumsBit};
@@ -67,6 +68,29 @@ pub fn sum(a: [u32; 16], b: [u32; 16], c: u32, buf: &mut [i32], cur: usize, var:
         cur: at,
         var: g,
     }
+}
+
+// One place up: false (3) comes in below, and the top is dropped.
+pub fn shift(x: [u32; 16]) -> [u32; 16]
+    ensures { λ r. ⌜ fromCodes r ≡ shifted falseLiteral (fromCodes x) ⌝ }
+{
+    let mut out = [3u32; 16];
+    let mut i: usize = 1;
+    while i < 16 {
+        out[i] = x[i - 1];
+        i = i + 1;
+    }
+    out
+}
+
+// The operand where a bit of the constant is 1, else all false (3).
+pub fn addend(bit: u16, x: [u32; 16]) -> [u32; 16]
+    ensures { λ r. ⌜ fromCodes r ≡ addendOf (truth bit) (fromCodes x) ⌝ }
+{
+    if bit == 0 {
+        return [3u32; 16];
+    }
+    x
 }
 
 pub fn negate_all(b: [u32; 16]) -> [u32; 16]

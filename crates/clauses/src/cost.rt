@@ -63,6 +63,10 @@ pub fn size_int(text: &[u8], at: usize, end: usize, shape: Shape) -> GatesAt
             join(a, b, 48, 32)
         }
         0x06..=0x07 => no_gates(at + 2),
+        0x08 => {
+            let a = size_int(text, at + 3, end, shape);
+            join(no_gates(at), a, 768, 512)
+        }
         _ => no_gates(at),
     }
 }

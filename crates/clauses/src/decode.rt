@@ -4,14 +4,19 @@ ghost use mathlib.Core.List.{_++_};
 ghost use Prim.Native.Nat.{_+_, _*_, _≤_};
 ghost use lib.ListN.{length, drop};
 ghost use Rattle.design.specs.Limits.{maxMovers};
-ghost use Rattle.design.specs.Places.{Accepted};
-ghost use Rattle.step.specs.Limits.{lastProperty, maxBound};
+ghost use Rattle.design.specs.Tree.{Design};
+ghost use Rattle.design.specs.WellFormed.{WellFormed};
+ghost use Rattle.step.specs.Property.{Property};
+ghost use Rattle.step.specs.Limits.{maxBound};
 ghost use Rattle.clauses.specs.Chosen.{firstNonzero, allZero, chosenIn, firstBad, chosenList};
-ghost use Rattle.clauses.specs.Replies.{DECODE};
+ghost use Rattle.clauses.specs.Decode.{choicesOf, written};
+ghost use Rattle.clauses.specs.FrameSizes.{SmallFrame, frameSizes};
+ghost use Rattle.clauses.specs.Replies.{decodeExit, DECODE};
+use super::admission::Admission;
+use super::admission::admit;
+use super::frame::FrameSizes;
 use super::frame::frame_length;
-use super::frame::sizes;
 use super::frame::variables;
-use step::gate::gate;
 
 pub enum DecodeReply {
     Refused { number: u8, place: usize },
@@ -104,18 +109,12 @@ pub fn write_choices(
     }
 }
 
-// DECODE on an accepted design, for a property and a bound that are in range.
-pub fn decode_accepted(
-    file: &[u8],
-    property: u64,
-    bound: u64,
-    values: &[u8],
-    choices: &mut [u8],
-) -> DecodeReply
-    requires { ⌜ Accepted (now file) × (property ≤ lastProperty (now file)) × (bound ≤ maxBound) ⌝ }
-    ensures { λ r. ⌜ record { reply = r; choices = now (choices .exit) } ≡ DECODE (now (file .entry)) property bound (now (values .entry)) (now (choices .entry)) ⌝ }
+// DECODE once it is admitted; `s` has the sizes of a frame.
+pub fn decode_frames(s: FrameSizes, bound: u64, values: &[u8], choices: &mut [u8]) -> DecodeReply
+    requires { ⌜ SmallFrame s × (bound ≤ maxBound) ⌝ }
+    ensures { λ r. ⌜ ((d : Design) (q : Property) → WellFormed d → s ≡ frameSizes d q → record { reply = r; choices = now (choices .exit) }
+        ≡ decodeExit (written (choicesOf d q bound (now (values .entry)) (length (now (choices .entry)))) (now (choices .entry)))) ⌝ }
 {
-    let s = sizes(file, property);
     let k = bound as usize;
     if (values.len() as u64) < variables(s, bound) {
         return DecodeReply::Refused {
@@ -153,12 +152,8 @@ pub fn decode(
 ) -> DecodeReply
     ensures { λ r. ⌜ record { reply = r; choices = now (choices .exit) } ≡ DECODE (now (file .entry)) property bound (now (values .entry)) (now (choices .entry)) ⌝ }
 {
-    let refusal = gate(file, property, bound);
-    if refusal.number != 0 {
-        return DecodeReply::Refused {
-            number: refusal.number,
-            place: refusal.place,
-        };
+    match admit(file, property, bound) {
+        Admission::Refused { number, place } => DecodeReply::Refused { number, place },
+        Admission::Passed(s) => decode_frames(s, bound, values, choices),
     }
-    decode_accepted(file, property, bound, values, choices)
 }

@@ -4,10 +4,11 @@ ghost use Prim.Native.Nat.{_+_, _≤_};
 ghost use Rattle.step.specs.Property.{propertyOf};
 ghost use Rattle.design.specs.Tree.{Design};
 ghost use Rattle.design.specs.Check.{check, accepted};
-ghost use Rattle.design.specs.Places.{Accepted};
-ghost use Rattle.step.specs.Limits.{lastProperty, maxBound};
 ghost use Rattle.clauses.specs.Replies.{ENCODE};
-ghost use Rattle.clauses.specs.Ready.{Writable, Written};
+ghost use Rattle.clauses.specs.Ready.{Admitted, Writable, Written};
+use super::admission::Admission;
+use super::admission::admit;
+use super::frame::FrameSizes;
 use super::frame::part_words;
 use super::frame::sizes;
 use super::frame::variables;
@@ -19,7 +20,6 @@ use design::index::index_events;
 use design::index::shape;
 use design::limits::EVENT_PLACES;
 use design::limits::MAX_MOVERS;
-use step::gate::gate;
 
 pub enum EncodeReply {
     Refused { number: u8, place: usize },
@@ -32,18 +32,18 @@ pub struct Formula {
     pub variables: usize,
 }
 
-// ENCODE on an accepted design, for a property, a bound and a part that are in range.
-pub fn encode_accepted(
+// ENCODE of a part that is there, once it is admitted; `s` has the sizes of a frame.
+pub fn encode_admitted(
     file: &[u8],
     property: u64,
     bound: u64,
     part: u64,
+    s: FrameSizes,
     buffer: &mut [i32],
 ) -> EncodeReply
-    requires { ⌜ Accepted (now file) × (property ≤ lastProperty (now file)) × (bound ≤ maxBound) × (part ≤ bound + 2) ⌝ }
+    requires { ⌜ Admitted (now file) property bound s × (part ≤ bound + 2) ⌝ }
     ensures { λ r. ⌜ record { reply = r; buffer = now (buffer .exit) } ≡ ENCODE (now (file .entry)) property bound part (now (buffer .entry)) ⌝ }
 {
-    let s = sizes(file, property);
     let words = part_words(s, bound, part);
     if (buffer.len() as u64) < words {
         return EncodeReply::Refused {
@@ -69,20 +69,18 @@ pub fn encode_accepted(
 pub fn encode(file: &[u8], property: u64, bound: u64, part: u64, buffer: &mut [i32]) -> EncodeReply
     ensures { λ r. ⌜ record { reply = r; buffer = now (buffer .exit) } ≡ ENCODE (now (file .entry)) property bound part (now (buffer .entry)) ⌝ }
 {
-    let refusal = gate(file, property, bound);
-    if refusal.number != 0 {
-        return EncodeReply::Refused {
-            number: refusal.number,
-            place: refusal.place,
-        };
+    match admit(file, property, bound) {
+        Admission::Refused { number, place } => EncodeReply::Refused { number, place },
+        Admission::Passed(s) => {
+            if bound + 2 < part {
+                return EncodeReply::Refused {
+                    number: 15,
+                    place: 0,
+                };
+            }
+            encode_admitted(file, property, bound, part, s, buffer)
+        }
     }
-    if bound + 2 < part {
-        return EncodeReply::Refused {
-            number: 15,
-            place: 0,
-        };
-    }
-    encode_accepted(file, property, bound, part, buffer)
 }
 
 // Writes the whole formula to the buffer's front.

@@ -11,15 +11,18 @@ ghost use lib.IntN.{ℤ};
 ghost use Rattle.design.specs.Tree.{truth};
 ghost use Rattle.design.specs.State.{layoutOf, numberIn};
 ghost use Rattle.clauses.specs.Literal.{literalOf};
+ghost use Rattle.clauses.specs.Circuit.{product! };
 ghost use Rattle.clauses.specs.Expression.{constantBits, pad, integerAt, booleanAt};
 ghost use Rattle.clauses.specs.Formula.{total};
 ghost use Rattle.clauses.specs.Writing.{fromCode, fromCodes};
 ghost use Rattle.clauses.specs.Piece.{arithmetic!, logic!, compare! };
 ghost use Rattle.clauses.specs.FlatState.{readSlots, Slotted};
 ghost use Rattle.clauses.specs.Encoders.{Writes, IntHere, BoolHere, IntEncoded, BoolEncoded};
+use super::circuit::addend;
 use super::circuit::difference;
 use super::circuit::equal;
 use super::circuit::less;
+use super::circuit::shift;
 use super::circuit::sum;
 use super::gate::Cursor;
 use super::gate::emit_and;
@@ -107,6 +110,36 @@ fn arithmetic(op: u8, a: [u32; 16], b: IntOut, buf: &mut [i32]) -> IntOut
         },
         next: b.next,
     }
+}
+
+// The sums of a product that are left: c is the constant without the bits that are done, x the operand shifted so far, and `partial` has the sum so far.
+fn product(left: usize, c: u16, x: [u32; 16], partial: IntOut, buf: &mut [i32]) -> IntOut
+    ensures { λ r. ⌜ Writes (partial .pen) (product! left c (fromCodes x) (fromCodes (partial .lits))) (now (buf .entry)) (now (buf .exit)) (fromCodes (r .lits)) (r .pen) × (r .next ≡ partial .next) ⌝ }
+{
+    if left == 0 {
+        return partial;
+    }
+    let y = partial.lits;
+    let w = sum(
+        y,
+        addend(c % 2, x),
+        FALSE,
+        buf,
+        partial.pen.cur,
+        partial.pen.var,
+    );
+    let z = w.lits;
+    let pen = Cursor {
+        cur: w.cur,
+        var: w.var,
+    };
+    product(
+        left - 1,
+        c / 2,
+        shift(x),
+        int_out(z, pen, partial.next),
+        buf,
+    )
 }
 
 fn logic(op: u8, a: u32, b: BoolOut, buf: &mut [i32]) -> BoolOut
@@ -206,7 +239,7 @@ fn int_out(lits: [u32; 16], pen: Cursor, next: usize) -> IntOut
 // The constant, variable or status at `at`: no gates.
 fn int_leaf(text: &[u8], file: &[u8], at: usize, shape: Shape, bits: &[u32], pen: Cursor) -> IntOut
     requires { ⌜ ((later : Bool) × Slotted later (now file) shape (now bits) × IntHere (now text) (now file) shape later at)
-        × ((getD (now text) at 0 < 0x04) ⊎ (0x05 < getD (now text) at 0)) ⌝ }
+        × ((getD (now text) at 0 < 0x04) ⊎ (0x05 < getD (now text) at 0)) × (getD (now text) at 0 ≡ 0x08 → ⊥) ⌝ }
     ensures { λ r. ⌜ ((later : Bool) (xs : List ℤ) → IntEncoded (now (text .entry)) (now (file .entry)) shape later (now (bits .entry)) at pen xs xs r) ⌝ }
 {
     let op = text[at];
@@ -239,6 +272,12 @@ pub fn encode_int(
     let op = text[at];
     if op < 0x04 {
         return int_leaf(text, file, at, shape, bits, pen);
+    }
+    if op == 0x08 {
+        let a = encode_int(text, file, at + 3, shape, bits, buf, pen);
+        let x = a.lits;
+        let start = int_out(constant(0), a.pen, a.next);
+        return product(16, word(text, at + 1) as u16, x, start, buf);
     }
     if 0x05 < op {
         return int_leaf(text, file, at, shape, bits, pen);

@@ -1,6 +1,6 @@
 // The sizes of a frame, computed once from an accepted file, and the sizes of the formula's parts, which are arithmetic on them.
 ghost use mathlib.Core.Path.{_≡_};
-ghost use Prim.Native.Nat.{_*_, _≤_, _<_};
+ghost use Prim.Native.Nat.{_*_, _≤_};
 ghost use Rattle.design.specs.Tree.{Design};
 ghost use Rattle.design.specs.Limits.{maxMovers};
 ghost use Rattle.design.specs.Check.{check, accepted};
@@ -8,8 +8,7 @@ ghost use Rattle.design.specs.Places.{Accepted};
 ghost use Rattle.design.specs.Sections.{Parts};
 ghost use Rattle.step.specs.Limits.{maxBound};
 ghost use Rattle.step.specs.Property.{propertyOf};
-ghost use Rattle.clauses.specs.Writing.{variableLimit};
-ghost use Rattle.clauses.specs.Limits.{mostGates, frameLimit, countLimit, sizeLimit};
+ghost use Rattle.clauses.specs.Limits.{mostGates, frameLimit, mostVariables, countLimit, sizeLimit};
 ghost use Rattle.clauses.specs.Cost.{pairCount, propertyCost, stepPropertyCost};
 ghost use Rattle.clauses.specs.FrameSizes.{HasGates, FewGates, frameSizes, SmallFrame, frameLength, stepClausesOf, stepWordsOf, partWordsOf, variablesOf, formulaSizes};
 ghost use Rattle.clauses.specs.Ready.{ShapedFile, Ready};
@@ -183,7 +182,7 @@ pub fn frame_length(s: FrameSizes) -> u64
 // n for bound k.
 pub fn variables(s: FrameSizes, k: u64) -> u64
     requires { ⌜ SmallFrame s × (k ≤ maxBound) ⌝ }
-    ensures { λ r. ⌜ (r ≡ variablesOf s k) × (r < variableLimit) ⌝ }
+    ensures { λ r. ⌜ (r ≡ variablesOf s k) × (r ≤ mostVariables) ⌝ }
 {
     let property = s.property.ands + s.property.wides;
     1 + times(k, frame_length(s)) + s.bits + property

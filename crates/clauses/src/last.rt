@@ -7,9 +7,7 @@ ghost use Rattle.design.specs.Check.{check, accepted};
 ghost use Rattle.design.specs.Sections.{Parts};
 ghost use Rattle.clauses.specs.Formula.{propertyAt, stepPropertyAt, stateAt, S, P, F};
 ghost use Rattle.clauses.specs.Writing.{variableLimit, fromCode};
-ghost use Rattle.step.specs.Limits.{maxBound};
-ghost use Rattle.clauses.specs.FrameSizes.{SmallFrame};
-ghost use Rattle.clauses.specs.Ready.{ShapedFile, Ready, propertyLiteralAt, PropertyLiteralFits, LastPut};
+ghost use Rattle.clauses.specs.Ready.{ShapedFile, Ready, SmallFormula, propertyLiteralAt, PropertyLiteralFits, LastPut};
 use super::clause::variables;
 use super::frame::frame_length;
 use super::frame::size_step_property;
@@ -98,7 +96,7 @@ pub fn put_last(
     buf: &mut [i32],
     cur: usize,
 ) -> usize
-    requires { ⌜ Ready (now file) (now events) (inst .shape) × SmallFrame (inst .sizes) × (inst .bound ≤ maxBound) ⌝ }
+    requires { ⌜ Ready (now file) (now events) (inst .shape) × SmallFormula (inst .sizes) (inst .bound) ⌝ }
     ensures { λ r. ⌜ LastPut (now (file .entry)) (now (buf .entry)) (now (buf .exit)) cur r (inst .property) (inst .bound) (inst .sizes) ⌝ }
 {
     let shape = inst.shape;

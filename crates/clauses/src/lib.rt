@@ -1,7 +1,7 @@
 // The clause writer: SIZE, ENCODE, DECODE.
 mod literal; // literals as codes, and the one function that stores a word
 mod gate; // and, xor, mux, or
-mod circuit; // sum, difference, less, equal, over 16 bits
+mod circuit; // sum, difference, less, equal, and what a product adds, over 16 bits
 mod expression; // the circuits of expressions
 mod action; // statements and lists
 mod mover; // a cell, an external
@@ -15,6 +15,7 @@ mod part; // a frame's part, any part, all parts
 mod cost; // numbers of gates, of expressions and statements
 mod cells; // the same, of cells
 pub mod frame; // the sizes of a frame and of the formula
+mod admission; // CHECK, 13, 14 and 19
 pub mod size; // SIZE
 pub mod encode; // ENCODE
 pub mod decode; // DECODE

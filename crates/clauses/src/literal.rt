@@ -11,8 +11,11 @@ pub const TRUE: u32 = 2;
 
 pub const FALSE: u32 = 3;
 
+// The greatest variable that a clause may name.
+pub const LAST_VARIABLE: u32 = 2147483647;
+
 // No variable reaches this number, nor a cursor the other: what does stays there.
-const VARIABLE_LIMIT: u32 = 2147483648;
+const VARIABLE_LIMIT: u32 = LAST_VARIABLE + 1;
 
 const WORD_LIMIT: usize = 4611686018427387904;
 

@@ -3,7 +3,8 @@ ghost use mathlib.Core.Path.{_≡_};
 ghost use Prim.Native.Nat.{_+_, _*_, _≤_};
 ghost use Rattle.step.specs.Limits.{maxBound};
 ghost use Rattle.clauses.specs.FrameSizes.{SmallFrame, frameLength};
-ghost use Rattle.clauses.specs.Ready.{startLimit, FrameReady, StepPut, FramePut, PartPut, FormulaPut};
+ghost use Rattle.clauses.specs.Writing.{variableLimit};
+ghost use Rattle.clauses.specs.Ready.{FormulaReady, StepPut, FramePut, PartPut, FormulaPut};
 use super::clause::put_all_ties;
 use super::clause::put_any;
 use super::clause::put_pairs;
@@ -23,8 +24,8 @@ use design::limits::MAX_MOVERS;
 
 // The first variable of frame j.
 pub fn frame_start(s: FrameSizes, j: u64) -> u32
-    requires { ⌜ SmallFrame s × (j ≤ maxBound) ⌝ }
-    ensures { λ r. ⌜ (r ≡ 2 + j * frameLength s) × (r ≤ startLimit) ⌝ }
+    requires { ⌜ SmallFrame s × (j ≤ maxBound) × (2 + j * frameLength s ≤ variableLimit) ⌝ }
+    ensures { λ r. ⌜ r ≡ 2 + j * frameLength s ⌝ }
 {
     (2 + times(j, frame_length(s))) as u32
 }
@@ -39,8 +40,8 @@ pub fn put_step(
     buf: &mut [i32],
     cur: usize,
 ) -> usize
-    requires { ⌜ FrameReady (now file) (now events) (now cells) (inst .shape) (inst .sizes) × (v ≤ startLimit) ⌝ }
-    ensures { λ r. ⌜ StepPut (now (file .entry)) (now (buf .entry)) (now (buf .exit)) cur r (inst .sizes) (inst .property) v ⌝ }
+    requires { ⌜ FormulaReady (now file) (now events) (now cells) inst × (v ≤ variableLimit) ⌝ }
+    ensures { λ r. ⌜ StepPut (now (file .entry)) (now (buf .entry)) (now (buf .exit)) cur r inst v ⌝ }
 {
     let shape = inst.shape;
     let s = inst.sizes;
@@ -71,7 +72,7 @@ pub fn put_frame(
     buf: &mut [i32],
     cur: usize,
 ) -> usize
-    requires { ⌜ FrameReady (now file) (now events) (now cells) (inst .shape) (inst .sizes) × (j ≤ inst .bound) × (inst .bound ≤ maxBound) ⌝ }
+    requires { ⌜ FormulaReady (now file) (now events) (now cells) inst × (j ≤ inst .bound) ⌝ }
     ensures { λ r. ⌜ FramePut (now (file .entry)) (now (buf .entry)) (now (buf .exit)) cur r inst j ⌝ }
 {
     let shape = inst.shape;
@@ -102,7 +103,7 @@ pub fn put_part(
     buf: &mut [i32],
     cur: usize,
 ) -> usize
-    requires { ⌜ FrameReady (now file) (now events) (now cells) (inst .shape) (inst .sizes) × (inst .bound ≤ maxBound) × (i ≤ inst .bound + 2) ⌝ }
+    requires { ⌜ FormulaReady (now file) (now events) (now cells) inst × (i ≤ inst .bound + 2) ⌝ }
     ensures { λ r. ⌜ PartPut (now (file .entry)) (now (buf .entry)) (now (buf .exit)) cur r inst i ⌝ }
 {
     let k = inst.bound;
@@ -123,7 +124,7 @@ pub fn put_parts(
     inst: Instance,
     buf: &mut [i32],
 ) -> usize
-    requires { ⌜ FrameReady (now file) (now events) (now cells) (inst .shape) (inst .sizes) × (inst .bound ≤ maxBound) ⌝ }
+    requires { ⌜ FormulaReady (now file) (now events) (now cells) inst ⌝ }
     ensures { λ r. ⌜ FormulaPut (now (file .entry)) (now (buf .entry)) (now (buf .exit)) 0 r inst ⌝ }
 {
     let k = inst.bound;

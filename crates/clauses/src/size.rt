@@ -2,10 +2,10 @@
 ghost use mathlib.Core.Path.{_≡_};
 ghost use Rattle.clauses.specs.Size.{size as sizeOf};
 ghost use Rattle.clauses.specs.Replies.{sizeReply};
+use super::admission::Admission;
+use super::admission::admit;
 use super::frame::FormulaSizes;
 use super::frame::formula;
-use super::frame::sizes;
-use step::gate::gate;
 
 pub enum SizeReply {
     Refused { number: u8, place: usize },
@@ -16,13 +16,8 @@ pub enum SizeReply {
 pub fn size(file: &[u8], property: u64, bound: u64) -> SizeReply
     ensures { λ r. ⌜ r ≡ sizeReply (sizeOf (now (file .entry)) property bound) ⌝ }
 {
-    let refusal = gate(file, property, bound);
-    if refusal.number != 0 {
-        return SizeReply::Refused {
-            number: refusal.number,
-            place: refusal.place,
-        };
+    match admit(file, property, bound) {
+        Admission::Refused { number, place } => SizeReply::Refused { number, place },
+        Admission::Passed(s) => SizeReply::Sized(formula(s, bound)),
     }
-    let s = sizes(file, property);
-    SizeReply::Sized(formula(s, bound))
 }

@@ -52,6 +52,7 @@ module _ (text : List ℕ) (names : Names) (end : ℕ) where
   intOf-on lo operand h (IntOp.op-status next) at l =
       on-bind lo (byte text names end at) _ (on-byte lo at (omega arith))
       (λ v m q. on-provided lo (legal text names end next) _ (on-provided lo (isMatrix text names end v) _ (on-got lo _ m q)))
+  intOf-on lo operand h IntOp.op-product at l = on-bind lo (word text names end at) _ (on-word lo at (omega arith)) (λ c m q. on-bind lo (operand m) _ (h m q) (λ a n r. on-got lo _ n r))
   intOf-on lo operand h IntOp.op-unknown at l = on-bad lo
   intOf-on lo operand h (IntOp.op-ints f) at l = on-bind lo (operand at) _ (h at l) (λ a m q. on-bind lo (operand m) _ (h m q) (λ b n r. on-got lo _ n r))
 

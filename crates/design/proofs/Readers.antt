@@ -10,10 +10,10 @@ use native.Mathlib.Nat.{eq-or-lt-of-le}
 use lib.ListN.{getD}
 use lib.Dec.{eqb}
 use borrow.Author.Tests.{le-ltb, lt-ltb, eq-eqb, ne-eqb}
-use Rattle.design.specs.Tree.{IntExpr, BoolExpr, Stmt, Stmts, sum, difference, notB, andB, orB, equal, less, assign, assignB, ifElse, then}
+use Rattle.design.specs.Tree.{IntExpr, BoolExpr, Stmt, Stmts, constant, sum, difference, product, notB, andB, orB, equal, less, assign, assignB, ifElse, then}
 use Rattle.design.specs.Limits.{maxDepth}
 use Rattle.design.specs.Reading.{Read, got, bad, Reader, bind, provided}
-use Rattle.design.specs.Expression.{Names, IntOp, BoolOp, intOp, boolOp, byte, isVariable, isInteger, isMatrix, intOf, boolOf, intExpr, boolExpr}
+use Rattle.design.specs.Expression.{Names, IntOp, BoolOp, intOp, boolOp, byte, word, isVariable, isInteger, isMatrix, intOf, boolOf, intExpr, boolExpr}
 use Rattle.design.specs.Action.{StmtOp, stmtOp, assignment, statements, listOf, conditional, statement, list}
 use Rattle.design.specs.Answers.{found}
 use Rattle.design.specs.declared.expression.Found.{Found}
@@ -59,11 +59,11 @@ pub int-two : (b : ℕ) → 4 ≤ b → b < 6 → (f : IntExpr → IntExpr → I
 unfolding intOp
 int-two b p q = ⊎-elim (λ e. (sum, ap intOp e)) (λ e. (difference, ap intOp e)) (one-of-two b 4 p q)
 
-pub int-none : (b : ℕ) → (b < 1) ⊎ (8 ≤ b) → intOp b ≡ IntOp.op-unknown
+pub int-none : (b : ℕ) → (b < 1) ⊎ (9 ≤ b) → intOp b ≡ IntOp.op-unknown
 unfolding intOp
-int-none b s = simp (out 1 (omega arith) (omega arith), out 2 (omega arith) (omega arith), out 3 (omega arith) (omega arith), out 4 (omega arith) (omega arith), out 5 (omega arith) (omega arith), out 6 (omega arith) (omega arith), out 7 (omega arith) (omega arith))
+int-none b s = simp (out 1 (omega arith) (omega arith), out 2 (omega arith) (omega arith), out 3 (omega arith) (omega arith), out 4 (omega arith) (omega arith), out 5 (omega arith) (omega arith), out 6 (omega arith) (omega arith), out 7 (omega arith) (omega arith), out 8 (omega arith) (omega arith))
   where
-    out : (k : ℕ) → 1 ≤ k → k < 8 → eqb b k ≡ false
+    out : (k : ℕ) → 1 ≤ k → k < 9 → eqb b k ≡ false
     out k p q = ne-eqb b k (λ e. ⊎-elim (λ l. omega arith) (λ l. omega arith) s)
 
 -- of the two operators of the next state, the one that is no variable
@@ -176,6 +176,17 @@ module _ (text : List ℕ) (names : Names) (end : ℕ) where
 
     pub int-pair-bad : 4 ≤ getD text at 0 → getD text at 0 < 6 → Bad ≡ found (I (d - 1) (at + 1)) → Bad ≡ found (I d at)
     int-pair-bad p q h = let (f, e) = int-two (getD text at 0) p q in int-leaf (IntOp.op-ints f) Bad e (pair-bad (I (d - 1)) f (at + 1) h)
+
+    -- a product: what reads an integer constant has answered, then the operand follows
+    pub int-product : (r : Found) (m : ℕ) → getD text at 0 ≡ 8 → At m ≡ found (intOf text names end (I (d - 1)) IntOp.op-constant (at + 1)) → r ≡ found (I (d - 1) m) → r ≡ found (I d at)
+    unfolding intOp
+    int-product r m e h k =
+        int-leaf IntOp.op-product r (ap intOp e)
+        (found-then (word text names end (at + 1)) _ m r (h ∙ sym (found-last (word text names end (at + 1)) constant)) (λ c. k ∙ found-last (I (d - 1) m) (product c)))
+
+    pub int-product-bad : getD text at 0 ≡ 8 → Bad ≡ found (intOf text names end (I (d - 1)) IntOp.op-constant (at + 1)) → Bad ≡ found (I d at)
+    unfolding intOp
+    int-product-bad e h = int-leaf IntOp.op-product Bad (ap intOp e) (found-bad (word text names end (at + 1)) _ (h ∙ sym (found-last (word text names end (at + 1)) constant)))
 
     -- the operators of the next state
     pub int-illegal : 6 ≤ getD text at 0 → getD text at 0 < 8 → names .later ≡ false → Bad ≡ found (I d at)

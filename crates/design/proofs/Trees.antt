@@ -8,7 +8,7 @@ use lib.ListN.{length, getD, List·getD-append}
 use lib.Seq.{getD-append-add}
 use lib.Dec.{ltb, leb, eqb}
 use borrow.Author.Tests.{ltb-true, eqb-true, eqb-false, not-true}
-use Rattle.design.specs.Tree.{IntExpr, BoolExpr, Stmt, Stmts, constant, variable, status, constantB, variableB, notB, assign, assignB, ifElse, done, then, truth}
+use Rattle.design.specs.Tree.{IntExpr, BoolExpr, Stmt, Stmts, constant, variable, status, product, constantB, variableB, notB, assign, assignB, ifElse, done, then, truth}
 use Rattle.design.specs.Limits.{maxDepth}
 use Rattle.design.specs.Reading.{Read, got, bad, Reader, provided, bind, Line, lookup}
 use Rattle.design.specs.Expression.{Names, withLater, IntOp, BoolOp, intOps, boolOps, intOp, boolOp, byte, word, isVariable, isInteger, isMatrix, legal, numbered, intOf, boolOf, intExpr, boolExpr}
@@ -53,6 +53,7 @@ module _ (I : IntExpr → Type 0) (B : BoolExpr → Type 0) where
   KeepsI IntOp.op-constant = Unit {0}
   KeepsI (IntOp.op-variable next) = Unit {0}
   KeepsI (IntOp.op-status next) = Unit {0}
+  KeepsI IntOp.op-product = (c : ℕ) (a : IntExpr) → c < 65536 → I a → I (product c a)
   KeepsI IntOp.op-unknown = Unit {0}
   KeepsI (IntOp.op-ints f) = (a b : IntExpr) → I a → I b → I (f a b)
 
@@ -67,7 +68,7 @@ module _ (I : IntExpr → Type 0) (B : BoolExpr → Type 0) where
 keepsI : (ws : List ℕ) (l : Layout) (b : ℕ) → KeepsI (IntOk ws l) (BoolOk ws l) (intOp b)
 unfolding intOp AllLines
 keepsI ws l b =
-    let h : AllLines (KeepsI (IntOk ws l) (BoolOk ws l)) intOps = (tt, (tt, (tt, ((λ x y p q. (p, q)), ((λ x y p q. (p, q)), (tt, (tt, tt))))))) in
+    let h : AllLines (KeepsI (IntOk ws l) (BoolOk ws l)) intOps = (tt, (tt, (tt, ((λ x y p q. (p, q)), ((λ x y p q. (p, q)), (tt, (tt, ((λ c a p q. (p, q)), tt)))))))) in
     lookup-all (KeepsI (IntOk ws l) (BoolOk ws l)) IntOp.op-unknown intOps b tt h
 
 keepsB : (ws : List ℕ) (l : Layout) (b : ℕ) → KeepsB (IntOk ws l) (BoolOk ws l) (boolOp b)
@@ -136,6 +137,10 @@ module _ (text : List ℕ) (names : Names) (ws : List ℕ) (l : Layout) (bytes :
         all-bind (λ c. Unit {0}) OkI (byte text names end at) _ (any _) (λ m n p.
         all-provided OkI (legal text names end next) _ (λ g.
         all-provided OkI (isMatrix text names end m) _ (λ e. all-got OkI (status _) n (ok .statuses next m g (ltb-true _ _ e)))))
+    intOf-ok operand h IntOp.op-product k at =
+        all-bind (λ c. c < 65536) OkI (word text names end at) _
+        (all-provided (λ c. c < 65536) (leb (at + 2) end) _ (λ e. all-got (λ c. c < 65536) _ _ (omega (arith, bytes at, bytes (at + 1)))))
+        (λ c n p. all-bind OkI OkI (operand n) _ (h n) (λ a m q. all-got OkI (product c a) m (k c a p q)))
     intOf-ok operand h IntOp.op-unknown k at = all-bad OkI
     intOf-ok operand h (IntOp.op-ints f) k at =
         all-bind OkI OkI (operand at) _ (h at) (λ a n p. all-bind OkI OkI (operand n) _ (h n) (λ b m q. all-got OkI (f a b) m (k a b p q)))

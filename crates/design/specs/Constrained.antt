@@ -1,4 +1,4 @@
--- Two designs of version 2 (document 02, R-1) by computation, those of designs/designMoved.stm and designs/no-idle.stm. Both have two variables, an external and an
+-- Two designs of version 2 (document 02, R-1) by computation, those of designs/moved.stm and designs/no-idle.stm. Both have two variables, an external and an
 -- integer c, and one matrix: a state has 3 slots, so `variableB 3` is the external, `variable 4` is c and `status 3` the status in the next state.
 use mathlib.Core.Path.{_≡_, refl}
 use mathlib.Core.Bool.{true}

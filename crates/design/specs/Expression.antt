@@ -4,7 +4,7 @@ use mathlib.Core.Bool.{Bool, true, false, not, _||_}
 use mathlib.Core.List.{List, [], _∷_}
 use lib.ListN.{getD}
 use lib.Dec.{ltb, leb, eqb}
-use Rattle.design.specs.Tree.{IntExpr, BoolExpr, constant, variable, status, sum, difference, constantB, variableB, notB, andB, orB, equal, less, truth}
+use Rattle.design.specs.Tree.{IntExpr, BoolExpr, constant, variable, status, sum, difference, product, constantB, variableB, notB, andB, orB, equal, less, truth}
 use Rattle.design.specs.State.{layoutIn, numberIn}
 use Rattle.design.specs.Reading.{got, Reader, yield, fail, provided, demand, _>>=_, Line, _means_, lookup}
 
@@ -21,7 +21,7 @@ withLater later names = record { variables = names .variables; kindOf = names .k
 
 -- The operators by what follows them. A variable and a status have an operator for the state (false) and one for the next state (true).
 pub data IntOp : Type 0 where
-  op-constant op-unknown : IntOp
+  op-constant op-product op-unknown : IntOp
   op-variable op-status : Bool → IntOp
   op-ints : (IntExpr → IntExpr → IntExpr) → IntOp
 
@@ -31,7 +31,8 @@ pub data BoolOp : Type 0 where
   op-bools : (BoolExpr → BoolExpr → BoolExpr) → BoolOp
   op-ints : (IntExpr → IntExpr → BoolExpr) → BoolOp
 
--- "Three operators .. read the next state: 06 integer variable, 07 status, 17 Boolean."
+-- "Three operators .. read the next state: 06 integer variable, 07 status, 17 Boolean." (document 02, R-1)
+-- "Operator 08 takes an i16 constant and an integer expression" (document 02, R-2)
 abbrev pub intOps : List (Line IntOp)
 intOps =
     (0x01 means IntOp.op-constant) ∷
@@ -40,7 +41,8 @@ intOps =
     (0x04 means IntOp.op-ints sum) ∷
     (0x05 means IntOp.op-ints difference) ∷
     (0x06 means IntOp.op-variable true) ∷
-    (0x07 means IntOp.op-status true) ∷ []
+    (0x07 means IntOp.op-status true) ∷
+    (0x08 means IntOp.op-product) ∷ []
 
 unfoldable pub intOp : ℕ → IntOp
 intOp b = lookup IntOp.op-unknown intOps b
@@ -98,6 +100,10 @@ module _ (text : List ℕ) (names : Names) (end : ℕ) where
     a ← operand
     b ← operand
     yield (f a b)
+  intOf operand IntOp.op-product = do
+    c ← word
+    a ← operand
+    yield (product c a)
   intOf operand IntOp.op-unknown = fail
 
   -- an integer expression of at most this depth, a leaf being 1

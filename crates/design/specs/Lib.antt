@@ -19,3 +19,4 @@ pub mod Answers
 pub mod DesignA
 pub mod AllOperators
 pub mod Constrained
+pub mod Multiplied

@@ -14,11 +14,12 @@ abbrev pub truth : ℕ → Bool
 truth zero = false
 truth (suc n) = true
 
--- Integer expressions: operators 01 to 07. A variable and a matrix are named by their numbers. 06 and 07 (document 02, R-1) read the next state: its slots stand behind
--- those of the state, so they are variables and statuses of higher numbers (`laterSlot` in State).
+-- Integer expressions: operators 01 to 08. A variable and a matrix are named by their numbers. 06 and 07 (document 02, R-1) read the next state: its slots stand behind
+-- those of the state, so they are variables and statuses of higher numbers (`laterSlot` in State). 08 (document 02, R-2) has its constant as a pattern.
 pub data IntExpr : Type 0 where
   constant variable status : ℕ → IntExpr
   sum difference : IntExpr → IntExpr → IntExpr
+  product : ℕ → IntExpr → IntExpr
 
 -- Boolean expressions: operators 10 to 17, 17 being a variable of the next state.
 pub data BoolExpr : Type 0 where

@@ -5,7 +5,7 @@ use mathlib.Core.List.{List, [], _∷_, _++_}
 use Prim.Native.Nat.{ℕ, _^_, _<_, _≤_}
 use lib.ListN.{length, getD}
 use Rattle.design.specs.Limits.{maxStatuses, maxMovers}
-use Rattle.design.specs.Tree.{IntExpr, BoolExpr, Stmt, Stmts, constant, variable, status, sum, difference, constantB, variableB, notB, andB, orB, equal, less, assign, assignB, ifElse, done, then, Cell, InvalidCell, Design, Mover, cell, raise, movers}
+use Rattle.design.specs.Tree.{IntExpr, BoolExpr, Stmt, Stmts, constant, variable, status, sum, difference, product, constantB, variableB, notB, andB, orB, equal, less, assign, assignB, ifElse, done, then, Cell, InvalidCell, Design, Mover, cell, raise, movers}
 use Rattle.design.specs.State.{Layout, layout, statusSlot, statusWidth, widths, start}
 
 -- no slot is wider than an integer
@@ -46,6 +46,7 @@ module _ (ws : List ℕ) (l : Layout) where
   IntOk (status m) = getD ws (statusSlot l m) 0 ≡ statusWidth
   IntOk (sum a b) = IntOk a × IntOk b
   IntOk (difference a b) = IntOk a × IntOk b
+  IntOk (product c a) = (c < 65536) × IntOk a
 
   abbrev pub BoolOk : BoolExpr → Type 0
   BoolOk (constantB b) = Unit {0}

@@ -140,6 +140,10 @@ pub fn check_int(
                 read_status(text, at + 1, end, shape)
             }
         }
+        0x08 => match read_integer_constant(at + 1, end) {
+            Found::At(m) => check_int(text, file, m, end, shape, later, depth - 1),
+            Found::Bad => Found::Bad,
+        },
         _ => Found::Bad,
     }
 }

@@ -24,6 +24,11 @@ module _ {A : Type 0} (t : Bool) (number place : ℕ) (r : Answer A) where
   pub need-yes : t ≡ true → need t number place r ≡ r
   need-yes e = ap (λ (b : Bool). need b number place r) e
 
+-- where there is an answer, the test before it held
+pub need-answers : {A : Type 0} (t : Bool) (number place : ℕ) (r : Answer A) (a : A) → need t number place r ≡ answer a → (t ≡ true) × (r ≡ answer a)
+need-answers true number place r a e = (refl, e)
+need-answers false number place r a e = absurd (let z : _≡_ {A = ℕ} 0 1 = cc in omega arith)
+
 -- CHECK
 pub accepted-zero : (file : List ℕ) (r : Refusal) → r ≡ refusal (check file) → r .number ≡ 0 → Accepted file
 accepted-zero file r e z = sym (ap (λ (y : Refusal). y .number) e) ∙ z

@@ -1,14 +1,15 @@
--- Sums, differences and the order of patterns are the wrapped ones of the signed numbers that they stand for. Assumes nothing.
+-- Sums, differences, products and the order of patterns are the wrapped ones of the signed numbers that they stand for. Assumes nothing.
 use mathlib.Core.Path.{_≡_, refl, sym, ap, ap₂, _∙_}
 use mathlib.Core.Bool.{Bool, true, false, cond}
 use mathlib.Core.Logic.{_⊎_, inl, inr, ⊎-elim}
-use Prim.Native.Nat.{ℕ, zero, suc, _+_, _-_, _%_, _<_, _≤_}
+use Prim.Native.Nat.{ℕ, zero, suc, _+_, _-_, _*_, _%_, _<_, _≤_}
 use native.Mathlib.Omega.{arith}
+use native.Mathlib.Nat.{mul-comm, mul-add, add-mul, mul-le-mul}
 use lib.Dec.{ltb}
-use lib.IntN.{ℤ, pos, negsuc, negℤ, subℕ, _+ℤ_, _-ℤ_}
+use lib.IntN.{ℤ, pos, negsuc, negℤ, subℕ, _+ℤ_, _-ℤ_, _*ℤ_}
 use lib.Signed.{ltZ}
 use borrow.Author.Tests.{lt-ltb, le-ltb, ltb-true, ltb-false}
-use Rattle.step.specs.Pattern.{plus, minus, below, signed, wrap}
+use Rattle.step.specs.Pattern.{plus, minus, times, below, signed, wrap}
 
 -- the two halves of the patterns
 record Low (p : ℕ) : Type 0 where
@@ -38,6 +39,22 @@ wrap-sub x y h = go (ltb x y) refl
     go : (t : Bool) → ltb x y ≡ t → wrap (cond t (negsuc (y - suc x)) (pos (x - y))) ≡ (x + (65536 - y)) % 65536
     go true e = let l = ltb-true x y e in omega arith
     go false e = let l = ltb-false x y e in omega arith
+
+-- a number's negation, wrapped: what the number lacks to a multiple of 65,536
+wrap-negation : (m n k : ℕ) → m + n ≡ 65536 * k → wrap (negℤ (pos n)) ≡ m % 65536
+unfolding wrap
+wrap-negation m zero k e = omega arith
+wrap-negation m (suc n) k e = omega arith
+
+-- What a pattern lacks to 65,536. A product with the pattern and the product with its complement are together a multiple of 65,536.
+abbrev complement : ℕ → ℕ
+complement p = suc (65535 - p)
+
+complement-first : (a q : ℕ) → a < 65536 → a * q + complement a * q ≡ 65536 * q
+complement-first a q h = sym (add-mul a (complement a) q) ∙ ap (λ (x : ℕ). x * q) (let z : a + complement a ≡ 65536 = omega arith in z)
+
+complement-second : (q b : ℕ) → b < 65536 → q * b + q * complement b ≡ 65536 * q
+complement-second q b h = sym (mul-add q b (complement b)) ∙ ap (λ (x : ℕ). q * x) (let z : b + complement b ≡ 65536 = omega arith in z) ∙ mul-comm q 65536
 
 module _ (a b : ℕ) (h : a < 65536) (k : b < 65536) where
   pub plus-signed : plus a b ≡ wrap (signed a +ℤ signed b)
@@ -93,7 +110,23 @@ module _ (a b : ℕ) (h : a < 65536) (k : b < 65536) where
               (λ x. (let z : minus a q ≡ (suc (65535 - q) + (65536 - suc (65535 - a))) % 65536 = omega arith in z) ∙ sym (wrap-sub (suc (65535 - q)) (suc (65535 - a)) (omega arith)) ∙ sym (ap (λ (u : ℤ). wrap (u +ℤ pos (suc (65535 - q)))) (x .is)))
               (half a h)
 
+  pub times-signed : times a b ≡ wrap (signed a *ℤ signed b)
+  unfolding wrap
+  times-signed = ⊎-elim
+      (λ x. ⊎-elim (λ y. signs (x .is) (y .is) refl)
+      (λ y. signs (x .is) (y .is) (sym (wrap-negation (a * b) (a * complement b) a (complement-second a b k)))) (half b k))
+      (λ x. ⊎-elim (λ y. signs (x .is) (y .is) (sym (wrap-negation (a * b) (complement a * b) b (complement-first a b h))))
+      (λ y. signs (x .is) (y .is) (omega (arith, complement-second a b k, complement-first a (complement b) h))) (half b k))
+      (half a h)
+    where
+      signs : {x y : ℤ} → signed a ≡ x → signed b ≡ y → times a b ≡ wrap (x *ℤ y) → times a b ≡ wrap (signed a *ℤ signed b)
+      signs p q e = e ∙ sym (ap₂ (λ (u v : ℤ). wrap (u *ℤ v)) p q)
+
 -- and back
 pub wrap-signed : (p : ℕ) → p < 65536 → wrap (signed p) ≡ p
 unfolding wrap
 wrap-signed p h = ⊎-elim (λ x. ap wrap (x .is) ∙ (let u = x .under in let z : p % 65536 ≡ p = omega arith in z)) (λ x. ap wrap (x .is) ∙ (let o = x .over in let z : (65536 - suc (65535 - p) % 65536) % 65536 ≡ p = omega arith in z)) (half p h)
+
+-- two patterns' product, before it is wrapped, fits 64 bits
+pub times-small : (a b : ℕ) → a < 65536 → b < 65536 → a * b ≤ 65535 * 65535
+times-small a b h k = mul-le-mul (let z : a ≤ 65535 = omega arith in z) (let z : b ≤ 65535 = omega arith in z)

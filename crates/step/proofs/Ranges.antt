@@ -8,7 +8,7 @@ use lib.IntN.{ℤ, pos}
 use lib.ListN.{length, getD, set, take, drop, replicate, getElem?, length-map}
 use lib.Seq.{take-at, drop-at, take-all, getD-append-add}
 use borrow.Author.Tests.{lt-ltb, le-leb, eq-eqb}
-use Rattle.design.specs.Tree.{IntExpr, constant, variable, status, sum, difference, Stmt, Stmts, assign, assignB, ifElse, done, then, Kind, boolean, integer, external, Variable, Cell, Design, Mover, cell, raise, ifExternal, externals, movers, bit}
+use Rattle.design.specs.Tree.{IntExpr, constant, variable, status, sum, difference, product, Stmt, Stmts, assign, assignB, ifElse, done, then, Kind, boolean, integer, external, Variable, Cell, Design, Mover, cell, raise, ifExternal, externals, movers, bit}
 use Rattle.design.specs.State.{State, layout, statusSlot, width, statusWidth, widths, start}
 use Rattle.design.specs.Check.{accepted, check}
 use Rattle.design.specs.WellFormed.{InRange, HasBits, IntOk, StmtOk, StmtsOk, MoverOk, MoversOk, CountsOk, StatusesOk, WellFormed}
@@ -127,6 +127,7 @@ module _ (d : Design) (wf : WellFormed d) where
   int-below s f (status m) k = omega (arith, slot-below (widths d) s (statusSlot (layout d) m) statusWidth (fits-widths d wf s f) k)
   int-below s f (sum a b) k = omega arith
   int-below s f (difference a b) k = omega arith
+  int-below s f (product c a) k = omega arith
 
   bit-below : (b : Bool) → bit b < 2
   bit-below true = omega arith

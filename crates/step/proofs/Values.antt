@@ -9,15 +9,16 @@ use native.Mathlib.Nat.{eq-or-lt-of-le}
 use lib.ListN.{getD}
 use lib.Dec.{ltb, leb, eqb}
 use borrow.Author.Tests.{ltb-true, leb-true, lt-ltb}
-use Rattle.design.specs.Tree.{IntExpr, BoolExpr, constant, variable, status, sum, difference, constantB, variableB, notB, andB, orB, equal, less, truth}
+use Rattle.design.specs.Tree.{IntExpr, BoolExpr, constant, variable, status, sum, difference, product, constantB, variableB, notB, andB, orB, equal, less, truth}
 use Rattle.design.specs.State.{State, Layout, slotCount}
 use Rattle.design.specs.Reading.{Read, got, bind}
+use Rattle.design.specs.DesignFile.{at16}
 use Rattle.design.specs.Check.{namesOf}
 use Rattle.design.specs.Expression.{Names, withLater, IntOp, BoolOp, intOp, boolOp, legal, numbered, intOf, boolOf, intExpr, boolExpr}
 use Rattle.design.specs.declared.shape.Shape.{Shape}
 use Rattle.design.proofs.Forward.{int-on, bool-on}
 use Rattle.design.proofs.Readers.{int-step, int-none, bool-step, bool-none}
-use Rattle.step.specs.Pattern.{plus, minus, below}
+use Rattle.step.specs.Pattern.{plus, minus, times, below}
 use Rattle.step.specs.Evaluation.{evalInt, evalBool}
 use Rattle.step.specs.Accepted.{slotsNeeded, isRead, past, valueOf, intValue, boolValue}
 use Rattle.step.proofs.Accepted.{read-found, provided-read, bind-read, one-first, one-past, one-value, two, two-first, two-second, two-past, two-value}
@@ -166,8 +167,34 @@ module _ (text : List ℕ) (N : Names) (end : ℕ) where
         let p₁ = provided-read (ltb (getD text (at + 1) 0) (N .matrices)) _ a₀ in
         (ltb-true _ _ (p .0), ltb-true _ _ (p₁ .0), q ∙ p .1 ∙ p₀ .1 ∙ p₁ .1, p₀ .0)
 
-    pub int-unknown : (getD text at 0 < 1) ⊎ (8 ≤ getD text at 0) → ⊥
+    pub int-unknown : (getD text at 0 < 1) ⊎ (9 ≤ getD text at 0) → ⊥
     int-unknown s = false≢true (sym (ap isRead (i-step IntOp.op-unknown (int-none (getD text at 0) s))) ∙ h)
+
+    -- a product: its constant stands behind the operator, its operand behind the constant
+    module _ (e : getD text at 0 ≡ 0x08) where
+      pub i-product : (at + 1 + 2 ≤ end) × (I d at ≡ bind (I (d - 1) (at + 1 + 2)) (λ a n. got (product (at16 text (at + 1)) a) n))
+      unfolding intOp
+      i-product =
+          let q = i-step IntOp.op-product (ap intOp e) in
+          let p = bind-read (leb (at + 1 + 2) end) _ _ (sym (ap isRead q) ∙ h) in
+          (leb-true _ _ (p .0), q ∙ p .1)
+
+      i-operand : isRead (bind (I (d - 1) (at + 1 + 2)) (λ a n. got (product (at16 text (at + 1)) a) n)) ≡ true
+      i-operand = sym (ap isRead (i-product .1)) ∙ h
+
+      pub product-first : isRead (I (d - 1) (at + 1 + 2)) ≡ true
+      product-first = one-first (product (at16 text (at + 1))) (I (d - 1) (at + 1 + 2)) i-operand
+
+      -- the constant that was read and the operand's answers make the answer of the whole
+      pub product-value : (l : Layout) (s : State) (c r n : ℕ) → c ≡ at16 text (at + 1) → r ≡ intValue l s (I (d - 1) (at + 1 + 2)) → n ≡ past (I (d - 1) (at + 1 + 2))
+          → (times c r ≡ intValue l s (I d at)) × (n ≡ past (I d at))
+      unfolding evalInt
+      product-value l s c r n o p q = (
+        ap₂ times o p
+            ∙ sym (one-value (product (at16 text (at + 1))) (evalInt l s) 0 (evalInt l s) 0 (times (at16 text (at + 1))) (λ a. refl) (I (d - 1) (at + 1 + 2)) i-operand)
+            ∙ sym (ap (intValue l s) (i-product .1)),
+        q ∙ sym (one-past (product (at16 text (at + 1))) (I (d - 1) (at + 1 + 2))) ∙ sym (ap past (i-product .1)),
+      )
 
     module _ (lo : 0x04 ≤ getD text at 0) (hi : getD text at 0 < 0x06) where
       pub i-two : I d at ≡ two (arithmeticOf (getD text at 0)) (I (d - 1) (at + 1)) (I (d - 1))

@@ -3,9 +3,9 @@ use mathlib.Core.Bool.{Bool, not, _&&_, _||_}
 use Prim.Native.Nat.{ℕ}
 use lib.Dec.{eqb}
 use lib.ListN.{getD}
-use Rattle.design.specs.Tree.{IntExpr, BoolExpr, constant, variable, status, sum, difference, constantB, variableB, notB, andB, orB, equal, less, truth}
+use Rattle.design.specs.Tree.{IntExpr, BoolExpr, constant, variable, status, sum, difference, product, constantB, variableB, notB, andB, orB, equal, less, truth}
 use Rattle.design.specs.State.{State, Layout, statusSlot}
-use Rattle.step.specs.Pattern.{plus, minus, below}
+use Rattle.step.specs.Pattern.{plus, minus, times, below}
 
 unfoldable pub evalInt : Layout → State → IntExpr → ℕ
 evalInt l s (constant c) = c
@@ -13,6 +13,7 @@ evalInt l s (variable v) = getD s v 0
 evalInt l s (status m) = getD s (statusSlot l m) 0
 evalInt l s (sum a b) = plus (evalInt l s a) (evalInt l s b)
 evalInt l s (difference a b) = minus (evalInt l s a) (evalInt l s b)
+evalInt l s (product c a) = times c (evalInt l s a)
 
 unfoldable pub evalBool : Layout → State → BoolExpr → Bool
 evalBool l s (constantB b) = b

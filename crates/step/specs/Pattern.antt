@@ -1,6 +1,7 @@
--- Integers are 16-bit patterns, numbers below 65,536 (document 01: "In integers, sums and differences wrap to 16 bits").
+-- Integers are 16-bit patterns, numbers below 65,536 (document 01: "In integers, sums and differences wrap to 16 bits"; document 02, R-2: "the product wrapped to 16
+-- bits"). That each is the wrapped sum, difference or product of the signed integers is proved in proofs/Patterns.
 use mathlib.Core.Bool.{Bool, cond}
-use Prim.Native.Nat.{ℕ, suc, _+_, _-_, _%_}
+use Prim.Native.Nat.{ℕ, suc, _+_, _-_, _*_, _%_}
 use lib.Dec.{ltb}
 use lib.IntN.{ℤ, pos, negsuc, negℤ}
 
@@ -9,6 +10,9 @@ plus a b = (a + b) % 65536
 
 abbrev pub minus : ℕ → ℕ → ℕ
 minus a b = (a + (65536 - b)) % 65536
+
+abbrev pub times : ℕ → ℕ → ℕ
+times a b = (a * b) % 65536
 
 -- The signed order: with the sign bit flipped it is the order of patterns.
 abbrev pub below : ℕ → ℕ → Bool

@@ -16,6 +16,7 @@ ghost use Rattle.step.specs.Accepted.{slotsNeeded, isRead, past, intValu
 use super::number::below16;
 use super::number::minus16;
 use super::number::plus16;
+use super::number::times16;
 use design::bytes::wide;
 use design::bytes::word;
 use design::shape::Shape;
@@ -107,6 +108,10 @@ pub fn eval_int(text: &[u8], at: usize, end: usize, shape: Shape, slots: &[u16])
                 slots[shape.variables + (shape.variables + shape.matrices + m)],
                 p + 1,
             )
+        }
+        0x08 => {
+            let a = eval_int(text, p + 2, end, shape, slots);
+            int_at(times16(word(text, p) as u16, a.value), a.next)
         }
         _ => int_at(0, at),
     }

@@ -1,6 +1,6 @@
 // Integers as 16-bit patterns.
 ghost use mathlib.Core.Path.{_≡_};
-ghost use Rattle.step.specs.Pattern.{plus, minus, below, signed, wrap};
+ghost use Rattle.step.specs.Pattern.{plus, minus, times, below, signed, wrap};
 
 // The sum of two 16-bit patterns, wrapped.
 pub fn plus16(a: u16, b: u16) -> u16
@@ -14,6 +14,13 @@ pub fn minus16(a: u16, b: u16) -> u16
     ensures { λ r. ⌜ r ≡ minus a b ⌝ }
 {
     std::num::wrapping_sub_u16(a, b)
+}
+
+// Their product, wrapped.
+pub fn times16(a: u16, b: u16) -> u16
+    ensures { λ r. ⌜ r ≡ times a b ⌝ }
+{
+    ((a as u64) * (b as u64) % 65536) as u16
 }
 
 // Whether a is below b as a signed number.

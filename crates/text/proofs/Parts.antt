@@ -13,10 +13,12 @@ use borrow.Author.Tests.{le-leb, lt-leb, leb-true, leb-false}
 use Rattle.design.specs.Tree.{Design}
 use Rattle.design.specs.Check.{Checked, check}
 use Rattle.step.specs.Property.{propertyOf}
-use Rattle.step.proofs.Gates.{need-yes, gate-in, gate-answers, gate-both}
+use Rattle.step.proofs.Gates.{need-yes}
+use Rattle.clauses.proofs.Admissions.{admit-in, admit-answers, admit-both}
+use Rattle.clauses.specs.Limits.{lastVariable}
 use Rattle.step.specs.Operations.{refusedAt}
 use Rattle.clauses.specs.Words.{words, isEnd}
-use Rattle.clauses.specs.Formula.{part, partsFrom, formula}
+use Rattle.clauses.specs.Formula.{n, part, partsFrom, formula}
 use Rattle.design.specs.Answer.{Answer, refused, answer, need}
 use Rattle.step.specs.Limits.{lastProperty, maxBound}
 use Rattle.clauses.specs.Encode.{wordsToWrite, filled, encode}
@@ -155,7 +157,7 @@ module _ (file : List ℕ) (p k : ℕ) where
       go false q f = refl
       go true q f = let other : i ≡ j → ⊥ = λ y. (let o : _≡_ {A = ℕ} 0 1 = cc in omega arith) in f (omega arith)
 
-  -- past the gate: a part that is refused, and one that is not
+  -- past 19: a part that is refused, and one that is not
   refused-so : (n q : ℕ) (ws vs : List ℤ) (t u : Bool) → (t ≡ false → u ≡ false) → need t 16 0 (answer ws) ≡ refused n q → need u 16 0 (answer vs) ≡ refused n q
   refused-so n q ws vs false u f e = subst (λ (y : Bool). need y 16 0 (answer vs) ≡ refused n q) (sym (f refl)) e
   refused-so n q ws vs true u f e = let o : _≡_ {A = ℕ} 0 1 = cc in absurd (omega arith)
@@ -169,14 +171,14 @@ module _ (file : List ℕ) (p k : ℕ) where
 
   all-refused : (i n q : ℕ) → i < k + 3 → wordsToWrite file p k i maxWords ≡ refused n q → wordsToPrint file p k ≡ refused n q
   unfolding wordsToWrite wordsToPrint
-  all-refused i n q l = gate-both file p k _ _ n q λ d e.
+  all-refused i n q l = admit-both file p k _ _ n q λ d e.
       refused-so n q (partWords d i) (words (formula d (propertyOf d p) k)) (fits d i) (noneOver d (propertyOf d p) k (k + 3) 0) (one-over d i (k + 3) 0 (omega arith) (omega arith))
       (sym (not-15 i _ l) ∙ e)
 
-  module _ (d : Design) (e : check file ≡ Checked.accepted d) (low : p ≤ lastProperty file) (few : k ≤ maxBound) (h : (i : ℕ) → i < k + 3 → isRefused (wordsToWrite file p k i maxWords) ≡ false) where
+  module _ (d : Design) (e : check file ≡ Checked.accepted d) (low : p ≤ lastProperty file) (few : k ≤ maxBound) (numbers : n d (propertyOf d p) k ≤ lastVariable) (h : (i : ℕ) → i < k + 3 → isRefused (wordsToWrite file p k i maxWords) ≡ false) where
     part-in : (i : ℕ) → i < k + 3 → wordsToWrite file p k i maxWords ≡ need (fits d i) 16 0 (answer (partWords d i))
     unfolding wordsToWrite
-    part-in i l = gate-in file p k _ d e low few ∙ not-15 i _ l
+    part-in i l = admit-in file p k _ d e low few numbers ∙ not-15 i _ l
 
     fit : (i : ℕ) → i < k + 3 → fits d i ≡ true
     fit i l = none-refused (partWords d i) (fits d i) (ap isRefused (sym (part-in i l)) ∙ h i l)
@@ -191,7 +193,7 @@ module _ (file : List ℕ) (p k : ℕ) where
 
     all-is : wordsToPrint file p k ≡ answer (words (formula d (propertyOf d p) k))
     unfolding wordsToPrint
-    all-is = gate-in file p k _ d e low few ∙ rw (none-over (k + 3) 0 (omega arith))
+    all-is = admit-in file p k _ d e low few numbers ∙ rw (none-over (k + 3) 0 (omega arith))
 
     parts-joined : (m i : ℕ) → i + m ≤ k + 3 → wordsText (words (partsFrom d (propertyOf d p) k m i)) ≡ joined (partText file p k) m i
     unfolding wordsText partsFrom joined partText
@@ -241,8 +243,8 @@ module _ (file : List ℕ) (p k : ℕ) where
       go : (x : Answer (List ℤ)) → wordsToWrite file p k 0 maxWords ≡ x → isRefused x ≡ false → printed (wordsToPrint file p k) ≡ joined (partText file p k) (k + 3 - 0) 0
       go (refused n r) s t = let o : _≡_ {A = ℕ} 0 1 = cc in absurd (omega arith)
       go (answer ws) s t =
-          let g = gate-answers file p k _ ws s in
-          all-printed file p k (g .design) (g .accepted) (g .property) (g .bound) (λ j m. f .fine j (omega arith))
+          let g = admit-answers file p k _ ws s in
+          all-printed file p k (g .design) (g .accepted) (g .property) (g .bound) (g .numbers) (λ j m. f .fine j (omega arith))
           ∙ ap (λ (m : ℕ). joined (partText file p k) m 0) (let z : k + 3 ≡ k + 3 - 0 = omega arith in z)
 
 -- the input's parts

@@ -8,10 +8,10 @@ use lib.IntN.{ℤ, pos, negsuc}
 use lib.ListN.{length, getD, take, drop}
 use Rattle.design.specs.Tree.{Design}
 use Rattle.step.specs.Property.{Property}
-use Rattle.step.specs.Gate.{gate}
 use Rattle.step.specs.Operations.{refusedAt}
 use Rattle.clauses.specs.Words.{words, isEnd}
 use Rattle.clauses.specs.Formula.{part, formula}
+use Rattle.clauses.specs.Admission.{admit}
 use Rattle.design.specs.Answer.{Answer, refused, answer, need}
 use Rattle.clauses.specs.Encode.{wordsToWrite}
 use Rattle.text.specs.Text.{digits, signedText}
@@ -44,10 +44,10 @@ noneOver d q k zero i = true
 noneOver d q k (suc m) i = leb (length (words (part d q k i))) maxWords && noneOver d q k m (suc i)
 
 -- the words that are printed: all parts, 0 to k + 2, which joined are the formula
--- "It refuses likewise; a part over 16,384 words gives `refused 16 at 0` and nothing else."
+-- "It refuses likewise; a part over 16,384 words gives `refused 16 at 0` and nothing else." 19 is ENCODE's, before 16 (document 02, R-2).
 unfoldable pub wordsToPrint : List ℕ → ℕ → ℕ → Answer (List ℤ)
 wordsToPrint file p k =
-    gate file p k λ d q.
+    admit file p k λ d q.
     need (noneOver d q k (k + 3) 0) 16 0
     (answer (words (formula d q k)))
 

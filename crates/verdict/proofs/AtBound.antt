@@ -1,7 +1,7 @@
 -- The loop's invariant: what it gives to the calls of a bound, and how it is kept.
 use mathlib.Core.Path.{_≡_, refl, ap, _∙_}
 use mathlib.Core.List.{List, _++_}
-use Prim.Native.Nat.{ℕ, _+_, _-_, _≤_}
+use Prim.Native.Nat.{ℕ, _+_, _-_, _^_, _<_, _≤_}
 use native.Mathlib.Omega.{arith}
 use lib.IntN.{ℤ}
 use lib.ListN.{length, take, drop}
@@ -10,11 +10,11 @@ use Rattle.design.specs.WellFormed.{WellFormed}
 use Rattle.design.proofs.WellFormed.{well-formed}
 use Rattle.step.specs.Property.{propertyOf}
 use Rattle.clauses.specs.Words.{words}
-use Rattle.clauses.specs.Formula.{formula}
+use Rattle.clauses.specs.Formula.{n, formula}
 use Rattle.clauses.specs.Decode.{decode}
 use Rattle.clauses.specs.Theorem.{Theorem}
 use Rattle.clauses.proofs.Theorem.{theorem-of-file}
-use Rattle.clauses.proofs.Limits.{small-of-file}
+use Rattle.clauses.specs.Limits.{lastVariable}
 use Rattle.search.specs.Memory.{Fresh, outcome, Leaves}
 use Rattle.search.specs.declared.Answered.the-variants.{Sat, Unsat, Spent}
 use Rattle.search.specs.declared.Solved.{Solved}
@@ -25,6 +25,7 @@ use Rattle.verdict.specs.Loop.{ReadyMemory, Tried, AtBound}
 use Rattle.verdict.specs.declared.answer.Verdict.the-variants.{Violated, Clean, Spent as SpentAt}
 use Rattle.verdict.specs.declared.answer.Reply.the-variants.{Done}
 use Rattle.verdict.proofs.Calls.{Room, room-for}
+use Rattle.clauses.proofs.Within.{n-up}
 use Rattle.verdict.proofs.Searching.{fresh-bound, tried}
 use Rattle.verdict.proofs.Loop.{judging-start, words-fit, values-fit, trail-fit, tries-fit, judging-next, lengths-kept, ends-sat, ends-spent, ends-clean}
 
@@ -52,6 +53,9 @@ module _
     pub bound-low : i ≤ k
     bound-low = s .judging .low
 
+    pub bound-numbers : n (s .ready .design) (propertyOf (s .ready .design) p) i ≤ lastVariable
+    bound-numbers = omega (arith, n-up (s .ready .design) (propertyOf (s .ready .design) p) i k bound-low, s .ready .numbers)
+
     pub bound-room : length (words (formula (s .ready .design) (propertyOf (s .ready .design) p) i)) ≤ length clauses
     bound-room = words-fit (s .ready .design) (wf (s .ready)) p k budget lent (room (s .ready)) (s .judging)
 
@@ -67,8 +71,7 @@ module _
 
       pub search-may : Fresh (take m clauses′) (take v values) (take v trail)
       search-may =
-          let few = s .ready .bound in
-          let small = small-of-file file (s .ready .bytes) (s .ready .design) (s .ready .accepted) p i (omega (arith, bound-low)) .variables in
+          let small : n (s .ready .design) (propertyOf (s .ready .design) p) i < 2 ^ 31 = omega (arith, bound-numbers) in
           fresh-bound (s .ready .design) (propertyOf (s .ready .design) p) k budget lent i t (theorem (s .ready) i) clauses clauses′ values trail m v (w .counted) (w .numbered) (w .written)
           (values-fit (s .ready .design) (wf (s .ready)) p k budget lent (room (s .ready)) (s .judging)) small
           (trail-fit (s .ready .design) (wf (s .ready)) p k budget lent (room (s .ready)) (s .judging))
@@ -93,7 +96,7 @@ module _
             → record { reply = Done (record { verdict = Violated i; tries = t + r .tries }); memory = record { clauses = clauses′; values = vs₂ ++ drop v values; trail = tr₂ ++ drop v trail; choices = choices′ } }
             ≡ exit (verdict file p k budget lent)
         standing-sat q c =
-            ends-sat (s .ready .design) (wf (s .ready)) p k budget lent (room (s .ready)) (s .judging) x file (s .ready .accepted) (s .ready .property) (s .ready .bound) q
+            ends-sat (s .ready .design) (wf (s .ready)) p k budget lent (room (s .ready)) (s .judging) x file (s .ready .accepted) (s .ready .property) (s .ready .bound) (s .ready .numbers) q
             (c ∙ ap (λ (y : List ℕ). (decode file p i (vs₂ ++ drop v values) y) .choices) (s .choices-kept))
 
         pub standing-spent : r .answer ≡ Spent
@@ -101,11 +104,11 @@ module _
             ≡ exit (verdict file p k budget lent)
         standing-spent q =
             rw (s .choices-kept)
-            (ends-spent (s .ready .design) (wf (s .ready)) p k budget lent (room (s .ready)) (s .judging) x file (s .ready .accepted) (s .ready .property) (s .ready .bound) q)
+            (ends-spent (s .ready .design) (wf (s .ready)) p k budget lent (room (s .ready)) (s .judging) x file (s .ready .accepted) (s .ready .property) (s .ready .bound) (s .ready .numbers) q)
 
         pub standing-clean : r .answer ≡ Unsat → i ≡ k
             → record { reply = Done (record { verdict = Clean; tries = t + r .tries }); memory = record { clauses = clauses′; values = vs₂ ++ drop v values; trail = tr₂ ++ drop v trail; choices = choices } }
             ≡ exit (verdict file p k budget lent)
         standing-clean q e =
             rw (s .choices-kept)
-            (ends-clean (s .ready .design) (wf (s .ready)) p k budget lent (room (s .ready)) (s .judging) x file (s .ready .accepted) (s .ready .property) (s .ready .bound) q e)
+            (ends-clean (s .ready .design) (wf (s .ready)) p k budget lent (room (s .ready)) (s .judging) x file (s .ready .accepted) (s .ready .property) (s .ready .bound) (s .ready .numbers) q e)

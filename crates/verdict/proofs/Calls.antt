@@ -1,5 +1,5 @@
 -- VERDICT's tests: a call that SIZE refuses, one with too little room, and one that answers.
-use mathlib.Core.Path.{_≡_, refl, sym, ap, _∙_}
+use mathlib.Core.Path.{_≡_, refl, sym, ap, subst, _∙_}
 use mathlib.Core.Bool.{Bool, true, false, _&&_}
 use mathlib.Core.List.{List}
 use Prim.Native.Nat.{ℕ, _<_, _≤_}
@@ -10,10 +10,12 @@ use borrow.Author.Tests.{leb-true, le-leb}
 use Rattle.design.specs.Tree.{Design}
 use Rattle.design.specs.Check.{Checked, check}
 use Rattle.step.specs.Property.{Property, propertyOf}
-use Rattle.step.specs.Gate.{gate}
-use Rattle.step.proofs.Gates.{gate-in, gate-answers, gate-both}
 use Rattle.clauses.specs.Words.{words}
 use Rattle.clauses.specs.Formula.{n, formula}
+use Rattle.clauses.specs.Limits.{lastVariable}
+use Rattle.clauses.specs.Admission.{admit}
+use Rattle.step.proofs.Gates.{need-answers}
+use Rattle.clauses.proofs.Admissions.{admit-in, admit-answers, admit-both}
 use Rattle.design.specs.Answer.{Answer, refused, answer, need}
 use Rattle.step.specs.Limits.{lastProperty, maxBound}
 use Rattle.clauses.specs.Size.{Sizes, sizesOf, size}
@@ -26,10 +28,6 @@ use Rattle.verdict.specs.declared.answer.Reply.the-variants.{Refused}
 and-true : (a b : Bool) → a && b ≡ true → (a ≡ true) × (b ≡ true)
 and-true true b e = (refl, e)
 and-true false b e = absurd (let z : _≡_ {A = ℕ} 0 1 = cc in omega arith)
-
-need-true : {A : Type 0} (t : Bool) (number place : ℕ) (r : Answer A) (a : A) → need t number place r ≡ answer a → (t ≡ true) × (r ≡ answer a)
-need-true true number place r a e = (refl, e)
-need-true false number place r a e = absurd (let z : _≡_ {A = ℕ} 0 1 = cc in omega arith)
 
 same-answer : {A : Type 0} (x y : A) → answer x ≡ answer y → x ≡ y
 same-answer x y e = cc
@@ -86,36 +84,40 @@ module _ (d : Design) (p : Property) (k : ℕ) (lent : Memory) where
 pub record Answered (file : List ℕ) (d : Design) (p k budget : ℕ) (lent : Memory) (told : Told) : Type 0 where
   pub property : p ≤ lastProperty file
   pub bound : k ≤ maxBound
+  pub numbers : n d (propertyOf d p) k ≤ lastVariable
   pub room : Room d (propertyOf d p) k lent
   pub same : (judge d (propertyOf d p) k budget) .told ≡ told
   pub memory : (verdict file p k budget lent) .memory ≡ memoryLeft file d p (judge d (propertyOf d p) k budget) lent
 
 module _ (file : List ℕ) (d : Design) (e : check file ≡ Checked.accepted d) (p k budget : ℕ) (lent : Memory) where
-  -- what VERDICT asks of a design, past the gate
+  -- what VERDICT asks of a design, past 19
   abbrev asked : Design → Property → Answer (Told × Memory)
   asked d q = need (roomFor d q k lent) 16 0 (answer ((judge d q k budget) .told, memoryLeft file d p (judge d q k budget) lent))
 
-  verdict-is : verdict file p k budget lent ≡ afterCall lent (gate file p k asked)
+  verdict-is : verdict file p k budget lent ≡ afterCall lent (admit file p k asked)
   unfolding verdict
   verdict-is = refl
 
   pub answered : (told : Told) → (verdict file p k budget lent) .answer ≡ answer told → Answered file d p k budget lent told
   answered told h =
-      let a = after-answer lent (gate file p k asked) told (ap (λ (x : After). x .answer) (sym verdict-is) ∙ h) in
-      let g = gate-answers file p k asked (told, a .0) (a .1) in
-      let t = need-true (roomFor d (propertyOf d p) k lent) 16 0 _ (told, a .0) (sym (gate-in file p k asked d e (g .property) (g .bound)) ∙ a .1) in
+      let a = after-answer lent (admit file p k asked) told (ap (λ (x : After). x .answer) (sym verdict-is) ∙ h) in
+      let g = admit-answers file p k asked (told, a .0) (a .1) in
+      let same : g .design ≡ d = cc (g .accepted, e) in
+      let numbers : n d (propertyOf d p) k ≤ lastVariable = subst (λ (x : Design). n x (propertyOf x p) k ≤ lastVariable) same (g .numbers) in
+      let t = need-answers (roomFor d (propertyOf d p) k lent) 16 0 _ (told, a .0) (sym (admit-in file p k asked d e (g .property) (g .bound) numbers) ∙ a .1) in
       let q = same-answer _ (told, a .0) (t .1) in
       record {
         property = g .property;
         bound = g .bound;
+        numbers = numbers;
         room = room-for d (propertyOf d p) k lent (t .0);
         same = ap (λ (x : Told × Memory). x .0) q;
         memory = ap (λ (x : After). x .memory) verdict-is ∙ a .2 ∙ ap (λ (x : Told × Memory). x .1) (sym q);
       }
 
-  module _ (low : p ≤ lastProperty file) (few : k ≤ maxBound) where
+  module _ (low : p ≤ lastProperty file) (few : k ≤ maxBound) (numbers : n d (propertyOf d p) k ≤ lastVariable) where
     verdict-in : verdict file p k budget lent ≡ afterCall lent (asked d (propertyOf d p))
-    verdict-in = verdict-is ∙ ap (afterCall lent) (gate-in file p k asked d e low few)
+    verdict-in = verdict-is ∙ ap (afterCall lent) (admit-in file p k asked d e low few numbers)
 
     -- "16 clauses, values, trail or choices short for the full bound"
     pub short : (Room d (propertyOf d p) k lent → ⊥) → verdict file p k budget lent ≡ record { answer = refused 16 0; memory = lent }
@@ -129,7 +131,7 @@ module _ (file : List ℕ) (d : Design) (e : check file ≡ Checked.accepted d) 
 pub size-refused : (file : List ℕ) (p k budget : ℕ) (lent : Memory) (number place : ℕ) → size file p k ≡ refused number place
     → verdict file p k budget lent ≡ record { answer = refused number place; memory = lent }
 unfolding size verdict
-size-refused file p k budget lent number place h = ap (afterCall lent) (gate-both file p k _ _ number place (λ d e. absurd (let z : _≡_ {A = ℕ} 0 1 = cc in omega arith)) h)
+size-refused file p k budget lent number place h = ap (afterCall lent) (admit-both file p k _ _ number place (λ d e. absurd (let z : _≡_ {A = ℕ} 0 1 = cc in omega arith)) h)
 
 -- where SIZE answers
 pub record Sized (file : List ℕ) (p k : ℕ) (s : Sizes) : Type 0 where
@@ -137,13 +139,14 @@ pub record Sized (file : List ℕ) (p k : ℕ) (s : Sizes) : Type 0 where
   pub accepted : check file ≡ Checked.accepted design
   pub property : p ≤ lastProperty file
   pub bound : k ≤ maxBound
+  pub numbers : n design (propertyOf design p) k ≤ lastVariable
   pub sizes : sizesOf design (propertyOf design p) k ≡ s
 
 pub size-answers : (file : List ℕ) (p k : ℕ) (s : Sizes) → size file p k ≡ answer s → Sized file p k s
 unfolding size
 size-answers file p k s h =
-    let g = gate-answers file p k _ s h in
-    record { design = g .design; accepted = g .accepted; property = g .property; bound = g .bound; sizes = same-answer _ s (g .same) }
+    let g = admit-answers file p k _ s h in
+    record { design = g .design; accepted = g .accepted; property = g .property; bound = g .bound; numbers = g .numbers; sizes = same-answer _ s (g .same) }
 
 -- What SIZE answers, held against the lengths lent.
 module _ {file : List ℕ} {p k : ℕ} {s : Sizes} (z : Sized file p k s) (budget : ℕ) (lent : Memory) where
@@ -156,7 +159,7 @@ module _ {file : List ℕ} {p k : ℕ} {s : Sizes} (z : Sized file p k s) (budge
   variables-are = ap (λ (x : Sizes). x .variables) (z .sizes)
 
   refuses : (Room (z .design) (propertyOf (z .design) p) k lent → ⊥) → record { reply = Refused 16 0; memory = lent } ≡ exit (verdict file p k budget lent)
-  refuses h = ap exit (sym (short file (z .design) (z .accepted) p k budget lent (z .property) (z .bound) h))
+  refuses h = ap exit (sym (short file (z .design) (z .accepted) p k budget lent (z .property) (z .bound) (z .numbers) h))
 
   pub short-clauses : length (lent .clauses) < s .words → record { reply = Refused 16 0; memory = lent } ≡ exit (verdict file p k budget lent)
   short-clauses h = refuses λ r. omega (arith, r .clauses, words-are)
@@ -178,5 +181,6 @@ module _ {file : List ℕ} {p k : ℕ} {s : Sizes} (z : Sized file p k s) (budge
     bytes = bytes;
     property = z .property;
     bound = z .bound;
+    numbers = z .numbers;
     room = for-room (z .design) (propertyOf (z .design) p) k lent (record { clauses = omega (arith, words-are); values = omega (arith, variables-are); trail = omega (arith, variables-are); choices = e });
   }

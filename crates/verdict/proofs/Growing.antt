@@ -1,4 +1,4 @@
--- The variables and words of the formula grow with the bound, so room for the full bound is room for every smaller one.
+-- The words of the formula grow with the bound, and so do its variables (`n-up`, clauses/proofs/Within): room for the full bound is room for every smaller one.
 use Prim.Native.Nat.{ℕ, _+_, _*_, _≤_}
 use native.Mathlib.Omega.{arith}
 use native.Mathlib.Nat.{le-refl, mul-le-mul}
@@ -7,15 +7,11 @@ use Rattle.design.specs.Tree.{Design}
 use Rattle.design.specs.WellFormed.{WellFormed}
 use Rattle.step.specs.Property.{Property, invariant, noInvalidCell, constraint}
 use Rattle.clauses.specs.Words.{words}
-use Rattle.clauses.specs.Formula.{framesTaken, F, n, formula}
+use Rattle.clauses.specs.Formula.{framesTaken, formula}
 use Rattle.clauses.specs.Cost.{wordsIn, propertyCost, stepWordCount, wordCount}
 use Rattle.clauses.proofs.SizeNumbers.{formula-counts}
 
 module _ (d : Design) (p : Property) {i k : ℕ} (h : i ≤ k) where
-  pub variables-grow : n d p i ≤ n d p k
-  unfolding n
-  variables-grow = let f : i * F d p ≤ k * F d p = mul-le-mul h (le-refl (F d p)) in omega arith
-
   frames-grow : (q : Property) → framesTaken q i ≤ framesTaken q k
   frames-grow (invariant e) = omega arith
   frames-grow noInvalidCell = omega arith

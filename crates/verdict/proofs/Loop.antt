@@ -14,6 +14,7 @@ use Rattle.step.specs.Property.{Property, propertyOf}
 use Rattle.clauses.specs.Words.{words}
 use Rattle.clauses.specs.Formula.{n, formula}
 use Rattle.step.specs.Limits.{lastProperty, maxBound}
+use Rattle.clauses.specs.Limits.{lastVariable}
 use Rattle.clauses.specs.Decode.{decode}
 use Rattle.search.specs.Search.{upTo, Answer, SAT, UNSAT, SPENT, Outcome}
 use Rattle.search.specs.Solve.{valuesLeft}
@@ -26,7 +27,8 @@ use Rattle.verdict.specs.Answers.{declaredVerdict, declaredTold, Exit, e
 use Rattle.verdict.specs.Loop.{Judging, Tried}
 use Rattle.verdict.specs.declared.answer.Verdict.the-variants.{Violated, Clean, Spent as SpentAt}
 use Rattle.verdict.specs.declared.answer.Reply.the-variants.{Done}
-use Rattle.verdict.proofs.Growing.{variables-grow, words-grow}
+use Rattle.clauses.proofs.Within.{n-up}
+use Rattle.verdict.proofs.Growing.{words-grow}
 use Rattle.verdict.proofs.Calls.{Room, answers}
 use Rattle.verdict.proofs.Judging.{tries-most}
 
@@ -80,10 +82,10 @@ module _ (d : Design) (wf : WellFormed d) (number k budget : ℕ) (lent : Memory
     words-fit = omega (arith, words-grow d p (j .low) wf, room .clauses, j .clauses-long)
 
     pub values-fit : n d p i ≤ length values
-    values-fit = omega (arith, variables-grow d p (j .low), room .values, j .values-long)
+    values-fit = omega (arith, n-up d p i k (j .low), room .values, j .values-long)
 
     pub trail-fit : n d p i ≤ length trail
-    trail-fit = omega (arith, variables-grow d p (j .low), room .trail, j .trail-long)
+    trail-fit = omega (arith, n-up d p i k (j .low), room .trail, j .trail-long)
 
     module _ {r : Solved} {clauses′ : List ℤ} {values′ trail′ : List ℕ} (x : Tried d p k budget lent i t clauses values trail r clauses′ values′ trail′) where
       o : Outcome
@@ -168,8 +170,8 @@ module _ (d : Design) (wf : WellFormed d) (number k budget : ℕ) (lent : Memory
             clauses-kept =
                 ap (drop (length (words (formula d p (suc i))))) (x .written)
                 ∙ front-kept (words (formula d p i)) clauses (length (words (formula d p i))) refl (lent .clauses) (length (words (formula d p (suc i)))) (words-grow d p up wf) (j .clauses-kept);
-            values-kept = ap (drop (n d p (suc i))) (x .values-left) ∙ front-kept (valuesLeft (n d p i) (o .answer)) values (n d p i) values-front (lent .values) (n d p (suc i)) (variables-grow d p up) (j .values-kept);
-            trail-kept = ap (drop (n d p (suc i))) (x .trail-left) ∙ front-kept (replicate (n d p i) 0) trail (n d p i) trail-front (lent .trail) (n d p (suc i)) (variables-grow d p up) (j .trail-kept);
+            values-kept = ap (drop (n d p (suc i))) (x .values-left) ∙ front-kept (valuesLeft (n d p i) (o .answer)) values (n d p i) values-front (lent .values) (n d p (suc i)) (n-up d p i (suc i) up) (j .values-kept);
+            trail-kept = ap (drop (n d p (suc i))) (x .trail-left) ∙ front-kept (replicate (n d p i) 0) trail (n d p i) trail-front (lent .trail) (n d p (suc i)) (n-up d p i (suc i) up) (j .trail-kept);
             clauses-long = lengths-kept .0;
             values-long = lengths-kept .1;
             trail-long = lengths-kept .2;
@@ -187,14 +189,14 @@ module _ (d : Design) (wf : WellFormed d) (number k budget : ℕ) (lent : Memory
           λ h. record { clauses = ws h; values = vs h; trail = ts h; choices = cs h }
 
       -- what the call comes to, where the verdict is v
-      module _ (file : List ℕ) (e : check file ≡ Checked.accepted d) (low : number ≤ lastProperty file) (few : k ≤ maxBound) where
+      module _ (file : List ℕ) (e : check file ≡ Checked.accepted d) (low : number ≤ lastProperty file) (few : k ≤ maxBound) (numbers : n d p k ≤ lastVariable) where
         ends : (v : Verdict) (choices′ : List ℕ) → judge d p k budget ≡ judged v (t + r .tries) i o → choices′ ≡ choicesLeft file d number v values′ (lent .choices)
             → record { reply = Done (record { verdict = declaredVerdict v; tries = t + r .tries }); memory = record { clauses = clauses′; values = values′; trail = trail′; choices = choices′ } }
             ≡ exit (verdict file number k budget lent)
         ends v choices′ q cs =
             ap {B = Exit} (λ (m : Memory). record { reply = Done (record { verdict = declaredVerdict v; tries = t + r .tries }); memory = m }) (memory-is file v choices′ cs)
             ∙ ap {B = Exit} (λ (y : Judged). record { reply = Done (declaredTold (y .told)); memory = memoryLeft file d number y lent }) (sym q)
-            ∙ ap exit (sym (answers file d e number k budget lent low few room))
+            ∙ ap exit (sym (answers file d e number k budget lent low few numbers room))
 
         pub ends-sat : {choices′ : List ℕ} → r .answer ≡ Sat → choices′ ≡ (decode file number i values′ (lent .choices)) .choices
             → record { reply = Done (record { verdict = Violated i; tries = t + r .tries }); memory = record { clauses = clauses′; values = values′; trail = trail′; choices = choices′ } }

@@ -1,13 +1,15 @@
--- The table holds: by computation, but for the counts of models.
+-- The table holds: by computation, but for the counts of models and the cases of products, which have a file of their own.
 use mathlib.Core.Path.{refl}
 use Rattle.design.specs.DesignA.{bytesA, designA, count, check-A}
 use Rattle.design.specs.Constrained.{bytesMoved, designMoved, check-moved, bytesNoIdle, designNoIdle, check-noIdle}
+use Rattle.design.specs.Multiplied.{check-multiplied}
 use Rattle.step.specs.Pattern.{signed, wrap}
 use Rattle.step.specs.OneStep.{stepping}
 use Rattle.step.specs.Operations.{firstBreak}
 use Rattle.clauses.specs.Formula.{encoding}
 use Rattle.clauses.proofs.DesignA.{models-3, models-4}
 use Rattle.clauses.proofs.Constrained.{models-moved, models-noIdle}
+use Rattle.clauses.proofs.Multiplied.{frame-multiplied, bound-multiplied-0, bound-multiplied-2, broken-multiplied, never-multiplied, models-multiplied-1, models-multiplied-2}
 use Rattle.search.specs.Search.{turn, solved}
 use Rattle.search.specs.Solve.{solve}
 use Rattle.verdict.specs.Table.{AllHold, table}
@@ -60,7 +62,31 @@ table-holds = (
                                             refl,
                                             (
                                               models-noIdle,
-                                              (refl, (refl, (refl, (refl, (refl, (refl, (refl, (refl, tt)))))))),
+                                              (
+                                                check-multiplied,
+                                                (
+                                                  frame-multiplied,
+                                                  (
+                                                    bound-multiplied-0,
+                                                    (
+                                                      bound-multiplied-2,
+                                                      (
+                                                        broken-multiplied,
+                                                        (
+                                                          never-multiplied,
+                                                          (
+                                                            models-multiplied-1,
+                                                            (
+                                                              models-multiplied-2,
+                                                              (refl, (refl, (refl, (refl, (refl, (refl, (refl, (refl, (refl, (refl, (refl, (refl, (refl, tt))))))))))))),
+                                                            ),
+                                                          ),
+                                                        ),
+                                                      ),
+                                                    ),
+                                                  ),
+                                                ),
+                                              ),
                                             ),
                                           ),
                                         ),

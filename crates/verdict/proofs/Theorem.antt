@@ -18,6 +18,7 @@ use Rattle.verdict.specs.Verdict.{Verdict, VIOLATED, Told, Judged, judge
 use Rattle.verdict.specs.Claim.{OfFormula, Says, OfVerdict, Witness, Demand3}
 use Rattle.verdict.proofs.Calls.{Answered, answered}
 use Rattle.verdict.proofs.Judging.{Known, Violated, judge-right, known-says, known-tries, same-verdict}
+use Rattle.clauses.proofs.Within.{n-up}
 use Rattle.verdict.proofs.Witness.{decodes, witness}
 
 of-formula : (d : Design) (p : Property) (k : ℕ) → Theorem d p k → OfFormula d p k
@@ -57,7 +58,7 @@ module _ (file : List ℕ) (d : Design) (e : check file ≡ Checked.accepted d) 
         ∙ ap (λ (x : search.Answer). choicesLeft file d p (VIOLATED i) (valuesLeft (n d (propertyOf d p) i) x ++ rest) (lent .choices)) (v .sat) in
         subst (Witness d (propertyOf d p) i (lent .choices)) (sym m)
         (witness file d e p (a .property) i (v .settings) rest (lent .choices) (th i)
-        (omega (arith, v .within, a .bound)) (omega (arith, v .within, a .room .choices)) (v .none) (v .satisfies))
+        (omega (arith, v .within, a .bound)) (omega (arith, n-up d (propertyOf d p) i k (v .within), a .numbers)) (omega (arith, v .within, a .room .choices)) (v .none) (v .satisfies))
 
     of-verdict : OfVerdict d (propertyOf d p) k budget told (lent .choices) ((verdict file p k budget lent) .memory .choices)
     of-verdict = record {
@@ -70,6 +71,6 @@ module _ (file : List ℕ) (d : Design) (e : check file ≡ Checked.accepted d) 
 pub demand-3 : (file : List ℕ) → ((i : ℕ) → getD file i 0 < 256) → (d : Design) → check file ≡ Checked.accepted d → Demand3 file d
 demand-3 file bytes d e = record {
   formula = λ p k. of-formula d (propertyOf d p) k (theorem-of-file file bytes d e p k);
-  decode = λ p k low few. decodes file d e p low k few (theorem-of-file file bytes d e p k);
+  decode = λ p k low few numbers. decodes file d e p low k few numbers (theorem-of-file file bytes d e p k);
   verdict = λ p k budget lent told h. of-verdict file d e p k budget lent (theorem-of-file file bytes d e p) told (answered file d e p k budget lent told h);
 }

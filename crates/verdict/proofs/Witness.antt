@@ -1,22 +1,22 @@
 -- DECODE is not refused on values that store a satisfying assignment; so on VIOLATED i it writes choices that break the property at step i.
 use mathlib.Core.Path.{_≡_, refl, ap, _∙_}
-use mathlib.Core.Bool.{true, false, _&&_}
+use mathlib.Core.Bool.{true, false}
 use mathlib.Core.List.{List, _++_}
 use Prim.Native.Nat.{ℕ, suc, _+_, _≤_}
 use native.Mathlib.Omega.{arith}
-use lib.Dec.{leb}
 use lib.ListN.{length, drop, length-append, List·getD-append}
 use borrow.Author.Tests.{le-leb}
 use Rattle.design.specs.Tree.{Design, bit}
 use Rattle.design.specs.Check.{Checked, check}
 use Rattle.step.specs.Property.{Property, propertyOf}
 use Rattle.step.specs.Breaking.{Breaking}
-use Rattle.step.proofs.Gates.{gate-in}
 use Rattle.clauses.specs.Meaning.{satisfies}
 use Rattle.clauses.specs.Formula.{n, formula, choices}
-use Rattle.design.specs.Answer.{Answer, answer, need}
+use Rattle.clauses.specs.Limits.{lastVariable}
+use Rattle.clauses.proofs.Admissions.{admit-in}
+use Rattle.design.specs.Answer.{Answer, answer}
 use Rattle.step.specs.Limits.{lastProperty, maxBound}
-use Rattle.clauses.specs.Decode.{AfterDecode, written, chosenFrom, choicesToWrite, decode}
+use Rattle.clauses.specs.Decode.{AfterDecode, written, chosenFrom, choicesOf, choicesToWrite, decode}
 use Rattle.clauses.specs.Theorem.{Theorem, Stored}
 use Rattle.search.specs.Search.{Value, unset, is, Settings, valueOf}
 use Rattle.search.specs.Solve.{bitOf, valuesFrom}
@@ -44,26 +44,26 @@ values-hold m ss rest = record {
 module _ (file : List ℕ) (d : Design) (e : check file ≡ Checked.accepted d) (p : ℕ) (low : p ≤ lastProperty file) where
   -- past the other refusals DECODE looks at the flags
   abbrev asked : ℕ → List ℕ → ℕ → Design → Property → Answer (List ℕ)
-  asked i values room d q = need (leb (n d q i) (length values) && leb i room) 16 0 (chosenFrom d q values i 0)
+  asked i values room d q = choicesOf d q i values room
 
-  decode-past : (i : ℕ) (values cs : List ℕ) → i ≤ maxBound → n d (propertyOf d p) i ≤ length values → i ≤ length cs
+  decode-past : (i : ℕ) (values cs : List ℕ) → i ≤ maxBound → n d (propertyOf d p) i ≤ lastVariable → n d (propertyOf d p) i ≤ length values → i ≤ length cs
       → decode file p i values cs ≡ written (chosenFrom d (propertyOf d p) values i 0) cs
-  unfolding decode choicesToWrite
-  decode-past i values cs few long room =
-      ap (λ (r : Answer (List ℕ)). written r cs) (gate-in file p i (asked i values (length cs)) d e low few)
+  unfolding decode choicesOf choicesToWrite
+  decode-past i values cs few numbers long room =
+      ap (λ (r : Answer (List ℕ)). written r cs) (admit-in file p i (asked i values (length cs)) d e low few numbers)
       ∙ rw (le-leb (n d (propertyOf d p) i) (length values) long, le-leb i (length cs) room)
 
-  pub decodes : (i : ℕ) → i ≤ maxBound → Theorem d (propertyOf d p) i → Decodes file d p i
-  decodes i few th ρ values cs s h room =
-      decode-past i values cs few (h .long) room
+  pub decodes : (i : ℕ) → i ≤ maxBound → n d (propertyOf d p) i ≤ lastVariable → Theorem d (propertyOf d p) i → Decodes file d p i
+  decodes i few numbers th ρ values cs s h room =
+      decode-past i values cs few numbers (h .long) room
       ∙ ap (λ (r : Answer (List ℕ)). written r cs) (th .decode ρ values s h)
       ∙ ap {B = AfterDecode} (λ (m : ℕ). record { answer = answer tt; choices = choices d (propertyOf d p) ρ i ++ drop m cs }) (th .decodes ρ s .long)
 
-  pub witness : (i : ℕ) (ss : Settings) (rest cs : List ℕ) → Theorem d (propertyOf d p) i → i ≤ maxBound → i ≤ length cs → NoneShorter d (propertyOf d p) i
+  pub witness : (i : ℕ) (ss : Settings) (rest cs : List ℕ) → Theorem d (propertyOf d p) i → i ≤ maxBound → n d (propertyOf d p) i ≤ lastVariable → i ≤ length cs → NoneShorter d (propertyOf d p) i
       → satisfies (made ss) (formula d (propertyOf d p) i) ≡ true → Witness d (propertyOf d p) i cs ((decode file p i (valuesFrom ss 1 (n d (propertyOf d p) i) ++ rest) cs) .choices)
-  witness i ss rest cs th few room none s =
+  witness i ss rest cs th few numbers room none s =
       let b : Breaking d (propertyOf d p) i (choices d (propertyOf d p) (made ss) i) = th .decodes (made ss) s in
-      let x = decodes i few th (made ss) (valuesFrom ss 1 (n d (propertyOf d p) i) ++ rest) cs s (values-hold (n d (propertyOf d p) i) ss rest) room in
+      let x = decodes i few numbers th (made ss) (valuesFrom ss 1 (n d (propertyOf d p) i) ++ rest) cs s (values-hold (n d (propertyOf d p) i) ss rest) room in
       record {
         list = choices d (propertyOf d p) (made ss) i;
         written = ap (λ (r : AfterDecode). r .choices) x;

@@ -1,6 +1,8 @@
 -- Demand 3 of document 01, whole: "one claim about such lists as wholes, not one for each choice". A list's choices are movers' numbers,
 -- idle ones included (`AllBelow (length (movers d)) cs`). `Breaking d q k cs`: cs is a list of just k choices that breaks property q; `Breakable d q k`: some
--- list of at most k does. `p` is the number of a property: 0, 1, and 2 for the constraint of a version 2 file (document 02, R-1: "Demand 3 covers it.").
+-- list of at most k does. `p` is the number of a property: 0, 1, and 2 for the constraint of a version 2 file (document 02, R-1: "Demand 3 covers it."). The formula
+-- is one of whole numbers: what is said of it holds for every bound and however large n is, also where calls are refused by 19 (document 02, R-2: "demand 3's formula
+-- is then the same clauses in whole numbers, which no call writes").
 use mathlib.Core.Path.{_≡_}
 use mathlib.Core.Logic.{_↔_}
 use mathlib.Core.Bool.{true}
@@ -16,6 +18,7 @@ use Rattle.clauses.specs.Formula.{n, formula, choices}
 use Rattle.clauses.specs.Words.{words, clausesOf}
 use Rattle.design.specs.Answer.{answer}
 use Rattle.step.specs.Limits.{lastProperty, maxBound}
+use Rattle.clauses.specs.Limits.{lastVariable}
 use Rattle.clauses.specs.Decode.{decode}
 use Rattle.clauses.specs.Theorem.{Stored}
 use Rattle.search.specs.Search.{turn, Budget, noBudget, Ends}
@@ -37,7 +40,7 @@ pub record OfFormula (d : Design) (q : Property) (k : ℕ) : Type 0 where
   pub decodes : (ρ : Assignment) → satisfies ρ (formula d q k) ≡ true → Breaking d q k (choices d q ρ k)
   -- an assignment is one of variables 1..n: the formula names no other
   pub within : Within (n d q k) (formula d q k)
-  -- the words that ENCODE's parts come to say just these clauses
+  -- the formula's words, which ENCODE's parts come to where it is not refused, say just these clauses
   pub words : clausesOf (words (formula d q k)) ≡ formula d q k
   -- The search of the formula ends by itself, with the budget given or with none: "Repeat" comes in finitely many turns to the answer, the tries and the
   -- values that `searched` tells, "SPENT exactly when a try beyond the budget would be needed", and never by a count of turns.
@@ -116,7 +119,7 @@ module _ (d : Design) (q : Property) where
 -- of a file and its design
 pub record Demand3 (file : List ℕ) (d : Design) : Type 0 where
   pub formula : (p k : ℕ) → OfFormula d (propertyOf d p) k
-  -- for every call that is not refused for its property or bound: "13 property over 1", with a constraint over 2; "14 bound over 100"
-  pub decode : (p k : ℕ) → p ≤ lastProperty file → k ≤ maxBound → Decodes file d p k
+  -- for every call that is not refused for its property, its bound or its n: "13 property over 1", with a constraint over 2; "14 bound over 100"; "19 when n exceeds 2^31-1"
+  pub decode : (p k : ℕ) → p ≤ lastProperty file → k ≤ maxBound → n d (propertyOf d p) k ≤ lastVariable → Decodes file d p k
   pub verdict : (p k budget : ℕ) (lent : Memory) (told : Told) → (verdict file p k budget lent) .answer ≡ answer told
       → OfVerdict d (propertyOf d p) k budget told (lent .choices) ((verdict file p k budget lent) .memory .choices)

@@ -10,6 +10,7 @@ use Rattle.design.specs.Check.{Checked, check}
 use Rattle.step.specs.Property.{Property, propertyOf}
 use Rattle.clauses.specs.Words.{words}
 use Rattle.clauses.specs.Formula.{n, formula}
+use Rattle.clauses.specs.Limits.{lastVariable}
 use Rattle.step.specs.Limits.{lastProperty, maxBound}
 use Rattle.search.specs.Search.{upTo}
 use Rattle.search.specs.Solve.{valuesLeft}
@@ -17,13 +18,14 @@ use Rattle.search.specs.Answers.{declaredSolved}
 use Rattle.search.specs.declared.Solved.{Solved}
 use Rattle.verdict.specs.Verdict.{Memory, searched, judgedFrom, judge, roomFor}
 
--- nothing is refused: the file's design is accepted, the property and the bound are not too high, and there is room
+-- nothing is refused: the file's design is accepted, the property, the bound and n are not too high, and there is room
 pub record ReadyMemory (file : List ℕ) (p k : ℕ) (lent : Memory) : Type 0 where
   pub design : Design
   pub accepted : check file ≡ Checked.accepted design
   pub bytes : (i : ℕ) → getD file i 0 < 256
   pub property : p ≤ lastProperty file
   pub bound : k ≤ maxBound
+  pub numbers : n design (propertyOf design p) k ≤ lastVariable
   pub room : roomFor design (propertyOf design p) k lent ≡ true
 
 module _ (d : Design) (q : Property) (k budget : ℕ) (lent : Memory) where

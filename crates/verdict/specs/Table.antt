@@ -12,8 +12,9 @@ use Rattle.design.specs.Check.{accepted, check}
 use Rattle.design.specs.State.{start}
 use Rattle.design.specs.DesignA.{bytesA, designA}
 use Rattle.design.specs.Constrained.{bytesMoved, designMoved, bytesNoIdle, designNoIdle}
+use Rattle.design.specs.Multiplied.{bytesMultiplied, designMultiplied}
 use Rattle.step.specs.Property.{Property, propertyOf}
-use Rattle.step.specs.Pattern.{plus, minus, signed, wrap}
+use Rattle.step.specs.Pattern.{plus, minus, times, signed, wrap}
 use Rattle.step.specs.OneStep.{breaksAt, breaks}
 use Rattle.step.specs.Operations.{firstBreak}
 use Rattle.clauses.specs.Formula.{S, P, w, G, F, n, lastClause, formula}
@@ -28,7 +29,7 @@ pub record Subject : Type 0 where
   pub design : Design
   pub property : Property
 
--- property 0 of Design A, and property 2 of the designs with a constraint
+-- property 0 of Design A, property 2 of the designs with a constraint, and property 0 of the one with products
 abbrev invariantA : Subject
 invariantA = record { design = designA; property = propertyOf designA 0 }
 
@@ -37,6 +38,9 @@ movedBelow = record { design = designMoved; property = propertyOf designMoved 2 
 
 abbrev noIdleStep : Subject
 noIdleStep = record { design = designNoIdle; property = propertyOf designNoIdle 2 }
+
+abbrev tripled : Subject
+tripled = record { design = designMultiplied; property = propertyOf designMultiplied 0 }
 
 pub data Case : Type 0 where
   -- the bytes of a file give its tree
@@ -52,8 +56,8 @@ pub data Case : Type 0 where
   never : Subject → List ℕ → Case
   -- a bound has so many models
   models : Subject → ℕ → ℕ → Case
-  -- two integers, and their sum or difference
-  sum difference : ℤ → ℤ → ℤ → Case
+  -- two integers, and their sum, difference or product
+  sum difference product : ℤ → ℤ → ℤ → Case
   -- SOLVE: n, words, budget; answer, tries and the values left
   solves : ℕ → List ℤ → ℕ → Answered → ℕ → List ℕ → Case
 
@@ -69,6 +73,7 @@ Holds (never s cs) = breaks (s .design) (s .property) cs ≡ false
 Holds (models s k count) = Exactly (Model (s .design) (s .property) k) count
 Holds (sum a b c) = signed (plus (wrap a) (wrap b)) ≡ c
 Holds (difference a b c) = signed (minus (wrap a) (wrap b)) ≡ c
+Holds (product a b c) = signed (times (wrap a) (wrap b)) ≡ c
 Holds (solves variables words budget answer tries values) =
     solve variables words (replicate variables 7) (replicate variables 7) budget
     ≡ record { reply = Done (record { answer = answer; tries = tries }); values = values; trail = replicate variables 0 }
@@ -113,6 +118,21 @@ table =
     ∷ never noIdleStep (1 ∷ 0 ∷ 0 ∷ [])
     ∷ never noIdleStep []
     ∷ models noIdleStep 2 3
+    -- Products (document 02, R-2): v is tripled, and -20 < -3 * v breaks. The action and the invariant have "1,280 gates" each, beside 54 and 80.
+    ∷ reads bytesMultiplied designMultiplied
+    ∷ frame tripled 20 1360 1 1334 2715
+    ∷ bound tripled 0 1381 4646
+    ∷ bound tripled 2 6811 23076
+    ∷ broken tripled (0 ∷ 0 ∷ []) 2
+    ∷ never tripled (0 ∷ [])
+    ∷ models tripled 1 0
+    ∷ models tripled 2 1
+    -- "the product wrapped to 16 bits": 32,769; 90,000; -1 times the least integer; both signs
+    ∷ product (pos 3) (pos 10923) (negℤ (pos 32767))
+    ∷ product (pos 300) (pos 300) (pos 24464)
+    ∷ product (negℤ (pos 1)) (negℤ (pos 32768)) (negℤ (pos 32768))
+    ∷ product (negℤ (pos 3)) (pos 7) (negℤ (pos 21))
+    ∷ product (negℤ (pos 3)) (negℤ (pos 7)) (pos 21)
     -- "32767+1 is -32768"; "0-(-32768) is -32768."
     ∷ sum (pos 32767) (pos 1) (negℤ (pos 32768))
     ∷ difference (pos 0) (negℤ (pos 32768)) (negℤ (pos 32768))

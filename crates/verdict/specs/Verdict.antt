@@ -7,9 +7,9 @@ use lib.IntN.{ℤ}
 use lib.ListN.{length, drop}
 use Rattle.design.specs.Tree.{Design}
 use Rattle.step.specs.Property.{Property, propertyOf}
-use Rattle.step.specs.Gate.{gate}
 use Rattle.clauses.specs.Words.{words}
 use Rattle.clauses.specs.Formula.{n, formula}
+use Rattle.clauses.specs.Admission.{admit}
 use Rattle.design.specs.Answer.{Answer, refused, answer, need}
 use Rattle.clauses.specs.Decode.{decode}
 use Rattle.search.specs.Search.{Budget, upTo, SAT, UNSAT, SPENT, Outcome, solved}
@@ -105,10 +105,10 @@ afterCall lent (refused number place) = record { answer = refused number place; 
 afterCall lent (answer (told, left)) = record { answer = answer told; memory = left }
 
 -- "VERDICT: 13; 14; 16 clauses, values, trail or choices short for the full bound." 13 is "property over 1", with a constraint over 2; 14 is
--- "bound over 100". "Places not named are 0."
+-- "bound over 100". "Places not named are 0." 19 is straight after 14, for the full bound (document 02, R-2).
 unfoldable pub verdict : List ℕ → ℕ → ℕ → ℕ → Memory → After
 verdict file p k budget lent =
     afterCall lent (
-    gate file p k λ d q.
+    admit file p k λ d q.
     need (roomFor d q k lent) 16 0
     (answer ((judge d q k budget) .told, memoryLeft file d p (judge d q k budget) lent)))

@@ -23,6 +23,8 @@ pub fn all() -> Vec<(&'static str, Design)> {
         ("moved", moved()),
         ("no-idle", no_idle()),
         ("crossing-turns", crossing_turns()),
+        ("vending", vending()),
+        ("minus-three", minus_three()),
     ]
 }
 
@@ -297,6 +299,38 @@ pub fn crossing_turns() -> Design {
     Design { constraint: Some(and(turns(0, 1), turns(1, 0))), ..crossing() }
 }
 
+/// A cup costs 3 coins, so the coins taken are 3 times the cups sold; but once 3 coins are taken, a cup may be had for 2.
+pub fn vending() -> Design {
+    const TAKEN: u8 = 0;
+    const CUPS: u8 = 1;
+    let add = |v: u8, n: i16| assign_integer(v, plus(number(v), constant(n)));
+    let sale = |coins: i16| vec![add(CUPS, 1), add(TAKEN, coins)];
+    let cost = || times(3, number(CUPS));
+    Design {
+        variables: vec![integer_from(0); 2],
+        matrices: vec![matrix(1, vec![truth(true), less(constant(2), cost())])],
+        cells: vec![normal((0, 0, 0), 0, None, sale(3)), normal((0, 0, 1), 0, None, sale(2))],
+        invariant: equal(number(TAKEN), cost()),
+        constraint: None,
+    }
+}
+
+/// Each step multiplies by -3, so the sign changes each time: 1300, -3900, 11700. Then -35100 wraps to 30436, which
+/// breaks the invariant. The constraint, which wraps likewise, never breaks.
+pub fn minus_three() -> Design {
+    const X: u8 = 0;
+    const NEGATIVE: u8 = 1;
+    let next = || times(-3, number(X));
+    let action = vec![assign_integer(X, next()), assign_boolean(NEGATIVE, not(is(NEGATIVE)))];
+    Design {
+        variables: vec![integer_from(1_300), boolean_from(false)],
+        matrices: vec![matrix(1, vec![truth(true)])],
+        cells: vec![normal((0, 0, 0), 0, None, action)],
+        invariant: same(less(number(X), constant(0)), is(NEGATIVE)),
+        constraint: Some(equal(next_number(X), next())),
+    }
+}
+
 /// A file of the greatest length, by an invariant of constants that is true.
 pub fn longest() -> Design {
     let mut design = Design { invariant: truth(true), ..crossing() };
@@ -306,7 +340,7 @@ pub fn longest() -> Design {
 }
 
 /// A true expression of so many bytes, at least 2.
-fn true_of_length(length: usize) -> Boolean {
+pub fn true_of_length(length: usize) -> Boolean {
     match length {
         0..=2 => truth(true),
         3 => not(truth(false)),

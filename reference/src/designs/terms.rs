@@ -34,6 +34,10 @@ pub fn minus(a: Integer, b: Integer) -> Integer {
     Integer::Difference(Box::new(a), Box::new(b))
 }
 
+pub fn times(constant: i16, a: Integer) -> Integer {
+    Integer::Product(constant, Box::new(a))
+}
+
 pub fn truth(value: bool) -> Boolean {
     Boolean::Constant(value)
 }

@@ -1,12 +1,12 @@
 //! Gates, and the integer circuits that are made of them.
 
 use super::sink::Sink;
-use super::state::BitPlaces;
+use super::state::{BitPlaces, INTEGER_WIDTH};
 
 pub const TRUE: i32 = 1;
 pub const FALSE: i32 = -1;
 
-pub type Word = [i32; 16];
+pub type Word = [i32; INTEGER_WIDTH];
 
 pub fn constant_word(value: i16) -> Word {
     std::array::from_fn(|i| if value >> i & 1 == 1 { TRUE } else { FALSE })
@@ -16,17 +16,23 @@ fn negated(word: &Word) -> Word {
     word.map(|literal| -literal)
 }
 
+/// False below the lowest bit; the bits past the top are dropped.
+fn shifted(word: &Word, by: usize) -> Word {
+    std::array::from_fn(|i| if i < by { FALSE } else { word[i - by] })
+}
+
 /// Writes gates; each takes the next variable. Nothing is folded or shared.
 pub struct Circuit<'a, S: Sink> {
     pub bits: &'a BitPlaces,
-    pub next: i32,
+    /// After the last gate of the largest formula it is no i32.
+    pub next: u32,
     pub sink: &'a mut S,
 }
 
 impl<S: Sink> Circuit<'_, S> {
     fn gate(&mut self) -> i32 {
         self.next += 1;
-        self.next - 1
+        (self.next - 1) as i32
     }
 
     pub fn and(&mut self, a: i32, b: i32) -> i32 {
@@ -66,8 +72,8 @@ impl<S: Sink> Circuit<'_, S> {
     /// The sum and its last carry.
     pub fn sum(&mut self, a: &Word, b: &Word, carry: i32) -> (Word, i32) {
         let mut c = carry;
-        let mut sum = [0; 16];
-        for i in 0..16 {
+        let mut sum = [0; INTEGER_WIDTH];
+        for i in 0..INTEGER_WIDTH {
             let p = self.xor(a[i], b[i]);
             sum[i] = self.xor(p, c);
             let u = self.and(a[i], b[i]);
@@ -81,6 +87,15 @@ impl<S: Sink> Circuit<'_, S> {
         self.sum(a, &negated(b), TRUE)
     }
 
+    /// A sum for each bit of the constant from the lowest, also for one that is 0.
+    pub fn product(&mut self, constant: i16, operand: &Word) -> Word {
+        let none = [FALSE; INTEGER_WIDTH];
+        (0..INTEGER_WIDTH).fold(none, |so_far, i| {
+            let addend = if constant >> i & 1 == 1 { shifted(operand, i) } else { none };
+            self.sum(&so_far, &addend, FALSE).0
+        })
+    }
+
     /// With the top bits negated, the signed order is the unsigned one.
     pub fn less(&mut self, mut a: Word, mut b: Word) -> i32 {
         a[15] = -a[15];
@@ -89,8 +104,8 @@ impl<S: Sink> Circuit<'_, S> {
     }
 
     pub fn equal(&mut self, a: &Word, b: &Word) -> i32 {
-        let mut differ = [0; 16];
-        for i in 0..16 {
+        let mut differ = [0; INTEGER_WIDTH];
+        for i in 0..INTEGER_WIDTH {
             differ[i] = self.xor(a[i], b[i]);
         }
         differ.iter().fold(TRUE, |chain, d| self.and(chain, -d))

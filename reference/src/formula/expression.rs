@@ -30,6 +30,10 @@ impl<S: Sink> Circuit<'_, S> {
                 let (a, b) = self.integers(states, a, b);
                 self.difference(&a, &b).0
             }
+            Integer::Product(c, a) => {
+                let a = self.integer(states, a);
+                self.product(*c, &a)
+            }
             Integer::NextVariable(v) => self.variable_word(states.next, *v),
             Integer::NextStatus(m) => self.status_word(states.next, *m),
         }

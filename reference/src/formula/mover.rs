@@ -16,7 +16,7 @@ impl<S: Sink> Circuit<'_, S> {
             Statement::AssignInteger(v, e) => {
                 let word = self.integer(Pair::one(&state), e);
                 let first = self.bits.variables[*v as usize];
-                state[first..first + 16].copy_from_slice(&word);
+                state[first..first + word.len()].copy_from_slice(&word);
                 state
             }
             Statement::AssignBoolean(v, e) => {

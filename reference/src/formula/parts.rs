@@ -1,11 +1,13 @@
 //! The frames and parts of a formula, and what they count to.
 
 use super::circuit::{Circuit, TRUE};
-use super::sink::{Count, Sink, Writer};
+use super::cost::{boolean, Costs, Gates};
+use super::sink::{Count, Sink, Unseen, Writer};
 use super::state::BitPlaces;
 use crate::design::{refusal, CellKind, Design, Mover, Refusal};
 use crate::pair::Pair;
 use crate::query::{Claim, Query};
+use crate::search::MAX_VARIABLE;
 
 /// What SIZE answers.
 #[derive(Clone, Copy, Debug, PartialEq, Eq)]
@@ -35,56 +37,56 @@ impl Size {
 }
 
 /// The formula of one query and bound. Every frame has the same shape, so the
-/// gates of one frame are counted once.
+/// gates of one frame are counted once. Its variables are at most
+/// `MAX_VARIABLE`, so that each has a literal.
 pub struct Formula<'a> {
     design: &'a Design,
     claim: Claim<'a>,
     bound: u64,
     bits: BitPlaces,
     movers: Vec<Mover>,
-    property_gates: u64,
-    property_count: Count,
-    step_gates: u64,
-    step_count: Count,
+    gates: FrameGates,
 }
 
-/// What the step gates of a frame come to.
-struct StepGates {
-    /// The state bits after each mover.
-    results: Vec<Vec<i32>>,
-    /// The constraint's literal, where that is the property.
-    constraint: Option<i32>,
-    gates: u64,
+/// The gates of a frame.
+#[derive(Default)]
+struct FrameGates {
+    property: Gates,
+    movers: Gates,
+    /// They stand among the step gates.
+    constraint: Gates,
+}
+
+impl FrameGates {
+    fn new(query: Query<Design>, claim: Claim, state_bits: u64, movers: &[Mover]) -> FrameGates {
+        let costs = Costs::new(query.design, state_bits);
+        let movers = movers.iter().map(|mover| costs.mover(*mover)).sum();
+        let gates = FrameGates { movers, ..FrameGates::default() };
+        match claim {
+            Claim::Invariant(e) => FrameGates { property: boolean(e), ..gates },
+            Claim::NoInvalidCell => FrameGates { property: costs.unreached(), ..gates },
+            Claim::Constraint(e) => FrameGates { constraint: boolean(e), ..gates },
+        }
+    }
+
+    fn step(&self) -> Gates {
+        self.movers + self.constraint
+    }
 }
 
 impl<'a> Formula<'a> {
-    /// 13, 14.
+    /// 13, 14, then 19 for more variables than there are literals.
     pub fn new(query: Query<'a, Design>, bound: u64) -> Result<Formula<'a>, Refusal> {
         let claim = query.check_bound(bound)?;
-        let mut formula = Formula {
-            design: query.design,
-            claim,
-            bound,
-            bits: BitPlaces::new(query.design),
-            movers: query.design.movers(),
-            property_gates: 0,
-            property_count: Count::default(),
-            step_gates: 0,
-            step_count: Count::default(),
-        };
-        formula.count_gates();
-        Ok(formula)
-    }
-
-    /// Counts the gates of frame 0. Before they are counted its literals are
-    /// not known, but their number is.
-    fn count_gates(&mut self) {
-        let mut count = Count::default();
-        self.property_gates = self.write_property(0, &mut count).1;
-        self.property_count = count;
-        let mut count = Count::default();
-        self.step_gates = self.write_step_gates(0, &mut count).gates;
-        self.step_count = count;
+        let bits = BitPlaces::new(query.design);
+        let movers = query.design.movers();
+        let gates = FrameGates::new(query, claim, bits.total as u64, &movers);
+        let formula = Formula { design: query.design, claim, bound, bits, movers, gates };
+        if formula.variables() > MAX_VARIABLE {
+            Err(refusal(19, 0))
+        } else {
+            Ok(formula)
+        }
     }
 
     fn state_bits(&self) -> u64 {
@@ -93,11 +95,16 @@ impl<'a> Formula<'a> {
 
     fn frame_length(&self) -> u64 {
         let movers = self.movers.len() as u64;
-        self.state_bits() + self.property_gates + movers + self.step_gates
+        self.state_bits() + self.gates.property.total() + movers + self.gates.step().total()
     }
 
+    /// Below 2^32 for every design and bound, so u64 holds it before 19 is
+    /// tested: at most 256 cells write an event of 255 bytes each, no byte of
+    /// an expression or action has more than 1,280 / 3 gates, and a mover's
+    /// own gates are few. That is below 35 million gates a frame.
     pub fn variables(&self) -> u64 {
-        1 + self.bound * self.frame_length() + self.state_bits() + self.property_gates
+        let last_frame = self.state_bits() + self.gates.property.total();
+        1 + self.bound * self.frame_length() + last_frame
     }
 
     pub fn last_part(&self) -> u64 {
@@ -108,9 +115,9 @@ impl<'a> Formula<'a> {
         let count = self.count();
         Size {
             state_bits: self.state_bits(),
-            property_gates: self.property_gates,
+            property_gates: self.gates.property.total(),
             movers: self.movers.len() as u64,
-            step_gates: self.step_gates,
+            step_gates: self.gates.step().total(),
             variables: self.variables(),
             clauses: count.clauses,
             words: count.words,
@@ -118,7 +125,8 @@ impl<'a> Formula<'a> {
     }
 
     fn count(&self) -> Count {
-        let frames = self.full_frame_count().times(self.bound).plus(self.property_count);
+        let last_frame = self.gates.property.count();
+        let frames = self.full_frame_count().times(self.bound).plus(last_frame);
         self.first_part_count().plus(frames).plus(self.last_part_count())
     }
 
@@ -129,7 +137,7 @@ impl<'a> Formula<'a> {
         } else if part <= self.bound {
             self.full_frame_count()
         } else if part == self.bound + 1 {
-            self.property_count
+            self.gates.property.count()
         } else {
             self.last_part_count()
         }
@@ -150,7 +158,8 @@ impl<'a> Formula<'a> {
         let ties = 2 * movers * self.state_bits();
         let flags = Count { clauses: 1 + pairs, words: movers + 1 + 3 * pairs };
         let ties = Count { clauses: ties, words: 4 * ties };
-        self.property_count.plus(flags).plus(self.step_count).plus(ties)
+        let gates = (self.gates.property + self.gates.step()).count();
+        gates.plus(flags).plus(ties)
     }
 
     /// Writes one part at the front of `words` and answers its length.
@@ -192,9 +201,10 @@ impl<'a> Formula<'a> {
                 sink.clause(&[-f, -h]);
             }
         }
-        let step = self.write_step_gates(frame, sink);
+        let results = self.write_movers(frame, sink);
+        self.write_constraint(frame, sink);
         let next = self.frame_state(frame + 1);
-        for (f, result) in flags.iter().zip(&step.results) {
+        for (f, result) in flags.iter().zip(&results) {
             write_ties(*f, result, &next, sink);
         }
     }
@@ -217,9 +227,8 @@ impl<'a> Formula<'a> {
 
     /// The property's literal in frame 0.
     fn first_literal(&self) -> i32 {
-        let unseen = &mut Count::default();
-        let state_literal = self.write_property(0, unseen).0;
-        state_literal.or(self.write_step_gates(0, unseen).constraint).unwrap_or(TRUE)
+        let state_literal = self.write_property(0, &mut Unseen);
+        state_literal.or_else(|| self.write_constraint(0, &mut Unseen)).unwrap_or(TRUE)
     }
 
     /// A literal of frame 0 in another frame; the constants have no frame.
@@ -230,37 +239,36 @@ impl<'a> Formula<'a> {
         literal + literal.signum() * (frame * self.frame_length()) as i32
     }
 
-    fn frame_start(&self, frame: u64) -> i32 {
-        (2 + frame * self.frame_length()) as i32
+    fn frame_start(&self, frame: u64) -> u32 {
+        (2 + frame * self.frame_length()) as u32
     }
 
     fn frame_state(&self, frame: u64) -> Vec<i32> {
-        let start = self.frame_start(frame);
-        (start..start + self.bits.total as i32).collect()
+        literals(self.frame_start(frame), self.bits.total)
     }
 
     /// The variable of a frame's first flag.
-    fn first_flag(&self, frame: u64) -> i32 {
-        self.frame_start(frame) + (self.state_bits() + self.property_gates) as i32
+    fn first_flag(&self, frame: u64) -> u32 {
+        self.frame_start(frame) + (self.state_bits() + self.gates.property.total()) as u32
     }
 
     fn flags(&self, frame: u64) -> Vec<i32> {
-        let first = self.first_flag(frame);
-        (first..first + self.movers.len() as i32).collect()
+        literals(self.first_flag(frame), self.movers.len())
     }
 
-    /// The property's literal in a frame, where one state decides it, and the
-    /// number of its gates there.
-    fn write_property(&self, frame: u64, sink: &mut impl Sink) -> (Option<i32>, u64) {
-        let first = self.frame_start(frame) + self.bits.total as i32;
+    fn circuit<'s, S: Sink>(&'s self, first: u32, sink: &'s mut S) -> Circuit<'s, S> {
+        Circuit { bits: &self.bits, next: first, sink }
+    }
+
+    /// The property's literal in a frame, where one state decides it.
+    fn write_property(&self, frame: u64, sink: &mut impl Sink) -> Option<i32> {
         let state = self.frame_state(frame);
-        let mut circuit = Circuit { bits: &self.bits, next: first, sink };
-        let literal = match self.claim {
+        let mut circuit = self.circuit(self.frame_start(frame) + self.bits.total as u32, sink);
+        match self.claim {
             Claim::Invariant(e) => Some(circuit.boolean(Pair::one(&state), e)),
             Claim::NoInvalidCell => Some(self.write_unreached(&mut circuit, &state)),
             Claim::Constraint(_) => None,
-        };
-        (literal, (circuit.next - first) as u64)
+        }
     }
 
     fn write_unreached<S: Sink>(&self, circuit: &mut Circuit<S>, state: &[i32]) -> i32 {
@@ -272,20 +280,27 @@ impl<'a> Formula<'a> {
         chain
     }
 
-    /// Every mover, and then the constraint over this frame and the next one.
-    fn write_step_gates(&self, frame: u64, sink: &mut impl Sink) -> StepGates {
-        let first = self.first_flag(frame) + self.movers.len() as i32;
-        let (earlier, next) = (self.frame_state(frame), self.frame_state(frame + 1));
-        let mut circuit = Circuit { bits: &self.bits, next: first, sink };
-        let results =
-            self.movers.iter().map(|mover| circuit.mover(self.design, &earlier, *mover)).collect();
-        let constraint = match self.claim {
-            Claim::Constraint(e) => {
-                Some(circuit.boolean(Pair { earlier: &earlier[..], next: &next }, e))
-            }
-            _ => None,
+    /// The variable of a frame's first step gate.
+    fn first_step_gate(&self, frame: u64) -> u32 {
+        self.first_flag(frame) + self.movers.len() as u32
+    }
+
+    /// The state bits after each mover.
+    fn write_movers(&self, frame: u64, sink: &mut impl Sink) -> Vec<Vec<i32>> {
+        let state = self.frame_state(frame);
+        let mut circuit = self.circuit(self.first_step_gate(frame), sink);
+        self.movers.iter().map(|mover| circuit.mover(self.design, &state, *mover)).collect()
+    }
+
+    /// The constraint's literal, where that is the property. Its gates follow
+    /// those of the movers and read this frame and the next one.
+    fn write_constraint(&self, frame: u64, sink: &mut impl Sink) -> Option<i32> {
+        let Claim::Constraint(e) = self.claim else {
+            return None;
         };
-        StepGates { results, constraint, gates: (circuit.next - first) as u64 }
+        let (earlier, next) = (self.frame_state(frame), self.frame_state(frame + 1));
+        let first = self.first_step_gate(frame) + self.gates.movers.total() as u32;
+        Some(self.circuit(first, sink).boolean(Pair { earlier: &earlier[..], next: &next }, e))
     }
 
     /// The mover with the one flag of each frame.
@@ -296,6 +311,11 @@ impl<'a> Formula<'a> {
         };
         (0..self.bound).map(|j| chosen(j).ok_or(refusal(18, j as usize))).collect()
     }
+}
+
+/// The literals of so many variables in a row.
+fn literals(first: u32, count: usize) -> Vec<i32> {
+    (first..first + count as u32).map(|variable| variable as i32).collect()
 }
 
 /// The index of the one 1 among zeros.

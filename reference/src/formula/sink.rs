@@ -5,18 +5,18 @@ pub trait Sink {
     fn clause(&mut self, literals: &[i32]);
 }
 
-/// A sink that only counts; words include each clause's closing 0.
-#[derive(Clone, Copy, Debug, Default, PartialEq, Eq)]
+/// A sink for gates of which only the result is wanted.
+pub struct Unseen;
+
+impl Sink for Unseen {
+    fn clause(&mut self, _: &[i32]) {}
+}
+
+/// Numbers of clauses and words; words include each clause's closing 0.
+#[derive(Clone, Copy, Debug, PartialEq, Eq)]
 pub struct Count {
     pub clauses: u64,
     pub words: u64,
-}
-
-impl Sink for Count {
-    fn clause(&mut self, literals: &[i32]) {
-        self.clauses += 1;
-        self.words += literals.len() as u64 + 1;
-    }
 }
 
 impl Count {

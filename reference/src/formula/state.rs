@@ -2,11 +2,12 @@
 
 use crate::design::{Design, Kind};
 
+pub const INTEGER_WIDTH: usize = 16;
 pub const STATUS_WIDTH: usize = 4;
 
 fn width(kind: Kind) -> usize {
     if kind == Kind::Integer {
-        16
+        INTEGER_WIDTH
     } else {
         1
     }

@@ -1,6 +1,6 @@
 //! Requests for the operations on a design.
 
-use super::files::{any_design, any_file, design_to_encode, small_design};
+use super::files::{any_design, any_file, design_to_encode, design_with_product, small_design};
 use super::near::{
     affordable_bound, budget_near, exact_tries, formula_of, length_near, property_of, MAX_TRIES,
 };
@@ -13,11 +13,13 @@ use crate::random::Random;
 use crate::step::State;
 
 /// The longest part, in words, and the most variables that a request lends.
-const MAX_PART: u64 = 40_000;
+pub const MAX_PART: u64 = 40_000;
 const MAX_VALUES: u64 = 8_000;
 /// A search over a formula is affordable below this product of its variables
 /// and words.
 const MAX_SEARCH: u64 = 4_000_000;
+/// The same for designs with a product, of which there are few.
+const MAX_PRODUCT_SEARCH: u64 = 120_000_000;
 
 pub fn check(random: &mut Random) -> String {
     format!("check {}", hex(&any_file(random)))
@@ -88,13 +90,21 @@ pub fn decode(random: &mut Random) -> String {
 }
 
 pub fn verdict(random: &mut Random) -> String {
-    let (design, file) = small_design(random);
+    let ((design, file), most) = match random.below(25) {
+        0 => (design_with_product(random), MAX_PRODUCT_SEARCH),
+        _ => (small_design(random), MAX_SEARCH),
+    };
     let property = any_property(random, &design);
-    let cheap = |n, words| n * words <= MAX_SEARCH;
+    let cheap = |n, words| n * words <= most;
     let query = taken(random, Query::new(&design, property));
     let bound = affordable_bound(query, random.pick(&[0, 1, 2, 3, 3, 4, 4]), cheap);
-    let size = formula_of(query, bound).size();
-    let exact = exact_tries(query, bound);
+    let mut size = formula_of(query, bound).size();
+    let affordable = cheap(size.variables, size.words);
+    let exact = if affordable { exact_tries(query, bound) } else { None };
+    // Too long a search: the call is refused by 16 instead.
+    if !affordable {
+        size.words /= 2;
+    }
     let budget = match exact {
         Some(tries) => budget_near(random, tries),
         None => random.between(0, MAX_TRIES as usize) as u64,
@@ -246,10 +256,12 @@ fn state_fault(random: &mut Random, design: &Design, state: &mut State) {
 }
 
 /// Values with one flag set in each frame, except for some faults. Values
-/// that are no flags may be anything.
+/// that are no flags may be anything. At bound 0, which has no flag, they may
+/// be too few.
 fn flagged_values(random: &mut Random, query: Query<Design>, bound: u64) -> Vec<u8> {
     let size = formula_of(query, bound).size();
-    let mut values: Vec<u8> = (0..size.variables).map(|_| random.word() as u8).collect();
+    let lent = size.variables.min(MAX_VALUES);
+    let mut values: Vec<u8> = (0..lent).map(|_| random.word() as u8).collect();
     let movers = size.movers as usize;
     let first = 1 + (size.state_bits + size.property_gates) as usize;
     let frame = first - 1 + movers + size.step_gates as usize;

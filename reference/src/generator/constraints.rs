@@ -56,6 +56,7 @@ fn next_integer(e: &Integer) -> Integer {
         Integer::Variable(v) => Integer::NextVariable(*v),
         Integer::Status(m) => Integer::NextStatus(*m),
         Integer::Sum(a, b) => Integer::Sum(next(a), next(b)),
+        Integer::Product(c, a) => Integer::Product(*c, next(a)),
         Integer::Difference(a, b) => Integer::Difference(next(a), next(b)),
         Integer::Constant(_) | Integer::NextVariable(_) | Integer::NextStatus(_) => e.clone(),
     }

@@ -1,6 +1,7 @@
 //! Faults in design files: in single bytes, in counts, offsets and lengths,
 //! in whole items, and in trees that are too deep.
 
+use super::products::put_near_product;
 use super::trees::{design, Plan, Trees};
 use crate::builder::{file_with_places, Places};
 use crate::design::{
@@ -9,18 +10,22 @@ use crate::design::{
 };
 use crate::random::Random;
 
-const OPERATORS: [u8; 20] = [
-    0x00, 0x01, 0x02, 0x03, 0x04, 0x05, 0x06, 0x07, 0x08, 0x0f, 0x10, 0x11, 0x12, 0x13, 0x14, 0x15,
-    0x16, 0x17, 0x20, 0x21,
+const OPERATORS: [u8; 21] = [
+    0x00, 0x01, 0x02, 0x03, 0x04, 0x05, 0x06, 0x07, 0x08, 0x09, 0x0f, 0x10, 0x11, 0x12, 0x13, 0x14,
+    0x15, 0x16, 0x17, 0x20, 0x21,
 ];
 
 /// The file of a design of this plan, with up to three faults.
 pub fn faulty_file(random: &mut Random, plan: Plan) -> Vec<u8> {
     let mut tree = design(random, plan);
-    if random.chance(20) {
+    let in_tree = random.chance(20);
+    if in_tree {
         tree_fault(random, &mut tree);
     }
     let (mut file, places) = file_with_places(&tree);
+    if !in_tree && random.chance(15) {
+        put_near_product(random, &mut file, &places);
+    }
     for _ in 0..random.between(0, 3) {
         byte_fault(random, &mut file, &places);
     }

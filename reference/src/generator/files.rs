@@ -2,6 +2,8 @@
 
 use super::constraints::breakable_constraint;
 use super::faults;
+use super::limit::large_design;
+use super::products::product_design;
 use super::trees::{
     any_plan, breakable, chain_design, crowded_plan, deep_plan, design, lengthen, tiny_plan, Plan,
 };
@@ -24,7 +26,8 @@ pub fn any_file(random: &mut Random) -> Vec<u8> {
 /// A design and its file; in some requests the file has faults.
 pub fn any_design(random: &mut Random) -> (Design, Vec<u8>) {
     if random.chance(1) {
-        let design = long_design(random);
+        let long = random.chance(50);
+        let design = if long { long_design(random) } else { large_design(random).0 };
         let file = file_bytes(&design);
         return (design, file);
     }
@@ -41,7 +44,14 @@ pub fn small_design(random: &mut Random) -> (Design, Vec<u8>) {
     (design, file)
 }
 
-/// Mostly a small design; else one with deep trees or many movers, or a known one.
+/// As `small_design`, with one product.
+pub fn design_with_product(random: &mut Random) -> (Design, Vec<u8>) {
+    let design = product_design(random);
+    let file = file_or_fault(random, &design);
+    (design, file)
+}
+
+/// Mostly a small design; else one with a product, deep trees or many movers, or a known one.
 pub fn design_to_encode(random: &mut Random) -> (Design, Vec<u8>) {
     let design = match random.below(20) {
         0 | 1 => {
@@ -53,6 +63,7 @@ pub fn design_to_encode(random: &mut Random) -> (Design, Vec<u8>) {
             accepted(random, plan)
         }
         3 => any_known(random),
+        4 | 5 => product_design(random),
         _ => return small_design(random),
     };
     let file = file_or_fault(random, &design);

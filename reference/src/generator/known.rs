@@ -1,5 +1,6 @@
 //! Requests on the known designs, and whole series of requests: every part of a formula, every kind of budget and memory.
 
+use super::calls::MAX_PART;
 use super::files::design_to_encode;
 use super::near::{exact_tries, formula_of, property_of};
 use crate::builder::file_bytes;
@@ -10,7 +11,7 @@ use crate::query::Query;
 use crate::random::Random;
 
 /// Small designs and the bounds up to which a verdict on them takes few tries.
-const VERDICTS: [(&str, u64); 13] = [
+const VERDICTS: [(&str, u64); 15] = [
     ("design-a.stm", 4),
     ("first-state.stm", 4),
     ("turnstile.stm", 4),
@@ -24,6 +25,8 @@ const VERDICTS: [(&str, u64); 13] = [
     ("moved.stm", 4),
     ("no-idle.stm", 4),
     ("crossing-turns.stm", 3),
+    ("vending.stm", 1),
+    ("minus-three.stm", 2),
 ];
 
 fn design_for_verdict(random: &mut Random) -> (Design, u64) {
@@ -34,7 +37,8 @@ fn design_for_verdict(random: &mut Random) -> (Design, u64) {
     (design, random.between(0, most as usize) as u64)
 }
 
-/// Every part of a formula, each into memory that is short by one, just suffices, and is longer.
+/// Every part of a formula, each into memory that is short by one, just suffices, and is longer; a long part into memory that is
+/// short alone.
 pub fn all_parts(random: &mut Random) -> Vec<String> {
     let (design, file) = design_to_encode(random);
     let (property, bound) = (property_of(random, &design), random.between(0, 3) as u64);
@@ -42,7 +46,9 @@ pub fn all_parts(random: &mut Random) -> Vec<String> {
     let mut requests = vec![];
     for part in 0..=formula.last_part() {
         let words = formula.part_count(part).words;
-        for length in [words.saturating_sub(1), words, words + 7] {
+        let enough = if words <= MAX_PART { vec![words, words + 7] } else { vec![] };
+        let short = words.saturating_sub(1).min(MAX_PART);
+        for length in [vec![short], enough].concat() {
             requests.push(format!("encode {} {property} {bound} {part} {length}", hex(&file)));
         }
     }

@@ -1,6 +1,7 @@
 //! Designs that CHECK accepts, or that miss only by their number of movers.
 
 use super::constraints::breakable_constraint;
+use super::products::constant;
 use crate::builder::{boolean_bytes, file_bytes};
 use crate::design::{
     Boolean, Cell, CellKind, Design, Integer, Kind, Matrix, Statement, Variable, MAX_FILE,
@@ -21,6 +22,8 @@ pub struct Plan {
     pub depth: usize,
     pub statements: usize,
     pub ifs: usize,
+    /// How often an integer operator is a product.
+    pub product_percent: usize,
     /// Whether there is a constraint, and the file so of version 2.
     pub constraint: bool,
 }
@@ -38,6 +41,7 @@ pub fn tiny_plan(random: &mut Random) -> Plan {
         depth: random.between(1, 3),
         statements: random.between(0, 2),
         ifs: random.pick(&[0, 0, 1]),
+        product_percent: random.pick(&[0, 0, 0, 0, 30]),
         constraint: random.chance(50),
     }
 }
@@ -54,6 +58,7 @@ pub fn middle_plan(random: &mut Random) -> Plan {
         depth: random.between(1, 6),
         statements: random.between(0, 4),
         ifs: random.between(0, 4),
+        product_percent: random.pick(&[0, 20, 50, 100]),
         constraint: random.chance(50),
     }
 }
@@ -71,6 +76,7 @@ pub fn wide_plan(random: &mut Random) -> Plan {
         depth: random.pick(&[1, 2, 15, 16]),
         statements: random.between(0, 4),
         ifs: random.between(0, 4),
+        product_percent: random.pick(&[0, 20, 50, 100]),
         constraint: random.chance(50),
     }
 }
@@ -88,6 +94,7 @@ pub fn deep_plan(random: &mut Random) -> Plan {
         depth: random.between(8, 16),
         statements: 2,
         ifs: 4,
+        product_percent: random.pick(&[0, 0, 10]),
         constraint: random.chance(50),
     }
 }
@@ -105,6 +112,7 @@ pub fn crowded_plan(random: &mut Random) -> Plan {
         depth: 1,
         statements: 1,
         ifs: 0,
+        product_percent: 0,
         constraint: random.chance(50),
     }
 }
@@ -134,6 +142,7 @@ pub fn design(random: &mut Random, plan: Plan) -> Design {
 fn one_design(random: &mut Random, plan: &Plan) -> Design {
     let variables = variables(random, plan);
     let mut trees = Trees::new(random, &variables, plan.matrices);
+    trees.product_percent = plan.product_percent;
     let matrices: Vec<Matrix> = (0..plan.matrices).map(|_| trees.matrix(plan)).collect();
     let externals = variables.iter().filter(|v| v.kind == Kind::External).count();
     let normal = plan.movers.saturating_sub(externals);
@@ -182,6 +191,7 @@ pub struct Trees<'a> {
     integers: Vec<u8>,
     booleans: Vec<u8>,
     matrices: usize,
+    product_percent: usize,
     /// Whether leaves may read the next state.
     next_state: bool,
 }
@@ -193,7 +203,7 @@ impl<'a> Trees<'a> {
             (0..variables.len()).filter(fits).map(|i| i as u8).collect()
         };
         let (integers, booleans) = (of(true), of(false));
-        Trees { random, integers, booleans, matrices, next_state: false }
+        Trees { random, integers, booleans, matrices, product_percent: 0, next_state: false }
     }
 
     fn matrix(&mut self, plan: &Plan) -> Matrix {
@@ -351,6 +361,9 @@ impl<'a> Trees<'a> {
     pub fn integer(&mut self, depth: usize) -> Integer {
         if depth == 1 {
             return self.integer_leaf();
+        }
+        if self.random.chance(self.product_percent) {
+            return Integer::Product(constant(self.random), Box::new(self.integer(depth - 1)));
         }
         let (a, b) = self.integers(depth);
         if self.random.chance(50) {

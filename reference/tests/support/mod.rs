@@ -61,10 +61,14 @@ pub fn says(e: &Boolean, before: &State, after: &State) -> bool {
     }
 }
 
+/// The number from -32,768 to 32,767 that differs by a multiple of 65,536.
+pub fn wrapped(n: i32) -> i32 {
+    (n + 32_768).rem_euclid(65_536) - 32_768
+}
+
 /// By remainders, where the code under test wraps.
 fn number_in(e: &Integer, before: &State, after: &State) -> i32 {
     let of = |a: &Integer| number_in(a, before, after);
-    let wrapped = |n: i32| (n + 32_768).rem_euclid(65_536) - 32_768;
     match e {
         Integer::Constant(c) => *c as i32,
         Integer::Variable(v) => before.values[*v as usize] as i32,
@@ -73,6 +77,7 @@ fn number_in(e: &Integer, before: &State, after: &State) -> i32 {
         Integer::NextStatus(m) => after.statuses[*m as usize] as i32,
         Integer::Sum(a, b) => wrapped(of(a) + of(b)),
         Integer::Difference(a, b) => wrapped(of(a) - of(b)),
+        Integer::Product(c, a) => wrapped(*c as i32 * of(a)),
     }
 }
 

@@ -113,11 +113,14 @@ fn main() {
     size("money-changer-uic1", 0, 100);
     size("wide", 1, 100);
     size("money-changer-dyn", 2, 100);
+    // At bound 71 its formula is refused by 19.
+    size("most-gates", 1, 70);
     encode("design-a", 0, 3);
     encode("design-a", 0, 100);
     encode("money-changer-uic1", 0, 21);
     encode("wide", 1, 1);
     encode("money-changer-dyn", 2, 21);
+    encode("vending", 0, 21);
     verdict("design-a", 0, 3);
     verdict("crossing", 0, 3);
     verdict("mutex", 0, 3);
@@ -125,4 +128,5 @@ fn main() {
     verdict("moved", 2, 3);
     verdict("crossing-turns", 2, 3);
     verdict("money-changer-dyn", 2, 2);
+    verdict("minus-three", 0, 3);
 }

@@ -1,26 +1,40 @@
-use Rattle.step.proofs.Gates.{gate-passed}
-use Rattle.clauses.proofs.DecodeCall.{decode-refused}
+use native.Mathlib.Omega.{arith}
+use mathlib.Core.Path.{sym, _∙_}
+use Rattle.clauses.proofs.Admissions.{admission-admitted}
+use Rattle.clauses.proofs.DecodeCall.{decode-refused, decode-passed}
 use borrow.Author.Needs.{needs}
 use Rattle.clauses.proofs.decode.decode.Statement.{statement}
 use Rattle.clauses.proofs.decode.decode.Tie as tie
 
-gate-requires : tie.Need-gate-requires
-gate-requires c κs = search needs
+admit-requires : tie.Need-admit-requires
+admit-requires c κs = search needs
+
+enum-known-number : tie.Need-enum-known-number
+enum-known-number c = c .match .keys1
+
+enum-known-s : tie.Need-enum-known-s
+enum-known-s c = c .match .keys2
+
+decode-frames-requires : tie.Need-decode-frames-requires
+decode-frames-requires c κs =
+    let at-admit = c .before .before .before .before in
+    let a = admission-admitted _ _ _ _ (sym (c .before .before .s .given .1) ∙ at-admit .admit .ensures)
+    (λ i. omega (arith, at-admit .before .before .before .shared-slice-known .given i)) in
+    (a .small .sizes, a .small .bound)
 
 returns : tie.Need-returns
-returns c = decode-refused _ _ _ _ _ _ (c .before .before .gate .ensures) (c .if1 .taken)
-
-decode-accepted-requires : tie.Need-decode-accepted-requires
-decode-accepted-requires c κs =
-    let g = gate-passed _ _ _ _ (c .before .before .before .gate .ensures) (c .before .if1 .left) in (g .accepted, g .property, g .bound)
+returns c = decode-refused _ _ _ _ _ _ _ (sym (c .before .number .given .1) ∙ c .before .before .before .admit .ensures)
 
 same-length : tie.Need-same-length
 same-length c = search needs
 
 returns-2 : tie.Need-returns-2
-returns-2 c = search needs
+returns-2 c =
+    let at-admit = c .before .before .before .before .before .before .before in
+    decode-passed _ _ _ _ _ _ (sym (c .before .before .before .before .before .s .given .1) ∙ at-admit .admit .ensures)
+    (λ i. omega (arith, at-admit .before .before .before .shared-slice-known .given i)) _ (c .before .before .decode-frames .ensures)
 
 pub decode-spec : {M : Type 1} → statement M
 decode-spec =
     tie.close
-    (tie.spec gate-requires returns decode-accepted-requires same-length returns-2)
+    (tie.spec admit-requires enum-known-number enum-known-s decode-frames-requires returns same-length returns-2)

@@ -1,27 +1,50 @@
 use native.Mathlib.Omega.{arith}
-use Rattle.step.proofs.Gates.{gate-passed}
+use mathlib.Core.Path.{sym, _∙_}
+use Rattle.clauses.proofs.Admissions.{admission-admitted}
 use Rattle.clauses.proofs.EncodeCall.{encode-refused, encode-part}
 use borrow.Author.Needs.{needs}
 use Rattle.clauses.proofs.encode.encode.Statement.{statement}
 use Rattle.clauses.proofs.encode.encode.Tie as tie
 
-gate-requires : tie.Need-gate-requires
-gate-requires c κs = search needs
+admit-requires : tie.Need-admit-requires
+admit-requires c κs = search needs
+
+enum-known-number : tie.Need-enum-known-number
+enum-known-number c = c .match .keys1
+
+enum-known-s : tie.Need-enum-known-s
+enum-known-s c = c .match .keys2
+
+add-if1 : tie.Need-add-if1
+add-if1 c =
+    let at-admit = c .before .before .before in
+    let a = admission-admitted _ _ _ _ (sym (c .before .s .given .1) ∙ at-admit .admit .ensures) (λ i. omega (
+      arith,
+      at-admit .before
+          .shared-slice-known .given i,
+    )) in
+    omega (arith, a .small .bound)
 
 returns : tie.Need-returns
-returns c = encode-refused _ _ _ _ _ _ (c .before .before .gate .ensures) (c .if1 .taken)
+returns c =
+    let at-admit = c .before .before .before .before in
+    encode-part _ _ _ _ _ _ (sym (c .before .before .s .given .1) ∙ at-admit .admit .ensures) (λ i. omega (
+      arith,
+      at-admit
+          .before .shared-slice-known .given i,
+    )) (c .if1 .taken)
 
-add-if2 : tie.Need-add-if2
-add-if2 c = omega (arith, gate-passed _ _ _ _ (c .before .before .gate .ensures) (c .if1 .left) .bound)
+encode-admitted-requires : tie.Need-encode-admitted-requires
+encode-admitted-requires c κs =
+    let at-admit = c .before .before .before .before .before in
+    let a = admission-admitted _ _ _ _ (sym (c .before .before .before .s .given .1) ∙ at-admit .admit .ensures) (λ i. omega (
+      arith,
+      at-admit .before .shared-slice-known .given i,
+    )) in
+    (a, c .before .if1 .left)
 
 returns-2 : tie.Need-returns-2
-returns-2 c =
-    let g = gate-passed _ _ _ _ (c .before .before .before .gate .ensures) (c .before .if1 .left) in
-    encode-part _ _ _ _ _ (g .accepted) (g .property) (g .bound) (c .if2 .taken)
-
-encode-accepted-requires : tie.Need-encode-accepted-requires
-encode-accepted-requires c κs =
-    let g = gate-passed _ _ _ _ (c .before .before .before .before .gate .ensures) (c .before .before .if1 .left) in (g .accepted, g .property, g .bound, c .before .if2 .left)
+returns-2 c = encode-refused _ _ _ _ _ _ _ (sym (c .before .number .given .1) ∙ c .before .before .before .admit .ensures)
 
 same-length : tie.Need-same-length
 same-length c = search needs
@@ -33,10 +56,12 @@ pub encode-spec : {M : Type 1} → statement M
 encode-spec =
     tie.close
     (tie.spec
-    gate-requires
+    admit-requires
+    enum-known-number
+    enum-known-s
+    add-if1
     returns
-    add-if2
+    encode-admitted-requires
     returns-2
-    encode-accepted-requires
     same-length
     returns-3)

@@ -1,11 +1,9 @@
 use native.Mathlib.Omega.{arith}
-use Rattle.clauses.proofs.EncodeCall.{formula-written, writable-accepted}
-use Rattle.clauses.proofs.EmitFormula.{frame-ready}
+use Rattle.clauses.proofs.EncodeCall.{writable-accepted, writable-admitted, formula-written}
+use Rattle.clauses.proofs.EmitFormula.{formula-ready}
 use borrow.Author.Needs.{needs}
 use Rattle.clauses.proofs.encode.write_formula.Statement.{statement}
 use Rattle.clauses.proofs.encode.write_formula.Tie as tie
-use Rattle.clauses.proofs.encode.write_formula.Reads as reads
-use Rattle.clauses.proofs.encode.write_formula.Lts as lts
 
 sizes-requires : tie.Need-sizes-requires
 sizes-requires c κs = (writable-accepted (c .before .pre))
@@ -23,12 +21,10 @@ put-parts-requires : tie.Need-put-parts-requires
 put-parts-requires c κs =
     let at-sizes = c .before .before .before .before .before .before .before .before in
     let at-shared-slice-known = at-sizes .before in
-    let entry = at-shared-slice-known .before in (
-      frame-ready _ _ _ (writable-accepted (entry .pre)) (λ i. omega (arith, at-shared-slice-known .shared-slice-known .given i)) (c .before .before
-          .before .before .before .before .index-events .ensures) (c .before .before .before .before .index-cells .ensures) (at-sizes .sizes .ensures
-          .0) (at-sizes .sizes .ensures .1) (c .before .before .before .shape .ensures),
-      entry .pre .bound,
-    )
+    formula-ready _ (writable-admitted (at-shared-slice-known .before .pre) (λ i. omega (arith, at-shared-slice-known .shared-slice-known .given i))
+    (at-sizes .sizes .ensures .0) (at-sizes .sizes .ensures .1))
+    (λ i. omega (arith, at-shared-slice-known .shared-slice-known .given i)) (c .before .before .before .before .before .before .index-events
+    .ensures) (c .before .before .before .before .index-cells .ensures) (c .before .before .before .shape .ensures)
 
 variables-requires : tie.Need-variables-requires
 variables-requires c κs = search needs

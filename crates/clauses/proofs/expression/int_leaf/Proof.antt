@@ -73,7 +73,7 @@ add-wide c =
     let shape = entry .args .shape in
     let at = entry .args .at in
     let (later, slots, here) = entry .pre .0 in
-    omega (arith, slot-here text file shape later at here (entry .pre .1) (c .if1 .left))
+    omega (arith, slot-here text file shape later at here (entry .pre .1) (entry .pre .2) (c .if1 .left))
 
 shared-slice-read-wide : tie.Need-shared-slice-read-wide
 shared-slice-read-wide c =
@@ -83,7 +83,7 @@ shared-slice-read-wide c =
     let shape = entry .args .shape in
     let at = entry .args .at in
     let (later, slots, here) = entry .pre .0 in
-    omega (arith, slot-here text file shape later at here (entry .pre .1) (c .before .if1 .left))
+    omega (arith, slot-here text file shape later at here (entry .pre .1) (entry .pre .2) (c .before .if1 .left))
 
 wide-requires : tie.Need-wide-requires
 wide-requires c κs = search needs
@@ -106,7 +106,7 @@ add-int-out-2 c =
     let shape = entry .args .shape in
     let at = entry .args .at in
     let (later, slots, here) = entry .pre .0 in
-    omega (arith, slot-here text file shape later at here (entry .pre .1) (c .before .before .before .before .if1 .left))
+    omega (arith, slot-here text file shape later at here (entry .pre .1) (entry .pre .2) (c .before .before .before .before .if1 .left))
 
 int-out-requires-2 : tie.Need-int-out-requires-2
 int-out-requires-2 c κs = search needs
@@ -129,7 +129,7 @@ add-int-out-3 c =
     let shape = entry .args .shape in
     let at = entry .args .at in
     let (later, slots, here) = entry .pre .0 in
-    omega (arith, slot-here text file shape later at here (entry .pre .1) (c .before .before .before .before .if1 .left))
+    omega (arith, slot-here text file shape later at here (entry .pre .1) (entry .pre .2) (c .before .before .before .before .if1 .left))
 
 int-out-requires-3 : tie.Need-int-out-requires-3
 int-out-requires-3 c κs = search needs
@@ -152,7 +152,7 @@ add-int-out-4 c =
     let shape = entry .args .shape in
     let at = entry .args .at in
     let (later, slots, here) = entry .pre .0 in
-    omega (arith, slot-here text file shape later at here (entry .pre .1) (c .before .before .before .before .if1 .left))
+    omega (arith, slot-here text file shape later at here (entry .pre .1) (entry .pre .2) (c .before .before .before .before .if1 .left))
 
 int-out-requires-4 : tie.Need-int-out-requires-4
 int-out-requires-4 c κs = search needs
@@ -165,7 +165,7 @@ load-status-requires-2 c κs =
     let shape = entry .args .shape in
     let at = entry .args .at in
     let (later, slots, here) = entry .pre .0 in
-    status-here text file shape later at here true slots _ (c .before .wide .ensures .0) (status-is text file shape later at here (entry .pre .1) (c .before .before
+    status-here text file shape later at here true slots _ (c .before .wide .ensures .0) (status-is text file shape later at here (entry .pre .1) (entry .pre .2) (c .before .before
     .before .if1 .left) (c .match .rest .0 .0 .1) (c .match .rest .0 .1) (c .match .rest .1))
 
 add-int-out-5 : tie.Need-add-int-out-5
@@ -176,7 +176,7 @@ add-int-out-5 c =
     let shape = entry .args .shape in
     let at = entry .args .at in
     let (later, slots, here) = entry .pre .0 in
-    omega (arith, slot-here text file shape later at here (entry .pre .1) (c .before .before .before .before .if1 .left))
+    omega (arith, slot-here text file shape later at here (entry .pre .1) (entry .pre .2) (c .before .before .before .before .if1 .left))
 
 int-out-requires-5 : tie.Need-int-out-requires-5
 int-out-requires-5 c κs = search needs
@@ -220,7 +220,7 @@ returns-5 c =
     let at = entry .args .at in
     let h = entry .pre .0 in
     λ later xs. int-outs _ (c .int-out5 .ensures) (status-leaf text file shape later at (entry .args .bits .now) true (c .before .before .before .wide .ensures .0) refl
-    (status-is text file shape (h .0) at (h .2) (entry .pre .1) (c .before .before .before .before .before .if1 .left) (c .before .before .match .rest .0 .0 .1) (c
+    (status-is text file shape (h .0) at (h .2) (entry .pre .1) (entry .pre .2) (c .before .before .before .before .before .if1 .left) (c .before .before .match .rest .0 .0 .1) (c
     .before .before .match .rest .0 .1) (c .before .before .match .rest .1)) (c .before .load-status2 .ensures later))
 
 pub int-leaf-spec : {M : Type 1} → statement M

@@ -2,6 +2,7 @@ use native.Mathlib.Omega.{arith}
 use Prim.Native.Nat.{_-_}
 use mathlib.Core.Path.{_≡_, refl}
 use lib.ListN.{length}
+use Rattle.clauses.proofs.FrameNumbers.{start-low}
 use Rattle.clauses.proofs.EmitParts.{Closing, closing-start, closing-on, closing-end}
 use Rattle.clauses.proofs.last.put_last.Statement.{statement}
 use Rattle.clauses.proofs.last.put_last.Tie as tie
@@ -14,11 +15,11 @@ abbrev μ-loop : tie.MeasureT-loop
 
 add-frames : tie.Need-add-frames Inv-loop μ-loop
 add-frames c =
-    let entry = c .before .before .before .before .before in
-    omega (arith, entry .pre .1 .last, entry .pre .2)
+    let small = c .before .before .before .before .before .pre .1 in
+    omega (arith, small .sizes .last, small .bound)
 
 frame-length-requires : tie.Need-frame-length-requires Inv-loop μ-loop
-frame-length-requires c κs = c .before .before .before .before .before .pre .1
+frame-length-requires c κs = c .before .before .before .before .before .pre .1 .sizes
 
 cast-stride : tie.Need-cast-stride Inv-loop μ-loop
 cast-stride c = omega (arith, c .frame-length .ensures .1)
@@ -28,14 +29,13 @@ loop-holds c = (closing-start _ _ _ _ _ _, refl)
 
 property-literal-requires : tie.Need-property-literal-requires Inv-loop μ-loop
 property-literal-requires c κs =
-    let entry = c .before .before .before .before .before .before .before .before in (
+    let at-frame-length = c .before .before in
+    let entry = at-frame-length .before .before .before .before .before .before in
+    let small = entry .pre .1 in (
       entry .pre .0,
-      omega (arith, c .before .loop .inv .0 .small, entry .pre .2, entry .pre .1 .last, c .loop-test .taken),
-      omega (
-        arith,
-        c .before .before .frame-length
-            .ensures .1,
-      ),
+      start-low small _ _ _ (omega (arith, small .sizes .last, c .loop-test .taken)) (at-frame-length .frame-length .ensures .0) (c .before .loop .inv
+          .0 .start),
+      omega (arith, at-frame-length .frame-length .ensures .1),
     )
 
 negate-requires : tie.Need-negate-requires Inv-loop μ-loop
@@ -46,21 +46,22 @@ put-literal-requires c κs = tt
 
 add-x : tie.Need-add-x Inv-loop μ-loop
 add-x c =
-    let entry = c .before .before .before .before .before .before .before .before .before .before .before .before .before in
+    let at-loop-test = c .before .before .before .before .before in
+    let at-loop = at-loop-test .before in
+    let at-frame-length = at-loop .before in
+    let small = at-frame-length .before .before .before .before .before .before .pre .1 in
     omega (
       arith,
-      c .before .before .before .before .before .before .loop .inv .0 .small,
-      c .before .before .before .before .before .before .before .frame-length .ensures
-          .1,
-      entry .pre .2,
-      entry .pre .1 .last,
-      c .before .before .before .before .before .loop-test .taken,
+      start-low small _ _ _ (omega (arith, small .sizes .last, at-loop-test .loop-test .taken)) (at-frame-length .frame-length .ensures .0) (at-loop
+          .loop .inv .0 .start),
+      at-frame-length .frame-length .ensures .1,
     )
 
 add-j : tie.Need-add-j Inv-loop μ-loop
 add-j c =
-    let entry = c .before .before .before .before .before .before .before .before .before .before .before .before .before in
-    omega (arith, entry .pre .2, entry .pre .1 .last, c .before .before .before .before .before .loop-test .taken)
+    let at-loop-test = c .before .before .before .before .before in
+    let small = at-loop-test .before .before .before .before .before .before .before .before .pre .1 in
+    omega (arith, small .sizes .last, small .bound, at-loop-test .loop-test .taken)
 
 loop-less : tie.Need-loop-less Inv-loop μ-loop
 loop-less c = omega (arith, c .before .before .before .before .before .loop-test .taken)
@@ -68,12 +69,9 @@ loop-less c = omega (arith, c .before .before .before .before .before .loop-test
 loop-again : tie.Need-loop-again Inv-loop μ-loop
 loop-again c =
     let entry = c .before .before .before .before .before .before .before .before .before .before .before .before .before in (
-      closing-on (entry .args .file .now) _ _ _ _ _ (c .before .before .before .before .before .loop-test .taken) (omega (
-        arith,
-        c .before .before .before .before .before
-            .before .before .frame-length .ensures .1,
-      )) (c .before .before .before .before .before .before .loop .inv .0) _ _ _ refl (c .before .before .before .before
-          .property-literal .ensures) (c .before .before .negate .ensures) (c .before .put-literal .ensures),
+      closing-on (entry .args .file .now) _ _ _ _ _ (c .before .before .before .before .before .loop-test .taken) (c .before .before .before .before
+          .before .before .loop .inv .0)
+          _ _ _ refl (c .before .before .before .before .property-literal .ensures) (c .before .before .negate .ensures) (c .before .put-literal .ensures),
       omega arith,
     )
 
@@ -86,9 +84,9 @@ same-length c = omega (arith, c .before .before .before .before .loop .inv .1)
 returns : tie.Need-returns Inv-loop μ-loop
 returns c =
     let at-shared-slice-known = c .before .before .before .before .before .before .before .before .before .before in
-    let entry = at-shared-slice-known .before in
-    closing-end _ _ _ _ _ _ (c .before .before .before .loop-test .left) (c .before .before .before .before .loop .inv .0) (c .before .put-end .ensures) (λ i. omega
-    (arith, at-shared-slice-known .shared-slice-known .given i)) (entry .args .inst .sizes) (entry .args .inst .bound) (c .before .before .before .before .before
+    closing-end _ _ _ _ _ _ (c .before .before .before .loop-test .left) (c .before .before .before .before .loop .inv .0) (c .before .put-end
+    .ensures) (λ i. omega
+    (arith, at-shared-slice-known .shared-slice-known .given i)) (at-shared-slice-known .before .pre .1) (c .before .before .before .before .before
     .frame-length .ensures .0) refl
 
 pub put-last-spec : {M : Type 1} → statement M

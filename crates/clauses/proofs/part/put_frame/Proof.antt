@@ -3,14 +3,16 @@ use mathlib.Core.Path.{_≡_, refl}
 use lib.ListN.{length}
 use Rattle.design.specs.Limits.{maxBits}
 use Rattle.clauses.proofs.EmitFormula.{frame-at, property-written, frame-last, frame-more}
+use Rattle.clauses.proofs.FrameNumbers.{start-low}
 use borrow.Author.Needs.{needs}
 use Rattle.clauses.proofs.part.put_frame.Statement.{statement}
 use Rattle.clauses.proofs.part.put_frame.Tie as tie
-use Rattle.clauses.proofs.part.put_frame.Reads as reads
-use Rattle.clauses.proofs.part.put_frame.Lts as lts
 
 frame-start-requires : tie.Need-frame-start-requires
-frame-start-requires c κs = search needs
+frame-start-requires c κs =
+    let entry = c .before .before .before in
+    let small = entry .pre .0 .small in
+    (small .sizes, omega (arith, entry .pre .1, small .bound), omega (arith, start-low small _ _ _ (entry .pre .1) refl refl))
 
 variables-requires : tie.Need-variables-requires
 variables-requires c κs = search needs
@@ -19,13 +21,18 @@ cast-t17 : tie.Need-cast-t17
 cast-t17 c = search needs
 
 add-t18 : tie.Need-add-t18
-add-t18 c = omega arith
+add-t18 c =
+    let entry = c .before .before .before .before .before in
+    omega (arith, start-low (entry .pre .0 .small) _ _ _ (entry .pre .1) refl (c .before .frame-start .ensures), entry .pre .0 .small .sizes .bits)
 
 encode-property-requires : tie.Need-encode-property-requires
 encode-property-requires c κs = search needs
 
 put-step-requires : tie.Need-put-step-requires
-put-step-requires c κs = search needs
+put-step-requires c κs =
+    let at-frame-start = c .before .before .before .before .before .before .before in
+    let entry = at-frame-start .before .before .before .before in
+    (entry .pre .0, start-low (entry .pre .0 .small) _ _ _ (entry .pre .1) refl (at-frame-start .frame-start .ensures))
 
 same-length : tie.Need-same-length
 same-length c = search needs
@@ -34,29 +41,16 @@ returns : tie.Need-returns
 returns c =
     λ d ok es. frame-more _ _ _ _ (property-written (c .before .before .before .before .before .before .before .before .before .before .before .before
     .before .pre .0) _ _ _ _ (c .before .before .before .before .before .before .before .before .variables .result) (c .before .before .before
-    .before .before .before .before .before .before .frame-start .ensures .0) refl (omega (
-      arith,
-      c .before .before .before .before .before
-          .before .before .before .before .before .before .before .before .pre .1,
-      c .before .before .before .before .before .before .before .before
-          .before .before .before .before .before .pre .2,
-    )) (let h : length (c .before .before .before .before .before .before .before .before
+    .before .before .before .before .before .before .frame-start .ensures) refl (c .before .before .before .before .before .before .before .before
+    .before .before .before
+    .before .before .pre .1) (let h : length (c .before .before .before .before .before .before .before .before
     .variables .result) ≡ maxBits = search needs in h) (c .before .before .before .before .before .before .before .before .variables .ensures) d
     ok es refl (c .before .before .before .before .before .encode-property .ensures)) (c .before .before .before .if1 .taken) (c .before .put-step
-    .ensures d _ ok es (omega (
-      arith,
-      c .before .before .before .before .before .before .before .before .before .before .before .before .before
-          .pre .2,
-      c .before .before .before .if1 .taken,
-    )) (frame-at (c .before .before .before .before .before .before .before .before .before .before
+    .ensures d _ ok es (c .before .before .before .if1 .taken) (frame-at (c .before .before .before .before .before .before .before .before .before .before
     .before .before .before .pre .0) _ _ _ _ (c .before .before .before .before .before .before .before .before .variables .result) (c .before
-    .before .before .before .before .before .before .before .before .frame-start .ensures .0) refl (omega (
-      arith,
-      c .before .before .before
-          .before .before .before .before .before .before .before .before .before .before .pre .1,
-      c .before .before .before .before .before .before
-          .before .before .before .before .before .before .before .pre .2,
-    )) (let h : length (c .before .before .before .before .before .before .before
+    .before .before .before .before .before .before .before .before .frame-start .ensures) refl (c .before .before .before .before .before .before
+    .before .before .before
+    .before .before .before .before .pre .1) (let h : length (c .before .before .before .before .before .before .before
     .before .variables .result) ≡ maxBits = search needs in h) (c .before .before .before .before .before .before .before .before .variables
     .ensures) d ok es))
 
@@ -66,13 +60,9 @@ same-length-2 c = search needs
 returns-2 : tie.Need-returns-2
 returns-2 c =
     λ d ok es. frame-last _ _ _ _ (property-written (c .before .before .before .before .before .before .before .before .before .before .pre .0) _ _ _ _ (c
-    .before .before .before .before .before .variables .result) (c .before .before .before .before .before .before .frame-start .ensures .0) refl
-    (omega (
-      arith,
-      c .before .before .before .before .before .before .before .before .before .before .pre .1,
-      c .before .before .before .before
-          .before .before .before .before .before .before .pre .2,
-    )) (let h : length (c .before .before .before .before .before .variables .result) ≡
+    .before .before .before .before .before .variables .result) (c .before .before .before .before .before .before .frame-start .ensures) refl
+    (c .before .before .before .before .before .before .before .before .before .before .pre .1) (let h : length (c .before .before .before .before
+    .before .variables .result) ≡
     maxBits = search needs in h) (c .before .before .before .before .before .variables .ensures) d ok es refl (c .before .before .encode-property
     .ensures)) (c .if1 .left)
 

@@ -3,8 +3,6 @@ use Rattle.clauses.proofs.EmitFormula.{first-part, frame-part, last-par
 use borrow.Author.Needs.{needs}
 use Rattle.clauses.proofs.part.put_part.Statement.{statement}
 use Rattle.clauses.proofs.part.put_part.Tie as tie
-use Rattle.clauses.proofs.part.put_part.Reads as reads
-use Rattle.clauses.proofs.part.put_part.Lts as lts
 
 put-first-requires : tie.Need-put-first-requires
 put-first-requires c κs = c .before .before .before .pre .0 .ready .shaped
@@ -14,8 +12,7 @@ same-length c = search needs
 
 returns : tie.Need-returns
 returns c =
-    λ d ok es. first-part (c .before .before .before .before .before .pre .0) _ _ _ d ok es (c .before .before .before .if1 .taken) (c .before .put-first
-    .ensures)
+    λ d ok es. first-part _ _ _ _ _ d ok es (c .before .before .before .if1 .taken) (c .before .put-first .ensures)
 
 add-if2 : tie.Need-add-if2
 add-if2 c = search needs
@@ -23,15 +20,14 @@ add-if2 c = search needs
 put-last-requires : tie.Need-put-last-requires
 put-last-requires c κs =
     let entry = c .before .before .before .before in
-    (entry .pre .0 .ready, entry .pre .0 .small, entry .pre .1)
+    (entry .pre .0 .ready, entry .pre .0 .small)
 
 same-length-2 : tie.Need-same-length-2
 same-length-2 c = search needs
 
 returns-2 : tie.Need-returns-2
 returns-2 c =
-    let entry = c .before .before .before .before .before .before in
-    λ d ok es. last-part (entry .pre .0) _ _ _ d ok es (entry .pre .1) (c .before .before .before .if2 .taken) (c .before .put-last .ensures)
+    λ d ok es. last-part _ _ _ _ _ d ok es (c .before .before .before .if2 .taken) (c .before .put-last .ensures)
 
 sub-put-frame : tie.Need-sub-put-frame
 sub-put-frame c = search needs
@@ -44,8 +40,8 @@ same-length-3 c = search needs
 
 returns-3 : tie.Need-returns-3
 returns-3 c =
-    λ d ok es. frame-part (c .before .before .before .before .before .before .pre .0) _ _ _ d ok es (c .before .before .before .before .if1 .left) (omega
-    (arith, c .before .before .before .if2 .left)) (c .before .put-frame .ensures)
+    λ d ok es. frame-part _ _ _ _ _ d ok es (c .before .before .before .before .if1 .left) (omega (arith, c .before .before .before .if2 .left)) (c
+    .before .put-frame .ensures)
 
 pub put-part-spec : {M : Type 1} → statement M
 put-part-spec =

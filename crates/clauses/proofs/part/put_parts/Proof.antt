@@ -3,8 +3,6 @@ use Prim.Native.Nat.{_+_, _-_}
 use Rattle.clauses.proofs.EmitFormula.{PartsLeft, parts-start, parts-on, parts-end}
 use Rattle.clauses.proofs.part.put_parts.Statement.{statement}
 use Rattle.clauses.proofs.part.put_parts.Tie as tie
-use Rattle.clauses.proofs.part.put_parts.Reads as reads
-use Rattle.clauses.proofs.part.put_parts.Lts as lts
 
 abbrev Inv-loop : tie.InvT-loop
 Inv-loop file events cells inst buf₀ k at₀ i₀ buf at i = PartsLeft file (inst .sizes) (inst .property) k buf₀ buf at i
@@ -16,15 +14,15 @@ loop-holds : tie.Need-loop-holds Inv-loop μ-loop
 loop-holds c = parts-start _ _ _ _ _
 
 add-loop : tie.Need-add-loop Inv-loop μ-loop
-add-loop c = omega (arith, c .before .before .pre .1)
+add-loop c = omega (arith, c .before .before .pre .small .bound)
 
 put-part-requires : tie.Need-put-part-requires Inv-loop μ-loop
 put-part-requires c κs =
     let entry = c .before .before .before .before in
-    (entry .pre .0, entry .pre .1, omega (arith, c .before .loop-test .taken))
+    (entry .pre, omega (arith, c .before .loop-test .taken))
 
 add-i : tie.Need-add-i Inv-loop μ-loop
-add-i c = omega (arith, c .before .before .before .loop-test .taken, c .before .before .before .before .before .before .pre .1)
+add-i c = omega (arith, c .before .before .before .loop-test .taken, c .before .before .before .before .before .before .pre .small .bound)
 
 loop-less : tie.Need-loop-less Inv-loop μ-loop
 loop-less c = omega arith

@@ -56,8 +56,8 @@ put-all-ties-requires : tie.Need-put-all-ties-requires
 put-all-ties-requires c κs =
     let entry = c .before .before .before .before .before .before .before .before .before .before .before .before .before .before .before .before .before .before .before
     .before .before .before .before in (
-      omega (arith, entry .pre .0 .small .movers),
-      omega (arith, entry .pre .0 .small .bits),
+      omega (arith, entry .pre .0 .small .sizes .movers),
+      omega (arith, entry .pre .0 .small .sizes .bits),
       c .before .before .before .before .before .before .before .encode-step
           .ensures .1,
     )

@@ -7,7 +7,7 @@ use lib.ListN.{getD}
 use Prim.Native.Nat.{ℕ, _<_, _+_, _-_}
 use Rattle.step.specs.Evaluation.{evalInt}
 use Rattle.step.specs.Accepted.{past, intValue}
-use Rattle.step.proofs.Values.{int-live, int-forward, int-constant, int-variable, int-status, int-unknown, integer-slot, status-slot, int-first, int-second, int-pair}
+use Rattle.step.proofs.Values.{int-live, int-forward, int-constant, int-variable, int-status, int-unknown, integer-slot, status-slot, int-first, int-second, int-pair, i-product, product-first, product-value}
 use borrow.Fn.Kinds.{In}
 use borrow.Fn.PlainCycle.{Measures, is, falls, and}
 use Rattle.step.proofs.evaluate.eval_int.Reads as eval-int
@@ -17,6 +17,7 @@ use Rattle.design.proofs.bytes.wide.Reads as wide-reads
 use Rattle.design.proofs.bytes.word.Reads as word-reads
 use Rattle.step.proofs.evaluate.arithmetic.Reads as arithmetic-reads
 use Rattle.step.proofs.evaluate.int_at.Reads as int-at-reads
+use Rattle.step.proofs.number.times16.Reads as times16-reads
 use Rattle.step.proofs.evaluate.+eval_int.{statement}
 use Rattle.step.proofs.evaluate.+eval_int.Tie.{close}
 
@@ -31,7 +32,7 @@ eval-int-below t =
     and 2 eval-int-kinds.ps (falls 2 eval-int-kinds.ps _<_ μ-eval-int t) eval-int.Pre
 
 abbrev eval-int-claims : ℕ → eval-int-lts.Claims
-eval-int-claims t = (word-reads.Asked, word-reads.Learnt, int-at-reads.Asked, int-at-reads.Learnt, wide-reads.Asked, wide-reads.Learnt, eval-int-below t, eval-int.Post, arithmetic-reads.Asked, arithmetic-reads.Learnt)
+eval-int-claims t = (word-reads.Asked, word-reads.Learnt, int-at-reads.Asked, int-at-reads.Learnt, wide-reads.Asked, wide-reads.Learnt, eval-int-below t, eval-int.Post, times16-reads.Asked, times16-reads.Learnt, arithmetic-reads.Asked, arithmetic-reads.Learnt)
 
 eval-int-shared-slice-read-op : (t : ℕ) → eval-int-lts.Need-shared-slice-read-op (eval-int-claims t) (eval-int-at t) eval-int.Post
 eval-int-shared-slice-read-op t c = omega (arith, int-live _ _ _ _ _ (c .before .before .before .pre .1 .0 .4) .inside)
@@ -257,8 +258,31 @@ eval-int-add-int-at-11 t c =
 eval-int-int-at-requires-5 : (t : ℕ) → eval-int-lts.Need-int-at-requires-5 (eval-int-claims t) (eval-int-at t) eval-int.Post
 eval-int-int-at-requires-5 t c κs = tt
 
+eval-int-add-eval-int : (t : ℕ) → eval-int-lts.Need-add-eval-int (eval-int-claims t) (eval-int-at t) eval-int.Post
+eval-int-add-eval-int t c = omega (arith, i-product _ _ _ _ _ (c .before .before .before .before .pre .1 .0 .4) (c .match .keys6) .0)
+
 eval-int-eval-int-requires : (t : ℕ) → eval-int-lts.Need-eval-int-requires (eval-int-claims t) (eval-int-at t) eval-int.Post
 eval-int-eval-int-requires t c κs =
+    let (file, depth, later, fits, h) = c .before .before .before .before .pre .1 .0 in (
+      omega (arith, int-live _ _ _ _ _ h .inside),
+      ((file, depth - 1, later, fits, product-first _ _ _ _ _ h (c .match .keys6)), omega arith),
+    )
+
+eval-int-word-requires-2 : (t : ℕ) → eval-int-lts.Need-word-requires-2 (eval-int-claims t) (eval-int-at t) eval-int.Post
+eval-int-word-requires-2 t c κs =
+    omega (arith, i-product _ _ _ _ _ (c .before .before .before .before .before .pre .1 .0 .4) (c .before .match .keys6) .0)
+
+eval-int-cast-times16 : (t : ℕ) → eval-int-lts.Need-cast-times16 (eval-int-claims t) (eval-int-at t) eval-int.Post
+eval-int-cast-times16 t c = omega (arith, c .word2 .ensures .1)
+
+eval-int-times16-requires : (t : ℕ) → eval-int-lts.Need-times16-requires (eval-int-claims t) (eval-int-at t) eval-int.Post
+eval-int-times16-requires t c κs = tt
+
+eval-int-int-at-requires-6 : (t : ℕ) → eval-int-lts.Need-int-at-requires-6 (eval-int-claims t) (eval-int-at t) eval-int.Post
+eval-int-int-at-requires-6 t c κs = tt
+
+eval-int-eval-int-requires-2 : (t : ℕ) → eval-int-lts.Need-eval-int-requires-2 (eval-int-claims t) (eval-int-at t) eval-int.Post
+eval-int-eval-int-requires-2 t c κs =
     let entry = c .before .before .before .before .before .before in (
       omega (arith, int-live _ _ _ _ _ (entry .pre .1 .0 .4) .inside),
       (
@@ -274,10 +298,10 @@ eval-int-eval-int-requires t c κs =
       ),
     )
 
-eval-int-eval-int-requires-2 : (t : ℕ) → eval-int-lts.Need-eval-int-requires-2 (eval-int-claims t) (eval-int-at t) eval-int.Post
-eval-int-eval-int-requires-2 t c κs = let (file, depth, later, fits, h) = c .before .before .before .before .before .before .before .pre .1 .0 in
+eval-int-eval-int-requires-3 : (t : ℕ) → eval-int-lts.Need-eval-int-requires-3 (eval-int-claims t) (eval-int-at t) eval-int.Post
+eval-int-eval-int-requires-3 t c κs = let (file, depth, later, fits, h) = c .before .before .before .before .before .before .before .pre .1 .0 in
     let first = int-first _ _ _ _ _ h (omega arith) (c .before .if2 .taken) in
-    let next = c .eval-int .ensures file (depth - 1) later first .1 in (
+    let next = c .eval-int2 .ensures file (depth - 1) later first .1 in (
       omega (arith, int-live _ _ _ _ _ h .inside, int-forward _ _ _ _ _ _ first next),
       ((file, depth - 1, later, fits, int-second _ _ _ _ _ h (omega arith) (c .before .if2 .taken) _ next), omega arith),
     )
@@ -285,11 +309,11 @@ eval-int-eval-int-requires-2 t c κs = let (file, depth, later, fits, h) = c .be
 eval-int-arithmetic-requires : (t : ℕ) → eval-int-lts.Need-arithmetic-requires (eval-int-claims t) (eval-int-at t) eval-int.Post
 eval-int-arithmetic-requires t c κs = tt
 
-eval-int-int-at-requires-6 : (t : ℕ) → eval-int-lts.Need-int-at-requires-6 (eval-int-claims t) (eval-int-at t) eval-int.Post
-eval-int-int-at-requires-6 t c κs = tt
-
 eval-int-int-at-requires-7 : (t : ℕ) → eval-int-lts.Need-int-at-requires-7 (eval-int-claims t) (eval-int-at t) eval-int.Post
 eval-int-int-at-requires-7 t c κs = tt
+
+eval-int-int-at-requires-8 : (t : ℕ) → eval-int-lts.Need-int-at-requires-8 (eval-int-claims t) (eval-int-at t) eval-int.Post
+eval-int-int-at-requires-8 t c κs = tt
 
 eval-int-returns : (t : ℕ) → eval-int-lts.Need-returns (eval-int-claims t) (eval-int-at t) eval-int.Post
 unfolding evalInt
@@ -349,16 +373,25 @@ eval-int-returns-5 t c =
 
 eval-int-returns-6 : (t : ℕ) → eval-int-lts.Need-returns-6 (eval-int-claims t) (eval-int-at t) eval-int.Post
 eval-int-returns-6 t c = λ file depth later h.
-    let taken = c .before .before .before .before .if2 .taken in
-    let a = c .before .before .before .eval-int .ensures file (depth - 1) later (int-first _ _ _ _ _ h (omega arith) taken) in
-    let b = c .before .before .eval-int2 .ensures file (depth - 1) later (int-second _ _ _ _ _ h (omega arith) taken _ (a .1)) in
-    let k = int-pair _ _ _ _ _ h (omega arith) taken _ _ _ _ _ _ (a .0) (a .1) (b .0) (b .1) in (
-      c .int-at6 .ensures .0 ∙ c .before .arithmetic .ensures ∙ k .0,
+    let e = c .before .before .before .before .match .keys6 in
+    let a = c .before .before .before .eval-int .ensures file (depth - 1) later (product-first _ _ _ _ _ h e) in
+    let k = product-value _ _ _ _ _ h e _ _ _ _ _ (c .before .before .word2 .ensures .0) (a .0) (a .1) in (
+      c .int-at6 .ensures .0 ∙ c .before .times16 .ensures ∙ k .0,
       c .int-at6 .ensures .1 ∙ k .1,
     )
 
 eval-int-returns-7 : (t : ℕ) → eval-int-lts.Need-returns-7 (eval-int-claims t) (eval-int-at t) eval-int.Post
-eval-int-returns-7 t c =
+eval-int-returns-7 t c = λ file depth later h.
+    let taken = c .before .before .before .before .if2 .taken in
+    let a = c .before .before .before .eval-int2 .ensures file (depth - 1) later (int-first _ _ _ _ _ h (omega arith) taken) in
+    let b = c .before .before .eval-int3 .ensures file (depth - 1) later (int-second _ _ _ _ _ h (omega arith) taken _ (a .1)) in
+    let k = int-pair _ _ _ _ _ h (omega arith) taken _ _ _ _ _ _ (a .0) (a .1) (b .0) (b .1) in (
+      c .int-at7 .ensures .0 ∙ c .before .arithmetic .ensures ∙ k .0,
+      c .int-at7 .ensures .1 ∙ k .1,
+    )
+
+eval-int-returns-8 : (t : ℕ) → eval-int-lts.Need-returns-8 (eval-int-claims t) (eval-int-at t) eval-int.Post
+eval-int-returns-8 t c =
     let entry = c .before .before .before .before .before .before in
     absurd (⊎-elim (λ w. int-unknown _ _ _ _ _ (entry .pre .1 .0 .4) (inl (w .taken))) (λ w. int-unknown _ _ _ _ _ (entry .pre .1 .0 .4) (inr (omega
     (arith, w .1 .left)))) (c .before .if1 .came))
@@ -373,6 +406,8 @@ pub +eval-int-spec : {M : Type 1} → statement M
   wide-reads.Learnt,
   eval-int-below t,
   eval-int.Post,
+  times16-reads.Asked,
+  times16-reads.Learnt,
   arithmetic-reads.Asked,
   arithmetic-reads.Learnt,
 )
@@ -414,11 +449,17 @@ pub +eval-int-spec : {M : Type 1} → statement M
     (eval-int-shared-slice-read-int-at-4 t)
     (eval-int-add-int-at-11 t)
     (eval-int-int-at-requires-5 t)
+    (eval-int-add-eval-int t)
     (eval-int-eval-int-requires t)
-    (eval-int-eval-int-requires-2 t)
-    (eval-int-arithmetic-requires t)
+    (eval-int-word-requires-2 t)
+    (eval-int-cast-times16 t)
+    (eval-int-times16-requires t)
     (eval-int-int-at-requires-6 t)
+    (eval-int-eval-int-requires-2 t)
+    (eval-int-eval-int-requires-3 t)
+    (eval-int-arithmetic-requires t)
     (eval-int-int-at-requires-7 t)
+    (eval-int-int-at-requires-8 t)
     (eval-int-returns t)
     (eval-int-returns-2 t)
     (eval-int-returns-3 t)
@@ -426,3 +467,4 @@ pub +eval-int-spec : {M : Type 1} → statement M
     (eval-int-returns-5 t)
     (eval-int-returns-6 t)
     (eval-int-returns-7 t)
+    (eval-int-returns-8 t)

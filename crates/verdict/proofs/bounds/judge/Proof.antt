@@ -6,7 +6,7 @@ use borrow.Author.Needs.{needs}
 use lib.Seq.{length-take-le}
 use Rattle.verdict.specs.Loop.{AtBound}
 use Rattle.clauses.specs.Replies.{DecodeExit}
-use Rattle.verdict.proofs.AtBound.{standing-start, bound-low, bound-room, words-in, values-in, trail-in, search-may, tries-in, kept, standing-next, standing-sat, standing-spent, standing-clean}
+use Rattle.verdict.proofs.AtBound.{standing-start, bound-low, bound-numbers, bound-room, words-in, values-in, trail-in, search-may, tries-in, kept, standing-next, standing-sat, standing-spent, standing-clean}
 use Rattle.verdict.proofs.bounds.judge.Statement.{statement}
 use Rattle.verdict.proofs.bounds.judge.Tie as tie
 use Rattle.verdict.proofs.bounds.judge.Reads as reads
@@ -32,6 +32,7 @@ write-formula-requires c κs =
       property = c .before .loop .inv .ready
           .property;
       bound = omega (arith, bound-low (c .before .loop .inv), c .before .loop .inv .ready .bound);
+      numbers = bound-numbers (c .before .loop .inv);
       room = bound-room (c .before .loop
           .inv);
     }

@@ -1,0 +1,74 @@
+-- The design with products (document 02, R-2), by computation: its numbers, what breaks its invariant, and how many models small bounds have. Each of its two products has
+-- 1,280 gates: the invariant's in every frame, the step's in every frame but the last.
+use mathlib.Core.Path.{_≡_, refl}
+use mathlib.Core.Bool.{true, false}
+use mathlib.Core.List.{[], _∷_}
+use mathlib.Core.Option.{none, some}
+use native.Mathlib.Omega.{arith}
+use lib.ListN.{length}
+use Rattle.design.specs.State.{start}
+use Rattle.design.specs.Multiplied.{designMultiplied}
+use Rattle.design.specs.WellFormed.{WellFormed}
+use Rattle.step.specs.Property.{Property, propertyOf}
+use Rattle.step.specs.OneStep.{breaksAt, breaks, stepping}
+use Rattle.step.specs.Operations.{firstBreak}
+use Rattle.step.proofs.Properties.{property-ok}
+use Rattle.clauses.specs.Formula.{S, P, w, G, F, n, formula, encoding}
+use Rattle.clauses.specs.Theorem.{Model, Exactly}
+use Rattle.clauses.proofs.Counting.{breakers, models}
+
+-- property 0
+abbrev invariantMultiplied : Property
+invariantMultiplied = propertyOf designMultiplied 0
+
+pub frame-multiplied : (S designMultiplied ≡ 20) × (P designMultiplied invariantMultiplied ≡ 1360) × (w designMultiplied ≡ 1)
+    × (G designMultiplied invariantMultiplied ≡ 1334) × (F designMultiplied invariantMultiplied ≡ 2715)
+unfolding designMultiplied encoding
+frame-multiplied = (refl, refl, refl, refl, refl)
+
+pub bound-multiplied-0 : (n designMultiplied invariantMultiplied 0 ≡ 1381) × (length (formula designMultiplied invariantMultiplied 0) ≡ 4646)
+unfolding designMultiplied encoding
+bound-multiplied-0 = (refl, refl)
+
+pub bound-multiplied-2 : (n designMultiplied invariantMultiplied 2 ≡ 6811) × (length (formula designMultiplied invariantMultiplied 2) ≡ 23076)
+unfolding designMultiplied encoding
+bound-multiplied-2 = (refl, refl)
+
+-- v is 1, 3 and 9; -20 < -3, -20 < -9, and not -20 < -27
+pub broken-multiplied : (breaksAt designMultiplied invariantMultiplied (0 ∷ 0 ∷ []) 2 ≡ true)
+    × (firstBreak designMultiplied invariantMultiplied none (start designMultiplied) (0 ∷ 0 ∷ []) 0 ≡ some 2)
+unfolding designMultiplied stepping firstBreak
+broken-multiplied = (refl, refl)
+
+pub never-multiplied : breaks designMultiplied invariantMultiplied (0 ∷ []) ≡ false
+unfolding designMultiplied stepping
+never-multiplied = refl
+
+well-formed-multiplied : WellFormed designMultiplied
+unfolding designMultiplied encoding stepping
+well-formed-multiplied = record {
+  narrow = omega arith;
+  some-mover = omega arith;
+  few-movers = omega arith;
+  movers = omega arith;
+  counts = omega arith;
+  statuses = omega arith;
+  invalid = omega arith;
+  invariant = omega arith;
+  constraint = omega arith;
+  start = omega arith;
+}
+
+breakers-1 : length (breakers designMultiplied invariantMultiplied 1) ≡ 0
+unfolding designMultiplied encoding stepping breakers
+breakers-1 = refl
+
+breakers-2 : length (breakers designMultiplied invariantMultiplied 2) ≡ 1
+unfolding designMultiplied encoding stepping breakers
+breakers-2 = refl
+
+pub models-multiplied-1 : Exactly (Model designMultiplied invariantMultiplied 1) 0
+models-multiplied-1 = models designMultiplied well-formed-multiplied invariantMultiplied (property-ok designMultiplied well-formed-multiplied 0) 1 0 breakers-1
+
+pub models-multiplied-2 : Exactly (Model designMultiplied invariantMultiplied 2) 1
+models-multiplied-2 = models designMultiplied well-formed-multiplied invariantMultiplied (property-ok designMultiplied well-formed-multiplied 0) 2 1 breakers-2
