@@ -103,10 +103,9 @@ fn the_last_part_of_the_largest_formula() {
     let design = design_of_variables(MAX_VARIABLE, bound);
     let query = Query::new(&design, NO_INVALID_CELL);
     let sizes = size(query, bound).unwrap();
-    let frame = sizes.state_bits + sizes.property_gates + sizes.movers + sizes.step_gates;
     let mut words = vec![7; bound as usize + 3];
     assert_eq!(encode(query, bound, bound + 2, &mut words), Ok(bound + 2));
-    let literal = |j: u64| -((MAX_VARIABLE - (bound - j) * frame) as i32);
+    let literal = |j: u64| -((MAX_VARIABLE - (bound - j) * sizes.frame_length()) as i32);
     let expected: Vec<i32> = (0..=bound).map(literal).chain([0, 7]).collect();
     assert_eq!(words, expected);
     assert_eq!(words[bound as usize], -i32::MAX);
@@ -120,9 +119,8 @@ fn decoding_the_largest_assignment() {
     let design = design_of_variables(MAX_VARIABLE, bound);
     let query = Query::new(&design, NO_INVALID_CELL);
     let sizes = size(query, bound).unwrap();
-    let frame = sizes.state_bits + sizes.property_gates + sizes.movers + sizes.step_gates;
-    let first = 1 + sizes.state_bits + sizes.property_gates;
-    let flag = |j: u64, mover: u64| (first + j * frame + mover) as usize;
+    let flag =
+        |j: u64, mover: u64| (sizes.first_flag() + j * sizes.frame_length() + mover) as usize;
     let mut values = vec![0; MAX_VARIABLE as usize];
     let mut choices = vec![7; bound as usize + 1];
     let chosen = |j: u64| (7 * j + 1) % sizes.movers;

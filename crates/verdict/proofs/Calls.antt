@@ -15,7 +15,7 @@ use Rattle.clauses.specs.Formula.{n, formula}
 use Rattle.clauses.specs.Limits.{lastVariable}
 use Rattle.clauses.specs.Admission.{admit}
 use Rattle.step.proofs.Gates.{need-answers}
-use Rattle.clauses.proofs.Admissions.{admit-in, admit-answers, admit-both}
+use Rattle.clauses.proofs.Admissions.{admit-in, AdmittedCall, admit-answers, admit-both}
 use Rattle.design.specs.Answer.{Answer, refused, answer, need}
 use Rattle.step.specs.Limits.{lastProperty, maxBound}
 use Rattle.clauses.specs.Size.{Sizes, sizesOf, size}
@@ -134,29 +134,22 @@ unfolding size verdict
 size-refused file p k budget lent number place h = ap (afterCall lent) (admit-both file p k _ _ number place (λ d e. absurd (let z : _≡_ {A = ℕ} 0 1 = cc in omega arith)) h)
 
 -- where SIZE answers
-pub record Sized (file : List ℕ) (p k : ℕ) (s : Sizes) : Type 0 where
-  pub design : Design
-  pub accepted : check file ≡ Checked.accepted design
-  pub property : p ≤ lastProperty file
-  pub bound : k ≤ maxBound
-  pub numbers : n design (propertyOf design p) k ≤ lastVariable
-  pub sizes : sizesOf design (propertyOf design p) k ≡ s
+abbrev pub Sized : List ℕ → ℕ → ℕ → Sizes → Type 0
+Sized file p k s = AdmittedCall file p k (λ d q. answer (sizesOf d q k)) s
 
 pub size-answers : (file : List ℕ) (p k : ℕ) (s : Sizes) → size file p k ≡ answer s → Sized file p k s
 unfolding size
-size-answers file p k s h =
-    let g = admit-answers file p k _ s h in
-    record { design = g .design; accepted = g .accepted; property = g .property; bound = g .bound; numbers = g .numbers; sizes = same-answer _ s (g .same) }
+size-answers file p k s h = admit-answers file p k _ s h
 
 -- What SIZE answers, held against the lengths lent.
 module _ {file : List ℕ} {p k : ℕ} {s : Sizes} (z : Sized file p k s) (budget : ℕ) (lent : Memory) where
   words-are : length (words (formula (z .design) (propertyOf (z .design) p) k)) ≡ s .words
   unfolding sizesOf
-  words-are = ap (λ (x : Sizes). x .words) (z .sizes)
+  words-are = ap (λ (x : Sizes). x .words) (same-answer _ s (z .same))
 
   variables-are : n (z .design) (propertyOf (z .design) p) k ≡ s .variables
   unfolding sizesOf
-  variables-are = ap (λ (x : Sizes). x .variables) (z .sizes)
+  variables-are = ap (λ (x : Sizes). x .variables) (same-answer _ s (z .same))
 
   refuses : (Room (z .design) (propertyOf (z .design) p) k lent → ⊥) → record { reply = Refused 16 0; memory = lent } ≡ exit (verdict file p k budget lent)
   refuses h = ap exit (sym (short file (z .design) (z .accepted) p k budget lent (z .property) (z .bound) (z .numbers) h))

@@ -43,14 +43,11 @@ values-hold m ss rest = record {
 
 module _ (file : List ℕ) (d : Design) (e : check file ≡ Checked.accepted d) (p : ℕ) (low : p ≤ lastProperty file) where
   -- past the other refusals DECODE looks at the flags
-  abbrev asked : ℕ → List ℕ → ℕ → Design → Property → Answer (List ℕ)
-  asked i values room d q = choicesOf d q i values room
-
   decode-past : (i : ℕ) (values cs : List ℕ) → i ≤ maxBound → n d (propertyOf d p) i ≤ lastVariable → n d (propertyOf d p) i ≤ length values → i ≤ length cs
       → decode file p i values cs ≡ written (chosenFrom d (propertyOf d p) values i 0) cs
   unfolding decode choicesOf choicesToWrite
   decode-past i values cs few numbers long room =
-      ap (λ (r : Answer (List ℕ)). written r cs) (admit-in file p i (asked i values (length cs)) d e low few numbers)
+      ap (λ (r : Answer (List ℕ)). written r cs) (admit-in file p i (λ (d : Design) (q : Property). choicesOf d q i values (length cs)) d e low few numbers)
       ∙ rw (le-leb (n d (propertyOf d p) i) (length values) long, le-leb i (length cs) room)
 
   pub decodes : (i : ℕ) → i ≤ maxBound → n d (propertyOf d p) i ≤ lastVariable → Theorem d (propertyOf d p) i → Decodes file d p i

@@ -25,10 +25,6 @@ fn largest() -> (Vec<u8>, Size) {
     (file_bytes(&design), size)
 }
 
-fn frame(size: &Size) -> u64 {
-    size.state_bits + size.property_gates + size.movers + size.step_gates
-}
-
 /// VERDICT on memory of this length each, which a refusal leaves.
 fn verdict(query: Query<[u8]>, bound: u64, length: usize) -> Answer<Verdict> {
     let (mut clauses, mut values) = (vec![7; length], vec![7; length]);
@@ -54,7 +50,7 @@ fn size_on_both_sides() {
         let one_more = file_bytes(&design_of_variables(MAX_VARIABLE + 1, bound));
         let query = Query::new(&one_more[..], NO_INVALID_CELL);
         assert_eq!(Proved.size(query, bound), refused(19));
-        assert!(matches!(Proved.size(query, bound - 1), Answer::Done(size) if size.variables + frame(&size) == MAX_VARIABLE + 1));
+        assert!(matches!(Proved.size(query, bound - 1), Answer::Done(size) if size.variables + size.frame_length() == MAX_VARIABLE + 1));
     }
 }
 
@@ -87,7 +83,7 @@ fn short_parts_of_the_largest_formula() {
         let answer = Proved.encode(Query::new(&file[..], NO_INVALID_CELL), BOUND, part, &mut words);
         assert_eq!((answer, words), (Answer::Done(count), expected.clone()), "part {part}");
         if part > 0 {
-            let literals: Vec<u64> = (0..=BOUND).map(|j| MAX_VARIABLE - (BOUND - j) * frame(&size)).collect();
+            let literals: Vec<u64> = (0..=BOUND).map(|j| MAX_VARIABLE - (BOUND - j) * size.frame_length()).collect();
             assert!(expected.iter().zip(literals).all(|(word, literal)| *word == -(literal as i32)));
         }
     }
@@ -98,9 +94,9 @@ fn short_parts_of_the_largest_formula() {
 fn decode_on_both_sides() {
     let (file, size) = largest();
     let query = Query::new(&file[..], NO_INVALID_CELL);
-    let first = 1 + size.state_bits + size.property_gates;
+    let first = size.first_flag();
     let chosen = |j: u64| (7 * j + 1) % size.movers;
-    let flag = |j: u64| (first + j * frame(&size) + chosen(j)) as usize;
+    let flag = |j: u64| (first + j * size.frame_length() + chosen(j)) as usize;
     let mut values = vec![0; MAX_VARIABLE as usize];
     let mut choices = vec![7; MAX_BOUND as usize];
     let last_frame = Refusal { number: 18, place: BOUND - 1 };

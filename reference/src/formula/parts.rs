@@ -34,6 +34,16 @@ impl Size {
             self.words,
         ]
     }
+
+    /// F, the variables of a frame.
+    pub fn frame_length(&self) -> u64 {
+        self.state_bits + self.property_gates + self.movers + self.step_gates
+    }
+
+    /// The place among the values of frame 0's first flag; variable v is at v - 1.
+    pub fn first_flag(&self) -> u64 {
+        1 + self.state_bits + self.property_gates
+    }
 }
 
 /// The formula of one query and bound. Every frame has the same shape, so the

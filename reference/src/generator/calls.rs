@@ -263,8 +263,7 @@ fn flagged_values(random: &mut Random, query: Query<Design>, bound: u64) -> Vec<
     let lent = size.variables.min(MAX_VALUES);
     let mut values: Vec<u8> = (0..lent).map(|_| random.word() as u8).collect();
     let movers = size.movers as usize;
-    let first = 1 + (size.state_bits + size.property_gates) as usize;
-    let frame = first - 1 + movers + size.step_gates as usize;
+    let (first, frame) = (size.first_flag() as usize, size.frame_length() as usize);
     for j in 0..bound as usize {
         let flags = &mut values[first + j * frame..][..movers];
         flags.fill(0);
