@@ -19,7 +19,7 @@
 #include <unistd.h>
 
 static FILE *report;
-static uint64_t seed, calls, too_many_variables;
+static uint64_t seed, calls, too_many_variables, events_read, guards_read;
 
 /* Calls by name, and how many of them were refused. */
 enum { MAX_NAMES = 16 };
@@ -485,11 +485,63 @@ static void call_holds(void)
 static size_t any_choices(uint8_t **choices)
 {
     size_t len = chance(90) ? below(9) : (size_t)PICK(50, 99, 100, 101, 102, 4096);
+    size_t movers = (size_t)PICK(3, 3, 4, 10);
     *choices = lent(CHOICES, len);
     for (size_t i = 0; i < len; i++)
-        (*choices)[i] = (uint8_t)below(chance(98) ? 3 : 256);
+        (*choices)[i] = (uint8_t)below(chance(98) ? movers : 256);
     keep(CHOICES);
     return len;
+}
+
+/* The normal cell that a choice names in the accepted design, by its bytes; NULL where the choice is an external's. */
+static const uint8_t *chosen_cell(uint8_t choice)
+{
+    const uint8_t *trailer = design + design_len - 16;
+    const uint8_t *cell = design + trailer[10] + 256u * trailer[11];
+    for (unsigned n = trailer[12] + 256u * trailer[13]; n > 0; n--) {
+        if (cell[3] == 0 && choice-- == 0)
+            return cell;
+        cell += 8u + cell[5] + cell[6] + 256u * cell[7];
+    }
+    return NULL;
+}
+
+/* REPLAY's counts beside a run over STEP. A cell's bytes tell whether its status stands. A cell that runs has had its guard read;
+ * one that stands, has no guard and does not run has a false event. */
+static void count_by_steps(const uint8_t *choices, size_t len, uint64_t events, uint64_t guards)
+{
+    int16_t values[STM_VALUES];
+    uint16_t statuses[STM_STATUSES];
+    uint64_t stood = 0, ran = 0, false_events = 0;
+    uint64_t code = stm_start(design, design_len, values, statuses);
+    require(code == 0, "replay", "takes a design that START refuses", code);
+    for (size_t i = 0; i < len; i++) {
+        const uint8_t *cell = chosen_cell(choices[i]);
+        int stands = cell && statuses[cell[0]] == cell[1];
+        uint8_t idle[1] = {7};
+        code = stm_step(design, design_len, values, statuses, choices[i], idle);
+        require(code == 0, "replay", "takes a choice that STEP refuses", code);
+        stood += stands != 0;
+        ran += stands && !idle[0];
+        false_events += stands && idle[0] && cell[5] == 0;
+    }
+    require(events == stood, "replay", "another count of events", events);
+    require(guards >= ran && guards <= stood - false_events, "replay", "another count of guards", guards);
+}
+
+/* The counts of an answered REPLAY, which are the same for every property. */
+static void check_counts(uint64_t property, const uint8_t *choices, size_t len, const uint64_t answer[REPLAY_LEN])
+{
+    uint64_t again[REPLAY_LEN] = {0}, events = answer[REPLAY_EVENTS], guards = answer[REPLAY_GUARDS];
+    require(events <= len && guards <= events, "replay", "no such counts", events);
+    uint64_t code = stm_replay(design, design_len, property == 0, choices, len, again);
+    require(code == 0, "replay", "refused for another property", code);
+    int same_counts = again[REPLAY_EVENTS] == events && again[REPLAY_GUARDS] == guards;
+    require(same_counts, "replay", "other counts for another property", events);
+    if (len < 9 || chance(20))
+        count_by_steps(choices, len, events, guards);
+    events_read += events;
+    guards_read += guards;
 }
 
 static void call_replay(void)
@@ -497,14 +549,16 @@ static void call_replay(void)
     uint64_t property = any_property();
     uint8_t *choices;
     size_t len = any_choices(&choices);
-    uint64_t *answer = lent(ANSWER, 2 * sizeof *answer);
+    uint64_t *answer = lent(ANSWER, REPLAY_LEN * sizeof *answer);
     keep(ANSWER);
     uint64_t code = stm_replay(design, design_len, property, choices, len, answer);
     ended("replay", code, SET(DESIGN) | SET(CHOICES), SET(ANSWER));
     uint64_t first = first_refusal(property, len);
     require(!first || code == first, "replay", "not the first refusal", code);
     require(first || code == 0 || (STM_NUMBER(code) == 12 && STM_PLACE(code) < len), "replay", "no such refusal", code);
-    require(code || (answer[0] <= 1 && answer[1] <= len), "replay", "no such step", answer[1]);
+    require(code || (answer[REPLAY_BROKEN] <= 1 && answer[REPLAY_STEP] <= len), "replay", "no such step", answer[REPLAY_STEP]);
+    if (code == 0)
+        check_counts(property, choices, len, answer);
 }
 
 /* SIZE, whose answer other calls use: 1 where it is not refused. */
@@ -660,12 +714,13 @@ static uint64_t affordable(uint64_t property, uint64_t bound, uint64_t sizes[SIZ
 /* The choices of a verdict break the property at its step. */
 static void break_at(uint64_t property, const uint8_t *choices, uint64_t step)
 {
-    uint64_t *answer = lent(ANSWER, 2 * sizeof *answer);
+    uint64_t *answer = lent(ANSWER, REPLAY_LEN * sizeof *answer);
     keep(ANSWER);
     keep(CHOICES);
     uint64_t code = stm_replay(design, design_len, property, choices, (size_t)step, answer);
     ended("replay", code, SET(DESIGN) | SET(CHOICES), SET(ANSWER));
-    require(code == 0 && answer[0] == 1 && answer[1] == step, "verdict", "its choices do not break at its step", answer[1]);
+    int breaks = code == 0 && answer[REPLAY_BROKEN] == 1 && answer[REPLAY_STEP] == step;
+    require(breaks, "verdict", "its choices do not break at its step", answer[REPLAY_STEP]);
 }
 
 static void call_verdict(void)
@@ -806,7 +861,7 @@ static void choose(const char *list)
     }
 }
 
-/* In so many calls some are on a formula with too many variables. */
+/* In so many calls some are on a formula with too many variables, and some choices have an event read and no guard, some both. */
 enum { MANY_CALLS = 50000 };
 
 int main(int argc, char **argv)
@@ -825,7 +880,7 @@ int main(int argc, char **argv)
     snprintf(path, sizeof path, "/tmp/stm-fuzz-%ld.stm", (long)getpid());
     if (share_count == 0)
         fault("no operation is chosen");
-    int sizes_asked = strstr(argv[3], "size") != NULL;
+    int sizes_asked = strstr(argv[3], "size") != NULL, replays_asked = strstr(argv[3], "replay") != NULL;
     while (calls < count) {
         next_design();
         for (size_t i = 0; i < 6; i++)
@@ -840,7 +895,10 @@ int main(int argc, char **argv)
         fprintf(report, "%s %" PRIu64 ", refused %" PRIu64 "; ", t->name, t->calls, t->refused);
     if (sizes_asked && calls >= MANY_CALLS && too_many_variables == 0)
         fault("no call was refused by 19");
-    fprintf(report, "\n%" PRIu64 " calls, no fault; %" PRIu64 " refused by 19\n", calls, too_many_variables);
+    if (replays_asked && calls >= MANY_CALLS && (guards_read == 0 || guards_read == events_read))
+        fault("no guard was read, or one for every event");
+    fprintf(report, "\n%" PRIu64 " calls, no fault; %" PRIu64 " refused by 19; events read %" PRIu64 ", guards read %" PRIu64 "\n",
+            calls, too_many_variables, events_read, guards_read);
     fclose(report);
     return 0;
 }

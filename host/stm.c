@@ -27,6 +27,7 @@ static const char USAGE[] =
     "       stm cnf FILE PROPERTY BOUND\n"
     "       stm verdict FILE PROPERTY BOUND [BUDGET]\n"
     "property: 0 the invariant, 1 no invalid cell is met, 2 the constraint of a design of version 2\n"
+    "replay: the run, whether it breaks the property, and how many events and guards of the chosen cells were read\n"
     "exit status: 0 clean or done, 10 violated, 20 budget spent, 2 refused or misused";
 
 static const char *meaning(unsigned number)
@@ -304,21 +305,24 @@ static int print_trace(const struct job *j)
     return 0;
 }
 
+/* What REPLAY answers, in order. */
+enum { REPLAY_BROKEN, REPLAY_STEP, REPLAY_EVENTS, REPLAY_GUARDS, REPLAY_LEN };
+
 static int replay(const struct job *j)
 {
-    uint64_t answer[2] = {0};
+    uint64_t answer[REPLAY_LEN] = {0};
     uint64_t code = stm_replay(j->design, j->len, j->property, j->choices, j->choices_len, answer);
     if (code)
         return refuse(code);
     int failed = print_trace(j);
     if (failed)
         return failed;
-    if (answer[0] == 0) {
+    if (answer[REPLAY_BROKEN])
+        printf("broken at %" PRIu64 "\n", answer[REPLAY_STEP]);
+    else
         printf("holds\n");
-        return CLEAN;
-    }
-    printf("broken at %" PRIu64 "\n", answer[1]);
-    return VIOLATED;
+    printf("events read %" PRIu64 ", guards read %" PRIu64 "\n", answer[REPLAY_EVENTS], answer[REPLAY_GUARDS]);
+    return answer[REPLAY_BROKEN] ? VIOLATED : CLEAN;
 }
 
 static int size(const struct job *j)

@@ -43,9 +43,11 @@ uint64_t stm_holds(const uint8_t *design, size_t design_len, const int16_t value
                    const uint16_t statuses[STM_STATUSES], uint64_t property, uint8_t holds[1]);
 
 /* REPLAY: 13, 14, 12. A choice is a byte. answer[0] is 1 where the choices break the property, and answer[1] the first step
- * that does; else both are 0. Property 2 breaks at step 1 or later, since step 0 has no state before it. */
+ * that does; else both are 0. Property 2 breaks at step 1 or later, since step 0 has no state before it. answer[2] is the events
+ * read: the choices of normal cells whose status stood. answer[3] is the guards read: those of them whose event was true, also
+ * where the cell has no guard. All choices count, past a break too. */
 uint64_t stm_replay(const uint8_t *design, size_t design_len, uint64_t property, const uint8_t *choices, size_t choices_len,
-                    uint64_t answer[2]);
+                    uint64_t answer[4]);
 
 /* SIZE: 13, 14, 19 where n is over STM_MAX_VARIABLES. answer is S, P, w, G, n, clauses, words. For property 2 P is 0, and its
  * gates are in G. */

@@ -1,13 +1,15 @@
 //! Known designs: Design A of document 01, the Money-Changer of source 001, and small designs of our own.
 
 mod large;
+mod long;
 mod money_changer;
 mod small;
 mod terms;
 
 pub use large::{chain, design_of_variables, most_gates, LARGE_BOUNDS};
+pub use long::long_tests;
 pub use money_changer::{money_changer, Property, Version, ALL_PROPERTIES, ORIGINAL_PROPERTIES};
-pub use small::{crossing_turns, design_a, minus_three, moved, no_idle, vending};
+pub use small::{barrier, crossing_turns, design_a, minus_three, moved, no_idle, vending};
 
 use crate::builder::file_bytes;
 
@@ -26,5 +28,6 @@ pub fn all_files() -> Vec<(String, Vec<u8>)> {
         files.push((format!("{name}.stm"), file_bytes(&design)));
     }
     files.push(("most-gates.stm".to_string(), file_bytes(&most_gates())));
+    files.push(("long-tests.stm".to_string(), file_bytes(&long_tests())));
     files
 }

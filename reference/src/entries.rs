@@ -33,7 +33,7 @@ macro_rules! entries {
             stm_replay[
                 (design: *const u8, design_len: usize, property: u64)
                 (choices: *const u8, choices_len: usize)
-                (answer: *mut [u64; 2])
+                (answer: *mut [u64; 4])
             ];
             stm_size[
                 (design: *const u8, design_len: usize, property: u64)

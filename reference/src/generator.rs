@@ -1,6 +1,7 @@
 //! A seeded stream of requests of the line protocol, good and bad ones.
 
 mod calls;
+mod choices;
 mod constraints;
 mod faults;
 mod files;

@@ -6,7 +6,7 @@ use crate::formula::{self, Size};
 use crate::programs;
 use crate::query::Query;
 use crate::search::{self, Solved};
-use crate::step::{self, State, Stepped};
+use crate::step::{self, Replayed, State, Stepped};
 use crate::verdict::{self, Lent, Verdict};
 
 /// What a call answers.
@@ -47,8 +47,7 @@ pub trait Operations {
         Answer::Missing
     }
 
-    /// The first breaking step, or none.
-    fn replay(&mut self, query: Query<[u8]>, choices: &[u8]) -> Answer<Option<u64>> {
+    fn replay(&mut self, query: Query<[u8]>, choices: &[u8]) -> Answer<Replayed> {
         Answer::Missing
     }
 
@@ -126,7 +125,7 @@ impl Operations for Reference {
         query.checked(|q| step::holds(q, state)).into()
     }
 
-    fn replay(&mut self, query: Query<[u8]>, choices: &[u8]) -> Answer<Option<u64>> {
+    fn replay(&mut self, query: Query<[u8]>, choices: &[u8]) -> Answer<Replayed> {
         query.checked(|q| step::replay(q, choices)).into()
     }
 

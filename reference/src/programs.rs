@@ -3,7 +3,7 @@
 use crate::design::{Design, Refusal};
 use crate::formula::{Formula, Sink};
 use crate::query::Query;
-use crate::step::{check_replay, holds_at, run, Stepped};
+use crate::step::{check_replay, holds_at, run, Stepped, Tests};
 
 const MAX_PART_WORDS: u64 = 16_384;
 /// One byte more than a design may have, so that a longer one is refused.
@@ -44,7 +44,7 @@ fn split_replay(input: &[u8]) -> Option<(Query<'_, [u8]>, &[u8])> {
 
 fn print_replay(query: Query<Design>, choices: &[u8]) -> Result<Vec<u8>, Refusal> {
     let claim = check_replay(query, choices)?;
-    let states = run(query.design, choices);
+    let states = run(query.design, choices, Tests::UpToFailure).states;
     let mut out = String::new();
     let mut broken = None;
     for (i, stepped) in states.iter().enumerate() {

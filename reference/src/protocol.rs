@@ -93,9 +93,9 @@ fn replay(
     choices: &str,
 ) -> Option<String> {
     let answer = operations.replay(query(&bytes(d)?, property)?, &list(choices)?);
-    finish(answer, |step| match step {
-        Some(i) => format!("ok {i}"),
-        None => "ok none".to_string(),
+    finish(answer, |replayed| {
+        let broken = replayed.broken.map_or("none".to_string(), |i| i.to_string());
+        format!("ok {broken} {} {}", replayed.events, replayed.guards)
     })
 }
 

@@ -1,5 +1,5 @@
-//! One step of document 01, with the constraint of document 02: START, STEP,
-//! HOLDS and REPLAY.
+//! One step of document 01, with the constraint and the order of tests of
+//! document 02: START, STEP, HOLDS and REPLAY.
 
 use crate::design::{
     refusal, Boolean, Cell, CellKind, Design, Integer, Kind, Mover, Refusal, Statement,
@@ -25,6 +25,37 @@ pub struct Stepped {
     pub idle: bool,
 }
 
+/// What REPLAY answers.
+#[derive(Clone, Copy, Debug, PartialEq, Eq)]
+pub struct Replayed {
+    /// The first breaking step, or none.
+    pub broken: Option<u64>,
+    /// Events read: the choices of normal cells whose status stood.
+    pub events: u64,
+    /// Guards read: those of them whose event was true.
+    pub guards: u64,
+}
+
+/// A list of choices, run from the first state, with the counts of REPLAY.
+pub struct Run {
+    /// The first state, not idle, and then the state after each choice.
+    pub states: Vec<Stepped>,
+    pub events: u64,
+    pub guards: u64,
+}
+
+/// Which tests of a chosen cell are made. What is answered is the same.
+#[derive(Clone, Copy, Debug, PartialEq, Eq)]
+pub enum Tests {
+    /// Up to the first that fails.
+    UpToFailure,
+    /// All of them, as a measure of what leaving off saves.
+    All,
+}
+
+/// The tests of a normal cell, in their order: status, event, guard.
+const TESTS: usize = 3;
+
 /// START: initial values, every status 0.
 pub fn start(design: &Design) -> State {
     let mut state = State::ZERO;
@@ -41,7 +72,7 @@ pub fn step(design: &Design, state: &State, choice: u64) -> Result<Stepped, Refu
     if choice >= movers.len() as u64 {
         return Err(refusal(12, 0));
     }
-    Ok(moved(design, state, movers[choice as usize]))
+    Ok(moved(design, state, movers[choice as usize], Tests::UpToFailure).0)
 }
 
 /// HOLDS: 11 for the state, then 13 for the property.
@@ -51,12 +82,17 @@ pub fn holds(query: Query<Design>, state: &State) -> Result<bool, Refusal> {
     Ok(claim_holds(query.design, claim, None, state))
 }
 
-/// REPLAY: the first breaking step, or none.
-pub fn replay(query: Query<Design>, choices: &[u8]) -> Result<Option<u64>, Refusal> {
+/// REPLAY: the first breaking step, or none, and the counts of the whole run.
+pub fn replay(query: Query<Design>, choices: &[u8]) -> Result<Replayed, Refusal> {
+    replay_by(query, choices, Tests::UpToFailure)
+}
+
+/// REPLAY, where these tests are made.
+pub fn replay_by(query: Query<Design>, choices: &[u8], tests: Tests) -> Result<Replayed, Refusal> {
     let claim = check_replay(query, choices)?;
-    let states = run(query.design, choices);
+    let Run { states, events, guards } = run(query.design, choices, tests);
     let broken = (0..states.len()).find(|&i| !holds_at(query.design, claim, &states, i));
-    Ok(broken.map(|i| i as u64))
+    Ok(Replayed { broken: broken.map(|i| i as u64), events, guards })
 }
 
 /// The refusals of REPLAY, in its order: 13, 14, 12.
@@ -69,15 +105,21 @@ pub fn check_replay<'a>(query: Query<'a, Design>, choices: &[u8]) -> Result<Clai
     }
 }
 
-/// The first state, not idle, and then the state after each choice.
-pub fn run(design: &Design, choices: &[u8]) -> Vec<Stepped> {
+/// Every choice has to be a mover's number.
+pub fn run(design: &Design, choices: &[u8], tests: Tests) -> Run {
     let movers = design.movers();
-    let mut states = vec![Stepped { state: start(design), idle: false }];
+    let first = Stepped { state: start(design), idle: false };
+    let mut run = Run { states: vec![first], events: 0, guards: 0 };
     for &choice in choices {
-        let last = states[states.len() - 1].state;
-        states.push(moved(design, &last, movers[choice as usize]));
+        let last = run.states[run.states.len() - 1].state;
+        let (stepped, passed) = moved(design, &last, movers[choice as usize], tests);
+        run.states.push(stepped);
+        // Its status stood.
+        run.events += (passed >= 1) as u64;
+        // Its event was true, too.
+        run.guards += (passed >= 2) as u64;
     }
-    states
+    run
 }
 
 fn check_state(design: &Design, state: &State) -> Result<(), Refusal> {
@@ -125,37 +167,60 @@ fn claim_holds(design: &Design, claim: Claim, before: Option<&State>, state: &St
     }
 }
 
+/// The cell's matrix has its status.
+pub(crate) fn has_status(state: &State, cell: &Cell) -> bool {
+    state.statuses[cell.matrix as usize] == cell.status
+}
+
+fn has_event(design: &Design, state: &State, cell: &Cell) -> bool {
+    boolean(Pair::one(state), design.event_of(cell))
+}
+
 /// The cell's matrix has its status and its event is true.
 fn at_place(design: &Design, state: &State, cell: &Cell) -> bool {
-    state.statuses[cell.matrix as usize] == cell.status
-        && boolean(Pair::one(state), design.event_of(cell))
+    has_status(state, cell) && has_event(design, state, cell)
 }
 
-fn moved(design: &Design, state: &State, mover: Mover) -> Stepped {
+/// The step, and how many tests its cell passed. An external has no tests.
+fn moved(design: &Design, state: &State, mover: Mover, tests: Tests) -> (Stepped, usize) {
     let mut next = *state;
-    let idle = match mover {
-        Mover::Cell(i) => !run_cell(design, &design.cells[i], &mut next),
+    let (idle, passed) = match mover {
+        Mover::Cell(i) => {
+            let passed = run_cell(design, &design.cells[i], &mut next, tests);
+            (passed < TESTS, passed)
+        }
         Mover::External(v) => {
-            let raised = state.values[v] == 1;
             next.values[v] = 1;
-            raised
+            (state.values[v] == 1, 0)
         }
     };
-    Stepped { state: next, idle }
+    (Stepped { state: next, idle }, passed)
 }
 
-/// Runs an enabled cell; false and no change where it is disabled.
-fn run_cell(design: &Design, cell: &Cell, state: &mut State) -> bool {
+/// Runs a cell that passes all its tests; any other changes nothing. Answers
+/// how many tests passed.
+fn run_cell(design: &Design, cell: &Cell, state: &mut State, tests: Tests) -> usize {
     let CellKind::Normal { target, guard, action } = &cell.kind else {
-        return false;
+        return 0;
     };
-    let guarded = guard.as_ref().is_none_or(|g| boolean(Pair::one(state), g));
-    if !guarded || !at_place(design, state, cell) {
-        return false;
+    let before = &*state;
+    let status = || has_status(before, cell);
+    let event = || has_event(design, before, cell);
+    let guard = || guard.as_ref().is_none_or(|g| boolean(Pair::one(before), g));
+    let passed = passed([&status, &event, &guard], tests);
+    if passed == TESTS {
+        run_list(state, action);
+        state.statuses[cell.matrix as usize] = *target;
     }
-    run_list(state, action);
-    state.statuses[cell.matrix as usize] = *target;
-    true
+    passed
+}
+
+/// How many tests pass before the first that fails.
+fn passed(in_order: [&dyn Fn() -> bool; TESTS], tests: Tests) -> usize {
+    match tests {
+        Tests::UpToFailure => in_order.iter().take_while(|test| test()).count(),
+        Tests::All => in_order.map(|test| test()).iter().take_while(|passed| **passed).count(),
+    }
 }
 
 fn run_list(state: &mut State, list: &[Statement]) {

@@ -99,8 +99,8 @@ fn replay_13_14_12() {
     assert_eq!(replay(Query::new(&design, 2), &[9; 101]), refused(13, 0));
     assert_eq!(replay(Query::new(&design, 1), &[9; 101]), refused(14, 0));
     assert_eq!(replay(Query::new(&design, 0), &[0, 3, 9]), refused(12, 1));
-    assert_eq!(replay(Query::new(&design, 0), &[0; 100]), Ok(None));
-    assert_eq!(replay(Query::new(&design, 0), &[]), Ok(None));
+    assert_eq!(replay(Query::new(&design, 0), &[0; 100]), replayed(None, 100, 0));
+    assert_eq!(replay(Query::new(&design, 0), &[]), replayed(None, 0, 0));
 }
 
 #[test]

@@ -264,7 +264,7 @@ fn which_state_each_operator_reads() {
         let design = constrained(&constraint);
         assert_eq!(
             replay(Query::new(&design, CONSTRAINT), &[2, 0, 1]),
-            Ok(step),
+            replayed(step, 2, 2),
             "{constraint:x?}"
         );
     }
@@ -275,8 +275,8 @@ fn which_state_each_operator_reads() {
 fn step_0_is_not_judged() {
     let design = constrained(&[0x10, 0]);
     let query = Query::new(&design, CONSTRAINT);
-    assert_eq!(replay(query, &[]), Ok(None));
-    assert_eq!(replay(query, &[0]), Ok(Some(1)));
+    assert_eq!(replay(query, &[]), replayed(None, 0, 0));
+    assert_eq!(replay(query, &[0]), replayed(Some(1), 1, 0));
     assert_eq!(verdict_of(&design, CONSTRAINT, 0, 0).0, clean(0));
     let found = verdict_of(&design, CONSTRAINT, 3, u64::MAX).0;
     assert_eq!(found.finding, Finding::Violated(1));
@@ -299,7 +299,8 @@ fn idle_steps_are_judged() {
         (&[1, 0, 1, 0], Some(3)),
         (&[1, 0, 0, 0], None),
     ] {
-        assert_eq!(replay(query, choices), Ok(step), "{choices:?}");
+        let found = replay(query, choices).unwrap();
+        assert_eq!(found.broken, step, "{choices:?}");
     }
     let (found, choices) = verdict_of(&design, CONSTRAINT, 2, u64::MAX);
     assert_eq!((found.finding, &choices[..1]), (Finding::Violated(1), &[0][..]));
@@ -466,7 +467,7 @@ fn replays_of_random_constraints() {
         let movers = design.movers().len();
         let choices: Vec<u8> =
             (0..random.between(0, 6)).map(|_| random.below(movers) as u8).collect();
-        let found = replay(Query::new(&design, CONSTRAINT), &choices);
+        let found = replay(Query::new(&design, CONSTRAINT), &choices).map(|r| r.broken);
         if design.constraint.is_none() {
             assert_eq!(found, refused(13, 0));
             continue;

@@ -61,8 +61,8 @@ fn written_formula_has_the_counted_size() {
 
 #[test]
 fn lists_that_break() {
-    assert_eq!(replay(Query::new(&design_a(), 0), &[2, 0, 1]), Ok(Some(3)));
-    assert_eq!(replay(Query::new(&design_a(), 0), &[0, 1, 2]), Ok(None));
+    assert_eq!(replay(Query::new(&design_a(), 0), &[2, 0, 1]), replayed(Some(3), 2, 2));
+    assert_eq!(replay(Query::new(&design_a(), 0), &[0, 1, 2]), replayed(None, 1, 0));
     assert_eq!(breaking_lists(&design_a(), 0, 3), [[2, 0, 1]]);
 }
 

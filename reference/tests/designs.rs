@@ -148,6 +148,7 @@ fn small_designs_break_where_they_should() {
         ("crossing-turns", 2, None),
         ("vending", 0, Some(2)),
         ("minus-three", 0, Some(3)),
+        ("barrier", 0, Some(2)),
     ];
     let files = all_files();
     for (name, property, step) in expected {

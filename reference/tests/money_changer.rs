@@ -97,7 +97,8 @@ fn irrational_properties_by_search() {
             let Some(values) = model else { continue };
             let mut choices = vec![0; bound as usize];
             decode(Query::new(&design, 0), bound, &values, &mut choices).unwrap();
-            assert_eq!(replay(Query::new(&design, 0), &choices), Ok(Some(step)));
+            let found = replay(Query::new(&design, 0), &choices).unwrap();
+            assert_eq!(found.broken, Some(step));
         }
         assert_eq!(tries, total);
     }

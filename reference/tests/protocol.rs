@@ -1,7 +1,7 @@
 //! The line protocol, and the generator of its requests.
 
 use reference::builder::file_bytes;
-use reference::designs::{design_a, minus_three, most_gates, moved};
+use reference::designs::{barrier, design_a, minus_three, most_gates, moved};
 use reference::generator::{all_operations, Generator};
 use reference::operations::{Operations, Reference};
 use reference::protocol::{hex, reply, serve};
@@ -25,8 +25,8 @@ fn one_reply_of_each_operation() {
     assert_eq!(with_design("start D"), format!("ok {ZEROS} {none}"));
     assert_eq!(with_design(&format!("step D {ZEROS} {none} 2")), format!("ok 1{rest} {none} 0"));
     assert_eq!(with_design(&format!("holds D {ZEROS} {none} 0")), "ok 1");
-    assert_eq!(with_design("replay D 0 2,0,1"), "ok 3");
-    assert_eq!(with_design("replay D 0 -"), "ok none");
+    assert_eq!(with_design("replay D 0 2,0,1"), "ok 3 2 2");
+    assert_eq!(with_design("replay D 0 -"), "ok none 0 0");
     assert_eq!(with_design("size D 0 3"), "ok 21 80 3 371 1527 5413 20136");
     assert_eq!(with_design("trace D 0 -"), "0 - 0 1 0 0 | 0;holds");
     assert!(with_design("encode D 0 3 5 6").starts_with("ok 5 -102,-577,-1052,-1527,0 mem "));
@@ -56,10 +56,11 @@ fn a_refusal_has_a_number_and_a_place() {
 fn the_examples_of_the_document() {
     let document = include_str!("../../docs/PROTOCOL.md");
     for (start, design, count) in [
-        ("With the file of Design A", design_a(), 7),
+        ("With the file of Design A", design_a(), 9),
         ("With the file of `designs/moved.stm`", moved(), 5),
         ("With the file of `designs/minus-three.stm`", minus_three(), 5),
         ("With the file of `designs/most-gates.stm`", most_gates(), 7),
+        ("With the file of `designs/barrier.stm`", barrier(), 4),
     ] {
         let section = document.lines().skip_while(|line| !line.starts_with(start)).skip(1);
         let rows = section.take_while(|line| !line.starts_with("With "));
@@ -80,7 +81,7 @@ fn the_examples_of_the_document() {
 #[test]
 fn leading_zeros_and_signs() {
     assert_eq!(with_design("size D 01 003"), with_design("size D 1 3"));
-    assert_eq!(with_design("replay D 0 02,000,1"), "ok 3");
+    assert_eq!(with_design("replay D 0 02,000,1"), "ok 3 2 2");
     assert_eq!(answer("solve 01 -01,-0,00 1 1 09"), answer("solve 1 -1,0,0 1 1 9"));
     let negative = ZEROS.replacen('0', "-0", 1);
     assert_eq!(with_design(&format!("holds D {negative} 0,0,0,0,0,0,0,0 0")), "ok 1");

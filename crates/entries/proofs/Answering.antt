@@ -48,7 +48,7 @@ module _ (r after : Replayed) (says : r ≡ after) (answer : List ℕ) where
   pub replay-refused : (k : ℕ) → (r .refusal .number ≡ 0 → ⊥) → k ≡ codeOf (r .refusal) → _≡_ {A = ReplayReturn} (record { code = k; answer = answer }) (replayReturn after answer)
   replay-refused k h e = refused-exit (r .refusal) _ (λ (j : ℕ). record { code = j; answer = answer }) k h e ∙ ap (λ (x : Replayed). replayReturn x answer) says
 
-  pub replay-told : (i : ℕ) → r .refusal .number ≡ 0 → i ≡ bit (r .broken) → _≡_ {A = ReplayReturn} (record { code = 0; answer = i ∷ r .step ∷ [] }) (replayReturn after answer)
+  pub replay-told : (i : ℕ) → r .refusal .number ≡ 0 → i ≡ bit (r .broken) → _≡_ {A = ReplayReturn} (record { code = 0; answer = i ∷ r .step ∷ r .events ∷ r .guards ∷ [] }) (replayReturn after answer)
   replay-told i h e =
-      ap {B = ReplayReturn} (λ (j : ℕ). record { code = 0; answer = j ∷ r .step ∷ [] }) e
+      ap {B = ReplayReturn} (λ (j : ℕ). record { code = 0; answer = j ∷ r .step ∷ r .events ∷ r .guards ∷ [] }) e
       ∙ answer-exit (r .refusal) _ (λ (j : ℕ). record { code = j; answer = answer }) h ∙ ap (λ (x : Replayed). replayReturn x answer) says

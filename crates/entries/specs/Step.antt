@@ -52,13 +52,13 @@ holdsReturn r holds = answered (r .refusal) (record { code = 0; holds = bit (r .
 unfoldable pub holdsEntry : List ℕ → List ℤ → List ℕ → ℕ → List ℕ → HoldsReturn
 holdsEntry file values statuses p holds = holdsReturn (HOLDS file values statuses p) holds
 
--- REPLAY tells 1 and the first breaking step, or 0 and 0
+-- REPLAY tells 1 and the first breaking step, or 0 and 0; then the events read and the guards read
 pub record ReplayReturn : Type 0 where
   pub code : ℕ
   pub answer : List ℕ
 
 abbrev pub replayReturn : Replayed → List ℕ → ReplayReturn
-replayReturn r answer = answered (r .refusal) (record { code = 0; answer = bit (r .broken) ∷ r .step ∷ [] }) (λ (k : ℕ). record { code = k; answer = answer })
+replayReturn r answer = answered (r .refusal) (record { code = 0; answer = bit (r .broken) ∷ r .step ∷ r .events ∷ r .guards ∷ [] }) (λ (k : ℕ). record { code = k; answer = answer })
 
 unfoldable pub replayEntry : List ℕ → ℕ → List ℕ → List ℕ → ReplayReturn
 replayEntry file p choices answer = replayReturn (REPLAY file p choices) answer

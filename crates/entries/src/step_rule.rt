@@ -88,7 +88,7 @@ pub extern "C" fn stm_replay(
     file: &[u8],
     property: u64,
     choices: &[u8],
-    answer: &mut [u64; 2],
+    answer: &mut [u64; 4],
 ) -> u64
     ensures { λ r. ⌜ record { code = r; answer = now (answer .exit) } ≡ replayEntry (now (file .entry)) property (now (choices .entry)) (now (answer .entry)) ⌝ }
 {
@@ -99,6 +99,8 @@ pub extern "C" fn stm_replay(
     }
     let broken = long_flag(told.broken);
     let at = told.step as u64;
-    *answer = [broken, at];
+    let events = told.events as u64;
+    let guards = told.guards as u64;
+    *answer = [broken, at, events, guards];
     0
 }

@@ -2,7 +2,7 @@
 use mathlib.Core.Path.{_≡_, refl, sym, ap, _∙_}
 use mathlib.Core.Bool.{Bool, true, false}
 use mathlib.Core.List.{List, [], _∷_}
-use mathlib.Core.Option.{Option, none}
+use mathlib.Core.Option.{Option}
 use Prim.Native.Nat.{ℕ, zero, suc, _<_, _≤_}
 use native.Mathlib.Omega.{arith}
 use lib.ListN.{getD, length, List·getD-map}
@@ -20,7 +20,7 @@ use Rattle.step.specs.Limits.{lastProperty, maxBound}
 use Rattle.step.specs.Property.{propertyOf}
 use Rattle.step.specs.Interface.{firstWrong}
 use Rattle.step.specs.Gate.{gateRefusal}
-use Rattle.step.specs.Operations.{allRight, firstBreak, choicesRight, replayed, REPLAY}
+use Rattle.step.specs.Operations.{allRight, runTold, choicesRight, replayed, REPLAY}
 use Rattle.step.proofs.Gates.{need-no, need-yes, in-range, gate-refuses}
 use Rattle.step.proofs.Looking.{belows, belows-length}
 
@@ -53,8 +53,8 @@ module _ (file : List ℕ) (p : ℕ) (cs : List ℕ) where
     abbrev ts : List Bool
     ts = choicesRight d cs
 
-    abbrev last : Answer (Option ℕ)
-    last = answer (firstBreak d (propertyOf d p) none (start d) cs 0)
+    abbrev last : Answer (Option ℕ × ℕ × ℕ)
+    last = answer (runTold d (propertyOf d p) (start d) cs)
 
     here : replayed (need (allRight ts) 12 (firstWrong ts) last) ≡ REPLAY file p cs
     unfolding REPLAY
@@ -71,7 +71,7 @@ module _ (file : List ℕ) (p : ℕ) (cs : List ℕ) where
         ap (λ (j : ℕ). replayed (refused 12 j)) same
         ∙ sym (ap replayed (need-no (allRight ts) 12 (firstWrong ts) last (ne-eqb (firstWrong ts) (length ts) (λ q. omega (arith, long, same))))) ∙ here
 
-    pub replay-answer : length cs ≤ over → (r : Replayed) → ((d : Design) → check file ≡ accepted d → r ≡ replayed (answer (firstBreak d (propertyOf d p) none (start d) cs 0))) → r ≡ REPLAY file p cs
+    pub replay-answer : length cs ≤ over → (r : Replayed) → ((d : Design) → check file ≡ accepted d → r ≡ replayed (answer (runTold d (propertyOf d p) (start d) cs))) → r ≡ REPLAY file p cs
     replay-answer k r f =
         f d (read file h .is)
         ∙ sym (ap replayed (need-yes (allRight ts) 12 (firstWrong ts) last (eq-eqb (firstWrong ts) (length ts) (omega (arith, wrong-most ts, long, same))))) ∙ here

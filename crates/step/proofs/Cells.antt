@@ -6,7 +6,6 @@ use Prim.Native.Nat.{ℕ, zero, suc, _+_, _*_, _<_, _≤_}
 use native.Mathlib.Omega.{arith}
 use lib.ListN.{getD, length, set}
 use lib.Dec.{eqb}
-use borrow.Author.Tests.{eq-eqb, ne-eqb}
 use Rattle.design.specs.Tree.{Stmts, Cell, Design, cell, raise, truth}
 use Rattle.design.specs.Limits.{trailerBytes, maxBytes, maxVariables, maxMatrices, maxEvents, maxDepth, maxNest}
 use Rattle.design.specs.State.{State, Layout, layoutOf}
@@ -20,9 +19,11 @@ use Rattle.design.specs.declared.shape.Shape.{Shape}
 use Rattle.design.proofs.Indexed.{cell-names, event-some, event-got, cell-is, guard-none, guard-got, action-got}
 use Rattle.design.proofs.Indexed as indexed
 use Rattle.step.specs.Evaluation.{evalBool}
-use Rattle.step.specs.OneStep.{executeAll, statusAndEvent, enabled, effect, move}
+use Rattle.step.specs.OneStep.{executeAll, statusStands, statusAndEvent, enabled, effect, move}
+use Rattle.step.specs.StatusEventGuard.{eventReadOf, guardReadOf}
 use Rattle.step.specs.Accepted.{isRead, boolValue, afterList}
-use Rattle.step.specs.Ready.{ReadyState}
+use Rattle.step.specs.Ready.{ReadyState, testedOf}
+use Rattle.step.specs.declared.mover.Tested.{Tested}
 
 module _ (file events′ : List ℕ) (h : Shape) (slots : State) (ready : ReadyState file events′ h slots) where
   abbrev E : ℕ
@@ -43,24 +44,31 @@ module _ (file events′ : List ℕ) (h : Shape) (slots : State) (ready : ReadyS
   pub kinds : 3 * h .variables ≤ length file
   kinds = indexed.kinds file (ready .indexed .accepted) h (ready .indexed .shaped)
 
+  -- r is whether a cell's event is true, and whether its status stands as well, by the file's bytes
+  abbrev pub EventIs : ℕ → Bool → Type 0
+  EventIs p r = (d : Design) (w : Parts file d) → r ≡ evalBool l slots (eventIn (w .rows) (c-matrix file p) (c-event file p))
+
+  abbrev pub BothAre : ℕ → Bool → Type 0
+  BothAre p r = (d : Design) (w : Parts file d) → r ≡ statusAndEvent l slots (c-matrix file p) (c-status file p) (eventIn (w .rows) (c-matrix file p) (c-event file p))
+
   -- a cell's status and event
-  module _ (p m s e : ℕ) (a : m ≡ c-matrix file p) (b : s ≡ c-status file p) (c : e ≡ c-event file p) where
+  pub status-read : (p m s : ℕ) → m ≡ c-matrix file p → s ≡ c-status file p → eqb (getD slots (nv + m) 0) s ≡ statusStands l slots (c-matrix file p) (c-status file p)
+  status-read p m s a b = ap₂ (λ (x y : ℕ). eqb (getD slots (nv + x) 0) y) a b
+
+  module _ (p m e : ℕ) (a : m ≡ c-matrix file p) (c : e ≡ c-event file p) where
     pub in-range : CellFields file p → (m < h .matrices) × (e < events file (matricesOffset file) m)
     in-range g = cell-names file events′ h (ready .indexed) p m e a c g
 
-    abbrev Wanted : Bool → Type 0
-    Wanted r = (d : Design) (w : Parts file d) → r ≡ statusAndEvent l slots (c-matrix file p) (c-status file p) (eventIn (w .rows) (c-matrix file p) (c-event file p))
+    pub event-read : (r : Bool) → ((d : Design) (w : Parts file d) → r ≡ evalBool l slots (eventIn (w .rows) m e)) → EventIs p r
+    event-read r k d w = k d w ∙ ap₂ (λ (x y : ℕ). evalBool l slots (eventIn (w .rows) x y)) a c
 
-    tests : eqb (getD slots (nv + m) 0) s ≡ eqb (getD slots (nv + c-matrix file p) 0) (c-status file p)
-    tests = ap₂ (λ (x y : ℕ). eqb (getD slots (nv + x) 0) y) a b
+  -- both, the event read only where the status stands
+  module _ (p : ℕ) (t : Bool) (stands : t ≡ statusStands l slots (c-matrix file p) (c-status file p)) where
+    pub other-status : t ≡ false → BothAre p false
+    other-status f d w = ap (λ (b : Bool). b && evalBool l slots (eventIn (w .rows) (c-matrix file p) (c-event file p))) (sym f ∙ stands)
 
-    pub other-status : (getD slots (nv + m) 0 ≡ s → ⊥) → Wanted false
-    other-status ne d w = ap (λ (t : Bool). t && evalBool l slots (eventIn (w .rows) (c-matrix file p) (c-event file p))) (sym (ne-eqb _ _ ne) ∙ tests)
-
-    pub same-status : getD slots (nv + m) 0 ≡ s → (r : Bool) → ((d : Design) (w : Parts file d) → r ≡ evalBool l slots (eventIn (w .rows) m e)) → Wanted r
-    same-status q r k d w =
-        k d w ∙ ap₂ (λ (x y : ℕ). evalBool l slots (eventIn (w .rows) x y)) a c
-        ∙ ap (λ (t : Bool). t && evalBool l slots (eventIn (w .rows) (c-matrix file p) (c-event file p))) (sym (eq-eqb _ _ q) ∙ tests)
+    pub same-status : t ≡ true → (r : Bool) → EventIs p r → BothAre p r
+    same-status f r k d w = k d w ∙ ap (λ (b : Bool). b && evalBool l slots (eventIn (w .rows) (c-matrix file p) (c-event file p))) (sym f ∙ stands)
 
   -- event e of matrix m
   module _ (m e : ℕ) (a : m < h .matrices) (b : e < events file (matricesOffset file) m) where
@@ -94,48 +102,50 @@ module _ (file events′ : List ℕ) (h : Shape) (slots : State) (ready : ReadyS
     abbrev c : Cell
     c = x .cell
 
-    event-same : statusAndEvent l slots (c-matrix file p) (c-status file p) (eventIn (x .parts .rows) (c-matrix file p) (c-event file p)) ≡ statusAndEvent l slots (c .matrix) (c .status) (c .event)
-    event-same =
-        ap (λ (k : ℕ). statusAndEvent l slots k (c-status file p) (eventIn (x .parts .rows) (c-matrix file p) (c-event file p))) (sym (is .matrix))
-        ∙ ap (λ (k : ℕ). statusAndEvent l slots (c .matrix) k (eventIn (x .parts .rows) (c-matrix file p) (c-event file p))) (sym (is .status))
-        ∙ ap (statusAndEvent l slots (c .matrix) (c .status)) (sym (is .event))
+    abbrev Answer : State → Tested → Type 0
+    Answer s′ r = (s′ ≡ move l slots (cell c)) × (r ≡ testedOf l slots (cell c))
 
-    abbrev SE : Bool
-    SE = statusAndEvent l slots (c .matrix) (c .status) (c .event)
-
-    abbrev G : Bool
-    G = evalBool l slots (c .guard)
-
-    -- the two tests, and what follows from them
-    abbrev pub Sees : Bool → Type 0
-    Sees r = (d : Design) (w : Parts file d) → r ≡ statusAndEvent l slots (c-matrix file p) (c-status file p) (eventIn (w .rows) (c-matrix file p) (c-event file p))
-
-    sees : (r : Bool) → Sees r → r ≡ SE
-    sees r k = k (x .tree) (x .parts) ∙ event-same
-
-    abbrev Answer : State → Bool → Type 0
-    Answer s′ r = (s′ ≡ move l slots (cell c)) × (r ≡ not (enabled l slots (cell c)))
-
-    idle-answer : enabled l slots (cell c) ≡ false → Answer slots true
-    unfolding move
-    idle-answer e = (ap (λ (t : Bool). cond t (effect l slots (cell c)) slots) (sym e), ap not (sym e))
-
-    pub idle-event : (r : Bool) → Sees r → r ≡ false → Answer slots true
-    unfolding enabled
-    idle-event r k e = idle-answer (ap (λ (t : Bool). t && G) (sym (sees r k) ∙ e))
-
-    pub idle-guard : (r g : Bool) → Sees r → r ≡ true → g ≡ G → g ≡ false → Answer slots true
-    unfolding enabled
-    idle-guard r g k e j q = idle-answer (ap (λ (t : Bool). t && G) (sym (sees r k) ∙ e) ∙ sym j ∙ q)
-
-    pub moved-cell : (r g : Bool) → Sees r → r ≡ true → g ≡ G → g ≡ true → (m n : ℕ) → m ≡ c-middle file p → n ≡ c-past file p → (s : State) → s ≡ afterList l (list file N n maxNest m) slots → (i v : ℕ) → i ≡ c-matrix file p → v ≡ c-target file p → Answer (set s (nv + i) v) false
-    unfolding enabled move effect
-    moved-cell r g k e j q m n a b s u i v y z =
-        let on : enabled l slots (cell c) ≡ true = ap (λ (t : Bool). t && G) (sym (sees r k) ∙ e) ∙ sym j ∙ q in
-        let ran : s ≡ executeAll (c .action) l slots = u ∙ ap (λ (t : Read Stmts). afterList l t slots) (action-got file events′ h (ready .indexed) p x m n a b) in (
-          ap (λ (t : State). set t (nv + i) v) ran ∙ ap₂ (λ (k : ℕ) (t : ℕ). set (executeAll (c .action) l slots) (nv + k) t) (y ∙ sym (is .matrix)) (z ∙ sym (is .target)) ∙ ap (λ (t : Bool). cond t (effect l slots (cell c)) slots) (sym on),
-          ap not (sym on),
+    -- what the three tests say is what comes of testing the cell
+    tested : (t e g : Bool) → t ≡ statusStands l slots (c .matrix) (c .status) → e ≡ evalBool l slots (c .event) → g ≡ evalBool l slots (c .guard)
+        → (s′ : State) → s′ ≡ cond ((t && e) && g) (effect l slots (cell c)) slots → Answer s′ (record { event = t; guard = t && e; idle = not ((t && e) && g) })
+    unfolding enabled move eventReadOf guardReadOf
+    tested t e g i j k s′ q =
+        let both : t && e ≡ statusAndEvent l slots (c .matrix) (c .status) (c .event) = ap₂ (λ (x y : Bool). x && y) i j in
+        let all : (t && e) && g ≡ enabled l slots (cell c) = ap₂ (λ (x y : Bool). x && y) both k in (
+          q ∙ ap (λ (b : Bool). cond b (effect l slots (cell c)) slots) all,
+          ap (λ (b : Bool). record { event = b; guard = t && e; idle = not ((t && e) && g) }) i
+              ∙ ap₂ (λ (x y : Bool). record { event = statusStands l slots (c .matrix) (c .status); guard = x; idle = not y }) both all,
         )
+
+    -- the status and the event that the cell has in the tree
+    module _ (t : Bool) (k : t ≡ statusStands l slots (c-matrix file p) (c-status file p)) where
+      stands : (b : Bool) → t ≡ b → b ≡ statusStands l slots (c .matrix) (c .status)
+      stands b e = sym e ∙ k ∙ ap₂ (λ (x y : ℕ). statusStands l slots x y) (sym (is .matrix)) (sym (is .status))
+
+      pub status-fails : t ≡ false → Answer slots (record { event = false; guard = false; idle = true })
+      status-fails f = tested false _ _ (stands false f) refl refl slots refl
+
+      module _ (f : t ≡ true) (e : Bool) (j : EventIs p e) where
+        happens : (b : Bool) → e ≡ b → b ≡ evalBool l slots (c .event)
+        happens b q = sym q ∙ j (x .tree) (x .parts) ∙ ap (evalBool l slots) (sym (is .event))
+
+        pub event-fails : e ≡ false → Answer slots (record { event = true; guard = false; idle = true })
+        event-fails q = tested true false _ (stands true f) (happens false q) refl slots refl
+
+        module _ (q : e ≡ true) (g : Bool) (y : g ≡ evalBool l slots (c .guard)) where
+          pub guard-fails : g ≡ false → Answer slots (record { event = true; guard = true; idle = true })
+          guard-fails z = tested true true false (stands true f) (happens true q) (sym z ∙ y) slots refl
+
+          pub cell-moves : g ≡ true → (s′ : State) → s′ ≡ effect l slots (cell c) → Answer s′ (record { event = true; guard = true; idle = false })
+          cell-moves z s′ u = tested true true true (stands true f) (happens true q) (sym z ∙ y) s′ u
+
+    pub acted : (m n : ℕ) → m ≡ c-middle file p → n ≡ c-past file p → (s : State) → s ≡ afterList l (list file N n maxNest m) slots
+        → (i v : ℕ) → i ≡ c-matrix file p → v ≡ c-target file p → set s (nv + i) v ≡ effect l slots (cell c)
+    unfolding effect
+    acted m n a b s u i v y z =
+        let ran : s ≡ executeAll (c .action) l slots = u ∙ ap (λ (t : Read Stmts). afterList l t slots) (action-got file events′ h (ready .indexed) p x m n a b) in
+        ap (λ (t : State). set t (nv + i) v) ran
+        ∙ ap₂ (λ (k : ℕ) (t : ℕ). set (executeAll (c .action) l slots) (nv + k) t) (y ∙ sym (is .matrix)) (z ∙ sym (is .target))
 
 -- an external
 nonzero : (n : ℕ) → 0 < n → truth n ≡ true
@@ -146,11 +156,14 @@ nothing : (n : ℕ) → n ≤ 0 → truth n ≡ false
 nothing zero h = refl
 nothing (suc n) h = absurd (omega arith)
 
-module _ (y : Layout) (s : State) (v : ℕ) where
-  pub raised-idle : 0 < getD s v 0 → (s ≡ move y s (raise v)) × (true ≡ not (enabled y s (raise v)))
-  unfolding move enabled
-  raised-idle h = let e = nonzero (getD s v 0) h in (ap (λ (t : Bool). cond (not t) (effect y s (raise v)) s) (sym e), ap (λ (t : Bool). not (not t)) (sym e))
+abbrev external : Bool → Tested
+external idle = record { event = false; guard = false; idle = idle }
 
-  pub raised : getD s v 0 ≤ 0 → (set s v 1 ≡ move y s (raise v)) × (false ≡ not (enabled y s (raise v)))
-  unfolding move enabled effect
-  raised h = let e = nothing (getD s v 0) h in (ap (λ (t : Bool). cond (not t) (set s v 1) s) (sym e), ap (λ (t : Bool). not (not t)) (sym e))
+module _ (y : Layout) (s : State) (v : ℕ) where
+  pub raised-idle : 0 < getD s v 0 → (s ≡ move y s (raise v)) × (external true ≡ testedOf y s (raise v))
+  unfolding move enabled eventReadOf guardReadOf
+  raised-idle h = let e = nonzero (getD s v 0) h in (ap (λ (t : Bool). cond (not t) (effect y s (raise v)) s) (sym e), ap (λ (t : Bool). external (not (not t))) (sym e))
+
+  pub raised : getD s v 0 ≤ 0 → (set s v 1 ≡ move y s (raise v)) × (external false ≡ testedOf y s (raise v))
+  unfolding move enabled effect eventReadOf guardReadOf
+  raised h = let e = nothing (getD s v 0) h in (ap (λ (t : Bool). cond (not t) (set s v 1) s) (sym e), ap (λ (t : Bool). external (not (not t))) (sym e))

@@ -1,8 +1,8 @@
 -- What the mover that a choice names does is the step. Assumes nothing.
 use mathlib.Core.Path.{_≡_, sym, ap, subst, _∙_}
-use mathlib.Core.Bool.{Bool, not, false}
+use mathlib.Core.Bool.{false}
 use mathlib.Core.List.{List}
-use mathlib.Core.Option.{some}
+use mathlib.Core.Option.{Option, some}
 use Prim.Native.Nat.{ℕ, _+_, _-_, _<_, _≤_}
 use native.Mathlib.Omega.{arith}
 use lib.ListN.{getD, length, getElem?}
@@ -16,7 +16,10 @@ use Rattle.design.specs.Sections.{Parts, Standing, NormalCell}
 use Rattle.design.proofs.Sections.{whole}
 use Rattle.design.proofs.Places.{read, normal-stands, cell-fields}
 use Rattle.design.proofs.Tables.{few-normals}
-use Rattle.step.specs.OneStep.{enabled, move, moved, idles, step, idle}
+use Rattle.step.specs.OneStep.{move, moved, idles, step, idle}
+use Rattle.step.specs.StatusEventGuard.{eventReadOf, guardReadOf, ofNamed, eventReadBy, guardReadBy}
+use Rattle.step.specs.Ready.{testedOf, testedBy}
+use Rattle.step.specs.declared.mover.Tested.{Tested}
 use Rattle.design.specs.declared.shape.Shape.{Shape}
 use Rattle.design.proofs.Externals.{cell-mover, raise-mover}
 use Rattle.step.proofs.Scanning.{same-layout}
@@ -57,25 +60,29 @@ module _ (file cells : List ℕ) (normals : ℕ) (h : CellsIndexed file cells no
 pub movers-here : (file cells : List ℕ) (normals : ℕ) (h : Shape) → Measured file normals h → CellsIndexed file cells normals → MoversIndexed file cells h
 movers-here file cells normals h m c = record { normals = subst (CellsIndexed file cells) (sym (m .normals)) c; externals = m .externals }
 
-module _ (file : List ℕ) (h : Shape) (q : Shaped file h) (s s′ : State) (r : Bool) (d : Design) (e : check file ≡ accepted d) where
+module _ (file : List ℕ) (h : Shape) (q : Shaped file h) (s s′ : State) (r : Tested) (d : Design) (e : check file ≡ accepted d) where
   w : Parts file d
   w = whole file d e .parts
 
-  made : (c : ℕ) (m : Mover) → getElem? (movers d) c ≡ some m → (s′ ≡ move (layoutOf h) s m) × (r ≡ not (enabled (layoutOf h) s m)) → (s′ ≡ step d s c) × (r ≡ idle d s c)
-  unfolding step idle
+  -- of the mover that a choice names, if it names one
+  abbrev tested : Option Mover → Tested
+  tested o = record { event = ofNamed (eventReadOf (layout d) s) o; guard = ofNamed (guardReadOf (layout d) s) o; idle = idles (layout d) s o }
+
+  made : (c : ℕ) (m : Mover) → getElem? (movers d) c ≡ some m → (s′ ≡ move (layoutOf h) s m) × (r ≡ testedOf (layoutOf h) s m) → (s′ ≡ step d s c) × (r ≡ testedBy d s c)
+  unfolding step idle eventReadBy guardReadBy
   made c m g k =
       let y = same-layout file d w h q in (
         k .0 ∙ ap (λ (z : Layout). move z s m) y ∙ sym (ap (moved (layout d) s) g),
-        k .1 ∙ ap (λ (z : Layout). not (enabled z s m)) y ∙ sym (ap (idles (layout d) s) g),
+        k .1 ∙ ap (λ (z : Layout). testedOf z s m) y ∙ sym (ap tested g),
       )
 
   pub step-cell : (cells : List ℕ) → MoversIndexed file cells h → (c : ℕ) → c < h .normals
-      → ((x : NormalCell file (getD cells c 0)) → (s′ ≡ move (layoutOf h) s (cell (x .cell))) × (r ≡ not (enabled (layoutOf h) s (cell (x .cell))))) → (s′ ≡ step d s c) × (r ≡ idle d s c)
+      → ((x : NormalCell file (getD cells c 0)) → (s′ ≡ move (layoutOf h) s (cell (x .cell))) × (r ≡ testedOf (layoutOf h) s (cell (x .cell)))) → (s′ ≡ step d s c) × (r ≡ testedBy d s c)
   unfolding named
   step-cell cells m c l k = made c (cell (getD (d .cells) c no-cell)) (cell-mover file d w c (omega (arith, m .normals .count)) no-cell) (k (named file cells (h .normals) (m .normals) c l d w))
 
   pub step-external : (cells : List ℕ) → MoversIndexed file cells h → (c v : ℕ) → h .normals ≤ c → c < h .normals + h .externals → v ≡ getD (externalsFrom file 0 (h .variables)) (c - h .normals) 0
-      → (s′ ≡ move (layoutOf h) s (raise v)) × (r ≡ not (enabled (layoutOf h) s (raise v))) → (s′ ≡ step d s c) × (r ≡ idle d s c)
+      → (s′ ≡ move (layoutOf h) s (raise v)) × (r ≡ testedOf (layoutOf h) s (raise v)) → (s′ ≡ step d s c) × (r ≡ testedBy d s c)
   step-external cells m c v l b g k =
       let j = c - h .normals in
       let b′ : j < length (externalsFrom file 0 (variableCount file)) = subst (λ (n : ℕ). j < length (externalsFrom file 0 n)) (q .variables) (omega (arith, m .externals)) in

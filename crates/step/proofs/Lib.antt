@@ -12,7 +12,8 @@ pub mod Scanning
 pub mod Pairs
 pub mod Choices
 pub mod Properties
--- runs: the first breaking step, and ranges
+-- runs: the first breaking step, the counts, and ranges
+pub mod Counts
 pub mod Replays
 pub mod Breaks
 pub mod Ranges

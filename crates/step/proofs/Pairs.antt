@@ -22,9 +22,10 @@ use Rattle.design.specs.declared.shape.Shape.{Shape}
 use Rattle.step.specs.Evaluation.{evalBool}
 use Rattle.step.specs.Limits.{lastStateProperty}
 use Rattle.step.specs.Property.{propertyOf}
-use Rattle.step.specs.OneStep.{step, idle, trueAt, holds}
+use Rattle.step.specs.OneStep.{step, trueAt, holds}
 use Rattle.step.specs.Accepted.{isRead, boolValue}
-use Rattle.step.specs.Ready.{ReadyPair, beforeIn, keptIn}
+use Rattle.step.specs.Ready.{ReadyPair, beforeIn, keptIn, testedBy}
+use Rattle.step.specs.declared.mover.Tested.{Tested}
 use Rattle.design.proofs.Positions.{constraint-none}
 use Rattle.design.proofs.Indexed.{constraint-got, constraint-some}
 use Rattle.step.proofs.Scanning.{same-layout}
@@ -103,14 +104,14 @@ module _ (n : ℕ) (pair : State) (long : length pair ≡ n + n) (keep : Bool) (
   pub kept-long : length kept ≡ n + n
   kept-long = let s = second-long n pair long in ap length same ∙ length-append (keptIn keep n pair) (drop n pair) ∙ (omega (arith, front-long n pair long keep))
 
-  pub pair-step : (d : Design) (c : ℕ) (s : State) (r : Bool)
-      → (s ≡ step d (take (length kept - m) (drop m kept)) c) × (r ≡ idle d (take (length kept - m) (drop m kept)) c)
-      → (putMid m (length kept - m) kept s ≡ keptIn keep n pair ++ step d (drop n pair) c) × (r ≡ idle d (drop n pair) c)
+  pub pair-step : (d : Design) (c : ℕ) (s : State) (r : Tested)
+      → (s ≡ step d (take (length kept - m) (drop m kept)) c) × (r ≡ testedBy d (take (length kept - m) (drop m kept)) c)
+      → (putMid m (length kept - m) kept s ≡ keptIn keep n pair ++ step d (drop n pair) c) × (r ≡ testedBy d (drop n pair) c)
   pair-step d c s r h =
       let front : take n kept ≡ keptIn keep n pair = ap (take n) same ∙ take-at (keptIn keep n pair) (drop n pair) n (front-long n pair long keep) in
       let second = part-is n kept kept-long m e ∙ ap (drop n) same ∙ drop-at (keptIn keep n pair) (drop n pair) n (front-long n pair long keep) in (
         put-is n kept kept-long m e s ∙ ap₂ (λ (x y : State). x ++ y) front (h .0 ∙ ap (λ (x : State). step d x c) second),
-        h .1 ∙ ap (λ (x : State). idle d x c) second,
+        h .1 ∙ ap (λ (x : State). testedBy d x c) second,
       )
 
 -- properties 0 and 1 do not look at the state before

@@ -1,34 +1,38 @@
 -- The loops of a replay: the first state is loaded, and each choice acts on what the one before it left. Assumes nothing.
-use mathlib.Core.Path.{_≡_, refl, sym, ap, ap₂, _∙_}
-use mathlib.Core.Bool.{Bool, true, false, cond, _&&_, _||_}
+use mathlib.Core.Path.{_≡_, refl, sym, ap, ap₂, subst, _∙_}
+use mathlib.Core.Bool.{Bool, true, false, false≢true, cond, not, _&&_, _||_}
 use mathlib.Core.List.{List, [], _∷_, _++_, map}
 use mathlib.Core.Option.{Option, none, some}
 use Prim.Native.Nat.{ℕ, zero, suc, _+_, _*_, _<_, _≤_}
 use native.Mathlib.Omega.{arith}
 use native.Mathlib.Numerals.{add-one}
-use lib.ListN.{getD, length, take, drop, set, replicate, length-set, length-map, length-replicate, List·getD-map}
-use lib.Seq.{paste, paste-zero, paste-suc, take-all, take-at, drop-at, drop-cons, drop-length}
+use lib.ListN.{getD, length, take, drop, set, replicate, length-set, length-map, length-replicate, drop-of-length-le, List·getD-map}
+use lib.Seq.{paste, paste-zero, paste-suc, take-all, take-at, drop-at, drop-cons}
 use lib.Dec.{leb, eqb, ltb}
 use borrow.Author.Tests.{ne-eqb}
-use Rattle.design.specs.Tree.{Variable, boolean, Design}
+use Rattle.design.specs.Tree.{Variable, boolean, Design, bit}
 use Rattle.design.specs.State.{State, start}
 use Rattle.design.specs.DesignFile.{Item, item, need, kind, at8, at16, variableAt}
 use Rattle.design.specs.Check.{check, accepted, itemsEnd, variableCount, matrixCount}
+use Rattle.design.specs.Answer.{answer}
 use Rattle.design.specs.Places.{Accepted}
 use Rattle.design.specs.Sections.{Parts}
 use Rattle.design.proofs.Sections.{whole, need-inv, item-same}
 use Rattle.design.proofs.Positions.{variable-stands}
 use Rattle.design.proofs.Places.{read}
-use Rattle.step.specs.Limits.{lastStateProperty}
-use Rattle.step.specs.Property.{propertyOf}
+use Rattle.step.specs.Limits.{lastStateProperty, maxBound}
+use Rattle.step.specs.Property.{Property, propertyOf}
 use Rattle.step.specs.OneStep.{step, trueAt}
-use Rattle.step.specs.Operations.{firstBreak}
-use Rattle.step.specs.Ready.{ReadyState, ReadyPair, beforeIn, keptIn, Replayable}
+use Rattle.step.specs.StatusEventGuard.{eventReadBy, guardReadBy, countFrom}
+use Rattle.step.specs.Operations.{firstBreak, runTold, replayTold, replayed}
+use Rattle.step.specs.Ready.{ReadyState, ReadyPair, beforeIn, keptIn, Replayable, testedBy}
+use Rattle.step.specs.declared.mover.Tested.{Tested}
 use Rattle.design.specs.declared.shape.Shape.{Shape}
 use Rattle.design.proofs.Indexed.{variables-inside}
 use Rattle.design.proofs.Widths.{matrix-count}
 use Rattle.design.specs.Limits.{maxVariables}
 use Rattle.step.proofs.Pairs.{front-long, kept-true}
+use Rattle.step.proofs.Counts.{bit-most}
 
 pub drop-replicate : {A : Type 0} (n m : ℕ) (z : A) → drop n (replicate (n + m) z) ≡ replicate m z
 drop-replicate zero m z = ap (λ (k : ℕ). replicate k z) (let q : 0 + m ≡ m = omega arith in q)
@@ -99,65 +103,149 @@ pair-same file events h s s′ e r = record { indexed = r .indexed; size = e ∙
 pub replayable-same : (file events cells : List ℕ) (h : Shape) (s s′ : State) (cs : List ℕ) → length s′ ≡ length s → Replayable file events cells h s cs → Replayable file events cells h s′ cs
 replayable-same file events cells h s s′ cs e r = record { ready = pair-same file events h s s′ e (r .ready); movers = r .movers; few = r .few; named = r .named }
 
--- what is left of the list breaks as the whole does: `pair` has the state before and the state now, of n slots each
-pub record Replaying (file : List ℕ) (p n : ℕ) (cs : List ℕ) (pair₀ : State) (i : ℕ) (pair : State) : Type 0 where
+-- A count by step i of the run from s₀ is k, and the whole is k and what the choices from i on count.
+pub record Counted (d : Design) (test : State → ℕ → Bool) (s₀ : State) (cs : List ℕ) (now : State) (i k : ℕ) : Type 0 where
+  pub same : countFrom d test s₀ cs ≡ k + countFrom d test now (drop i cs)
+  pub few : k ≤ i
+
+counted-on : (d : Design) (test : State → ℕ → Bool) (s₀ : State) (cs : List ℕ) (now : State) (i k : ℕ) → Counted d test s₀ cs now i k → i < length cs
+    → Counted d test s₀ cs (step d now (getD cs i 0)) (suc i) (k + bit (test now (getD cs i 0)))
+unfolding countFrom
+counted-on d test s₀ cs now i k g l =
+    let c = getD cs i 0 in
+    let split : countFrom d test now (drop i cs) ≡ bit (test now c) + countFrom d test (step d now c) (drop (suc i) cs) = ap (countFrom d test now) (drop-cons cs i 0 l) in
+    record { same = omega (arith, g .same, split); few = omega (arith, g .few, bit-most (test now c)) }
+
+counted-end : (d : Design) (test : State → ℕ → Bool) (s₀ : State) (cs : List ℕ) (now : State) (i k : ℕ) → Counted d test s₀ cs now i k → length cs ≤ i → k ≡ countFrom d test s₀ cs
+unfolding countFrom
+counted-end d test s₀ cs now i k g l =
+    let none : countFrom d test now (drop i cs) ≡ 0 = ap (countFrom d test now) (drop-of-length-le cs l) in
+    omega (arith, g .same, none)
+
+-- What the walk has in its variables by step i of the run from s₀, `before` and `now` being the states before and at i: whether the property broke, the step, and the counts.
+-- The run's first break is the one that it has, or the first from i on.
+pub record Walked (d : Design) (q : Property) (s₀ : State) (cs : List ℕ) (before : Option State) (now : State) (i : ℕ) (broken : Bool) (at e k : ℕ) : Type 0 where
+  pub breaks : firstBreak d q none s₀ cs 0 ≡ cond broken (some at) (firstBreak d q before now (drop i cs) i)
+  pub unbroken : broken ≡ false → at ≡ 0
+  pub events : Counted d (eventReadBy d) s₀ cs now i e
+  pub guards : Counted d (guardReadBy d) s₀ cs now i k
+
+-- the first two with step i judged
+module _ (was holds : Bool) (at i : ℕ) (broken : Bool) (at′ : ℕ) (h : broken ≡ (was || not holds)) (f : at′ ≡ cond was at (cond broken i at)) where
+  -- the first break is the one before, or, if the property is false now, it is now
+  first-judged : (rest : Option ℕ) → cond was (some at) (cond holds rest (some i)) ≡ cond broken (some at′) rest
+  first-judged rest = go was holds ∙ sym (ap₂ (λ (b : Bool) (k : ℕ). cond b (some k) rest) h (f ∙ ap (λ (b : Bool). cond was at (cond b i at)) h))
+    where
+      go : (b t : Bool) → cond b (some at) (cond t rest (some i)) ≡ cond (b || not t) (some (cond b at (cond (b || not t) i at))) rest
+      go true t = refl
+      go false true = refl
+      go false false = refl
+
+  still-unbroken : (was ≡ false → at ≡ 0) → broken ≡ false → at′ ≡ 0
+  still-unbroken u e = f ∙ ap (λ (b : Bool). cond was at (cond b i at)) e ∙ go was (sym h ∙ e) u
+    where
+      go : (b : Bool) → (b || not holds) ≡ false → (b ≡ false → at ≡ 0) → cond b at at ≡ 0
+      go true e u = absurd (false≢true (sym e))
+      go false e u = u refl
+
+-- what the walk has at the end is what REPLAY answers
+told-is : (broken : Bool) (at events guards : ℕ) (o : Option ℕ) → (broken ≡ false → at ≡ 0) → o ≡ cond broken (some at) none → replayTold broken at events guards ≡ replayed (answer (o, events, guards))
+told-is true at events guards o u f = ap (λ (z : Option ℕ). replayed (answer (z, events, guards))) (sym f)
+told-is false at events guards o u f = ap (λ (k : ℕ). replayTold false k events guards) (u refl) ∙ ap (λ (z : Option ℕ). replayed (answer (z, events, guards))) (sym f)
+
+module _ (d : Design) (q : Property) (s₀ : State) (cs : List ℕ) (before : Option State) (now : State) (i : ℕ) (was : Bool) (at events guards : ℕ) (g : Walked d q s₀ cs before now i was at events guards)
+    (broken : Bool) (at′ : ℕ) (h : broken ≡ (was || not (trueAt d q before now))) (f : at′ ≡ cond was at (cond broken i at)) where
+  abbrev holds : Bool
+  holds = trueAt d q before now
+
+  -- a choice: the property is judged in the state that it acts on, and it is counted by what was read
+  walked-on : i < length cs → Walked d q s₀ cs (some now) (step d now (getD cs i 0)) (suc i) broken at′ (events + bit (eventReadBy d now (getD cs i 0))) (guards + bit (guardReadBy d now (getD cs i 0)))
+  unfolding firstBreak
+  walked-on l = record {
+    breaks = g .breaks ∙ ap (λ (xs : List ℕ). cond was (some at) (firstBreak d q before now xs i)) (drop-cons cs i 0 l)
+        ∙ first-judged was holds at i broken at′ h f (firstBreak d q (some now) (step d now (getD cs i 0)) (drop (suc i) cs) (suc i));
+    unbroken = still-unbroken was holds at i broken at′ h f (g .unbroken);
+    events = counted-on d (eventReadBy d) s₀ cs now i events (g .events) l;
+    guards = counted-on d (guardReadBy d) s₀ cs now i guards (g .guards) l;
+  }
+
+  walked-end : length cs ≤ i → replayTold broken at′ events guards ≡ replayed (answer (runTold d q s₀ cs))
+  unfolding firstBreak
+  walked-end l =
+      told-is broken at′ events guards (firstBreak d q none s₀ cs 0) (still-unbroken was holds at i broken at′ h f (g .unbroken))
+      (g .breaks ∙ ap (λ (xs : List ℕ). cond was (some at) (firstBreak d q before now xs i)) (drop-of-length-le cs l) ∙ first-judged was holds at i broken at′ h f none)
+      ∙ ap₂ (λ (e k : ℕ). replayed (answer (firstBreak d q none s₀ cs 0, e, k)))
+      (counted-end d (eventReadBy d) s₀ cs now i events (g .events) l) (counted-end d (guardReadBy d) s₀ cs now i guards (g .guards) l)
+
+-- the loop: `pair` has the state before and the state now, of n slots each
+pub record Replaying (file : List ℕ) (p n : ℕ) (cs : List ℕ) (pair₀ : State) (i : ℕ) (pair : State) (broken : Bool) (at events guards : ℕ) : Type 0 where
   pub inside : i ≤ length cs
   pub size : length pair ≡ length pair₀
-  pub same : (d : Design) → check file ≡ accepted d
-      → firstBreak d (propertyOf d p) (beforeIn (eqb i 0) n pair) (drop n pair) (drop i cs) i ≡ firstBreak d (propertyOf d p) none (drop n pair₀) cs 0
+  pub walked : (d : Design) → check file ≡ accepted d → Walked d (propertyOf d p) (drop n pair₀) cs (beforeIn (eqb i 0) n pair) (drop n pair) i broken at events guards
 
-pub replaying-start : (file : List ℕ) (p n : ℕ) (cs : List ℕ) (pair : State) → Replaying file p n cs pair 0 pair
-replaying-start file p n cs pair = record { inside = omega arith; size = refl; same = λ d e. refl }
+pub replaying-start : (file : List ℕ) (p n : ℕ) (cs : List ℕ) (pair : State) → Replaying file p n cs pair 0 pair false 0 0 0
+replaying-start file p n cs pair = record {
+  inside = omega arith;
+  size = refl;
+  walked = λ d e. record { breaks = refl; unbroken = λ u. refl; events = record { same = omega arith; few = omega arith }; guards = record { same = omega arith; few = omega arith } };
+}
 
-module _ (file : List ℕ) (p n : ℕ) (cs : List ℕ) (pair₀ : State) (i : ℕ) (pair : State) (g : Replaying file p n cs pair₀ i pair) (r : Bool)
-    (h : (d : Design) (w : Parts file d) → r ≡ trueAt d (propertyOf d p) (beforeIn (eqb i 0) n pair) (drop n pair)) where
-  abbrev before : Option State
-  before = beforeIn (eqb i 0) n pair
+-- the counts stay below the bound while choices are left
+pub replaying-few : (file : List ℕ) (p n : ℕ) (cs : List ℕ) (pair₀ : State) (i : ℕ) (pair : State) (broken : Bool) (at events guards : ℕ) → Replaying file p n cs pair₀ i pair broken at events guards
+    → Accepted file → i < length cs → length cs ≤ maxBound → (events < maxBound) × (guards < maxBound)
+replaying-few file p n cs pair₀ i pair broken at events guards g a l b =
+    let t = read file a in
+    let w = g .walked (t .tree) (t .is) in
+    (omega (arith, w .events .few), omega (arith, w .guards .few))
 
+-- `broken` and `at′` are the walk's first two variables with step i judged
+module _ (file : List ℕ) (p n : ℕ) (cs : List ℕ) (pair₀ : State) (i : ℕ) (pair : State) (was : Bool) (at events guards : ℕ) (g : Replaying file p n cs pair₀ i pair was at events guards)
+    (broken : Bool) (at′ : ℕ) (h : (d : Design) (w : Parts file d) → broken ≡ (was || not (trueAt d (propertyOf d p) (beforeIn (eqb i 0) n pair) (drop n pair)))) (f : at′ ≡ cond was at (cond broken i at)) where
   abbrev now : State
   now = drop n pair
 
-  is-true : (d : Design) → check file ≡ accepted d → r ≡ trueAt d (propertyOf d p) before now
-  is-true d e = h d (whole file d e .parts)
-
-  broken : (d : Design) (xs : List ℕ) → trueAt d (propertyOf d p) before now ≡ false → firstBreak d (propertyOf d p) before now xs i ≡ some i
-  unfolding firstBreak
-  broken d [] e = ap (λ (t : Bool). cond t none (some i)) e
-  broken d (x ∷ xs) e = ap (λ (t : Bool). cond t (firstBreak d (propertyOf d p) (some now) (step d now x) xs (suc i)) (some i)) e
-
-  pub replaying-broken : r ≡ false → (d : Design) → check file ≡ accepted d → some i ≡ firstBreak d (propertyOf d p) none (drop n pair₀) cs 0
-  replaying-broken f d e = sym (broken d (drop i cs) (sym (is-true d e) ∙ f)) ∙ g .same d e
-
   kept-break : (d : Design) (keep : Bool) → keep ≡ ltb lastStateProperty p → (s : State) (xs : List ℕ) (j : ℕ)
-      → firstBreak d (propertyOf d p) (some (keptIn keep n pair)) s xs j ≡ firstBreak d (propertyOf d p) (some now) s xs j
+      → firstBreak d (propertyOf d p) (some now) s xs j ≡ firstBreak d (propertyOf d p) (some (keptIn keep n pair)) s xs j
   unfolding firstBreak
-  kept-break d keep e s [] j = ap (λ (t : Bool). cond t none (some j)) (kept-true d p n pair keep e s)
-  kept-break d keep e s (x ∷ xs) j = ap (λ (t : Bool). cond t (firstBreak d (propertyOf d p) (some s) (step d s x) xs (suc j)) (some j)) (kept-true d p n pair keep e s)
+  kept-break d keep e s [] j = sym (ap (λ (t : Bool). cond t none (some j)) (kept-true d p n pair keep e s))
+  kept-break d keep e s (c ∷ xs) j = sym (ap (λ (t : Bool). cond t (firstBreak d (propertyOf d p) (some s) (step d s c) xs (suc j)) (some j)) (kept-true d p n pair keep e s))
 
   -- a choice: the state now is kept as the one before, where the property is judged on both, and the step out of it stands behind it
-  pub replaying-on : r ≡ true → i < length cs → length pair₀ ≡ n + n → (c : ℕ) → c ≡ getD cs i 0 → (keep : Bool) → keep ≡ ltb lastStateProperty p
-      → (pair′ : State) (u : Bool) (v : Design → Bool) → length pair′ ≡ length pair
-      → ((d : Design) → check file ≡ accepted d → (pair′ ≡ keptIn keep n pair ++ step d now c) × (u ≡ v d)) → Replaying file p n cs pair₀ (i + 1) pair′
-  unfolding firstBreak
-  replaying-on t l z c q keep kp pair′ u v m k = record {
+  pub replaying-on : i < length cs → length pair₀ ≡ n + n → (c : ℕ) → c ≡ getD cs i 0 → (keep : Bool) → keep ≡ ltb lastStateProperty p
+      → (pair′ : State) (t : Tested) → length pair′ ≡ length pair
+      → ((d : Design) → check file ≡ accepted d → (pair′ ≡ keptIn keep n pair ++ step d now c) × (t ≡ testedBy d now c))
+      → (e k : ℕ) → e ≡ events + bit (t .event) → k ≡ guards + bit (t .guard) → Replaying file p n cs pair₀ (i + 1) pair′ broken at′ e k
+  replaying-on l long c q keep kp pair′ t m next e k u v = rw (add-one i) (record {
     inside = omega arith;
     size = m ∙ g .size;
-    same = λ d e.
-        let long : length (keptIn keep n pair) ≡ n = front-long n pair (g .size ∙ z) keep in
-        let x = step d now c in
-        ap (λ (b : Bool). firstBreak d (propertyOf d p) (beforeIn b n pair′) (drop n pair′) (drop (i + 1) cs) (i + 1)) (ne-eqb (i + 1) 0 (λ o. omega arith))
-        ∙ ap (λ (y : State). firstBreak d (propertyOf d p) (some (take n y)) (drop n y) (drop (i + 1) cs) (i + 1)) (k d e .0)
-        ∙ ap₂ (λ (a b : State). firstBreak d (propertyOf d p) (some a) b (drop (i + 1) cs) (i + 1)) (take-at (keptIn keep n pair) x n long) (drop-at (keptIn keep n pair) x n long)
-        ∙ kept-break d keep kp x (drop (i + 1) cs) (i + 1)
-        ∙ ap (λ (j : ℕ). firstBreak d (propertyOf d p) (some now) x (drop j cs) j) (add-one i)
-        ∙ ap (λ (j : ℕ). firstBreak d (propertyOf d p) (some now) (step d now j) (drop (suc i) cs) (suc i)) q
-        ∙ ap (λ (b : Bool). cond b (firstBreak d (propertyOf d p) (some now) (step d now (getD cs i 0)) (drop (suc i) cs) (suc i)) (some i)) (sym t ∙ is-true d e)
-        ∙ ap (λ (xs : List ℕ). firstBreak d (propertyOf d p) before now xs i) (sym (drop-cons cs i 0 l)) ∙ g .same d e;
-  }
+    walked = λ d a.
+        let q′ = propertyOf d p in
+        let s₀ = drop n pair₀ in
+        let front : length (keptIn keep n pair) ≡ n = front-long n pair (g .size ∙ long) keep in
+        let r = next d a in
+        let s = step d now c in
+        let second : drop n pair′ ≡ s = ap (drop n) (r .0) ∙ drop-at (keptIn keep n pair) s n front in
+        let first : beforeIn (eqb (suc i) 0) n pair′ ≡ some (keptIn keep n pair) = ap (λ (b : Bool). beforeIn b n pair′) (ne-eqb (suc i) 0 (λ o. omega arith))
+        ∙ ap some (ap (take n) (r .0) ∙ take-at (keptIn keep n pair) s n front) in
+        let read : e ≡ events + bit (eventReadBy d now c) = u ∙ ap (λ (x : Tested). events + bit (x .event)) (r .1) in
+        let guarded : k ≡ guards + bit (guardReadBy d now c) = v ∙ ap (λ (x : Tested). guards + bit (x .guard)) (r .1) in
+        let w = subst (λ (j : ℕ). Walked d q′ s₀ cs (some now) (step d now j) (suc i) broken at′ (events + bit (eventReadBy d now j)) (guards + bit (guardReadBy d now j))) (sym q)
+        (walked-on d q′ s₀ cs (beforeIn (eqb i 0) n pair) now i was at events guards (g .walked d a) broken at′ (h d (whole file d a .parts)) f l) in
+        rw first (rw second (rw read (rw guarded (record {
+          breaks = w .breaks ∙ ap (cond broken (some at′)) (kept-break d keep kp s (drop (suc i) cs) (suc i));
+          unbroken = w .unbroken;
+          events = w .events;
+          guards = w .guards;
+        }))));
+  })
 
-  pub replaying-never : r ≡ true → length cs ≤ i → (d : Design) → check file ≡ accepted d → none ≡ firstBreak d (propertyOf d p) none (drop n pair₀) cs 0
-  unfolding firstBreak
-  replaying-never t l d e =
-      let k = g .inside in
-      ap (λ (b : Bool). cond b none (some i)) (sym t ∙ is-true d e)
-      ∙ ap (λ (xs : List ℕ). firstBreak d (propertyOf d p) before now xs i) (sym (ap (λ (j : ℕ). drop j cs) (let z : i ≡ length cs = omega arith in z) ∙ drop-length cs)) ∙ g .same d e
+  pub replaying-end : length cs ≤ i → (d : Design) → check file ≡ accepted d → replayTold broken at′ events guards ≡ replayed (answer (runTold d (propertyOf d p) (drop n pair₀) cs))
+  replaying-end l d e =
+      walked-end d (propertyOf d p) (drop n pair₀) cs (beforeIn (eqb i 0) n pair) now i was at events guards (g .walked d e) broken at′ (h d (whole file d e .parts)) f l
+
+-- a step is broken because one before it was, or because the property is false there
+pub broken-before : (was now : Bool) → was ≡ true → true ≡ (was || now)
+broken-before was now e = sym (ap (λ (b : Bool). b || now) e)
+
+pub broken-now : (was holds r : Bool) → was ≡ false → r ≡ holds → not r ≡ (was || not holds)
+broken-now was holds r e f = ap not f ∙ sym (ap (λ (b : Bool). b || not holds) e)

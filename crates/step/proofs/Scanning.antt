@@ -26,6 +26,7 @@ use Rattle.design.proofs.Positions.{expressions-order}
 use Rattle.design.proofs.Indexed.{invariant-got, invariant-some}
 use Rattle.design.proofs.Widths.{layout-is}
 use Rattle.step.specs.Ready.{ReadyState}
+use Rattle.step.proofs.Cells.{BothAre}
 
 -- the layout of the tree, by the shape of the file
 pub same-layout : (file : List ℕ) (d : Design) (w : Parts file d) (h : Shape) → Shaped file h → layoutOf h ≡ layout d
@@ -104,11 +105,8 @@ module _ (file events′ : List ℕ) (h : Shape) (slots : State) (ready : ReadyS
         ∙ ap (λ (m : ℕ). not (statusAndEvent l slots (c-matrix file p) m (q .event)) && noInvalid l slots (invalids es)) (r .1 .status)
         ∙ ap (λ (b : BoolExpr). not (statusAndEvent l slots (c-matrix file p) (c-status file p) b) && noInvalid l slots (invalids es)) (r .1 .event)
 
-    abbrev Sees : Bool → Type 0
-    Sees r = (d : Design) (w : Parts file d) → r ≡ statusAndEvent l slots (c-matrix file p) (c-status file p) (eventIn (w .rows) (c-matrix file p) (c-event file p))
-
     -- an invalid cell at which both hold decides
-    pub scan-found : (c-kind file p ≡ 0 → ⊥) → (r : Bool) → Sees r → r ≡ true → (d : Design) (w : Parts file d) → false ≡ noInvalid l slots (d .invalid)
+    pub scan-found : (c-kind file p ≡ 0 → ⊥) → (r : Bool) → BothAre file events′ h slots ready p r → r ≡ true → (d : Design) (w : Parts file d) → false ≡ noInvalid l slots (d .invalid)
     scan-found e r s q d w =
         let t = is-invalid (eventIn (w .rows)) (entry d w) (drop (suc i) (w .entries)) (stands d w .1 .entry) e in
         ap (λ (b : Bool). not b && noInvalid l slots (invalids (drop (suc i) (w .entries)))) (sym q ∙ s d w) ∙ sym t ∙ sym (ap (λ (es : List Entry). noInvalid l slots (invalids es)) (split d w)) ∙ g .same d w
@@ -124,7 +122,7 @@ module _ (file events′ : List ℕ) (h : Shape) (slots : State) (ready : ReadyS
     pub scan-normal : c-kind file p ≡ 0 → (q : ℕ) → q ≡ c-past file p → Scanning file h slots q (i + 1)
     scan-normal e q f = onward q f (λ d w. sym (is-normal (eventIn (w .rows)) (entry d w) (drop (suc i) (w .entries)) (stands d w .1 .entry) e) ∙ sym (ap (λ (es : List Entry). noInvalid l slots (invalids es)) (split d w)))
 
-    pub scan-invalid : (c-kind file p ≡ 0 → ⊥) → (r : Bool) → Sees r → r ≡ false → (q : ℕ) → q ≡ c-past file p → Scanning file h slots q (i + 1)
+    pub scan-invalid : (c-kind file p ≡ 0 → ⊥) → (r : Bool) → BothAre file events′ h slots ready p r → r ≡ false → (q : ℕ) → q ≡ c-past file p → Scanning file h slots q (i + 1)
     scan-invalid e r s z q f = onward q f (λ d w.
         ap (λ (b : Bool). not b && noInvalid l slots (invalids (drop (suc i) (w .entries)))) (sym z ∙ s d w) ∙ sym (is-invalid (eventIn (w .rows)) (entry d w) (drop (suc i) (w .entries)) (stands d w .1 .entry) e) ∙ sym (ap (λ (es : List Entry). noInvalid l slots (invalids es)) (split d w)))
 

@@ -22,9 +22,11 @@ use Rattle.design.proofs.Widths.{matrix-count}
 use Rattle.step.specs.Pattern.{signed, wrap}
 use Rattle.step.specs.Limits.{lastStateProperty}
 use Rattle.step.specs.Property.{propertyOf}
-use Rattle.step.specs.OneStep.{step, idle, holds}
+use Rattle.step.specs.OneStep.{step, holds}
 use Rattle.step.specs.Interface.{valuesRight, statusesRight, firstWrong, entriesRight, slotsGiven, valuesOf, statusesOf, StateEntries}
 use Rattle.step.specs.Operations.{refusedAt, allRight, started, START, next, stepped, STEP, held, HOLDS}
+use Rattle.step.specs.Ready.{testedBy}
+use Rattle.step.specs.declared.mover.Tested.{Tested}
 use Rattle.step.specs.declared.Started.{Started}
 use Rattle.step.specs.declared.Stepped.{Stepped}
 use Rattle.step.specs.declared.Held.{Held}
@@ -64,12 +66,12 @@ module _ (file : List ℕ) (d : Design) (c : check file ≡ accepted d) (nv nm :
   pub slots-are : (values : List ℤ) (ps ss s : List ℕ) → ps ≡ map wrap values → s ≡ take nv ps ++ take nm ss → s ≡ slotsGiven d values ss
   slots-are values ps ss s a b = b ∙ ap (λ (x : List ℕ). take nv x ++ take nm ss) a ∙ ap₂ (λ (k j : ℕ). take k (map wrap values) ++ take j ss) variables-are matrices-are
 
-  pub step-answer : (s s′ : State) (vs : List ℤ) (ss : List ℕ) (i : Bool) (choice : ℕ) → (s′ ≡ step d s choice) × (i ≡ idle d s choice) → vs ≡ take nv (map signed s′) ++ replicate (maxVariables - nv) (pos 0) → ss ≡ take nm (drop nv s′) ++ replicate (maxMatrices - nm) 0
-      → _≡_ {A = Stepped} (record { refusal = refusedAt 0 0; values = vs; statuses = ss; idle = i }) (stepped (answer (next d s choice)))
-  step-answer s s′ vs ss i choice m a b =
-      ap (λ (x : List ℤ). record { refusal = refusedAt 0 0; values = x; statuses = ss; idle = i }) (values-are s′ vs a ∙ ap (valuesOf d) (m .0))
-      ∙ ap (λ (x : List ℕ). record { refusal = refusedAt 0 0; values = valuesOf d (step d s choice); statuses = x; idle = i }) (statuses-are s′ ss b ∙ ap (statusesOf d) (m .0))
-      ∙ ap (λ (x : Bool). record { refusal = refusedAt 0 0; values = valuesOf d (step d s choice); statuses = statusesOf d (step d s choice); idle = x }) (m .1)
+  pub step-answer : (s s′ : State) (vs : List ℤ) (ss : List ℕ) (r : Tested) (choice : ℕ) → (s′ ≡ step d s choice) × (r ≡ testedBy d s choice) → vs ≡ take nv (map signed s′) ++ replicate (maxVariables - nv) (pos 0) → ss ≡ take nm (drop nv s′) ++ replicate (maxMatrices - nm) 0
+      → _≡_ {A = Stepped} (record { refusal = refusedAt 0 0; values = vs; statuses = ss; idle = r .idle }) (stepped (answer (next d s choice)))
+  step-answer s s′ vs ss r choice m a b =
+      ap (λ (x : List ℤ). record { refusal = refusedAt 0 0; values = x; statuses = ss; idle = r .idle }) (values-are s′ vs a ∙ ap (valuesOf d) (m .0))
+      ∙ ap (λ (x : List ℕ). record { refusal = refusedAt 0 0; values = valuesOf d (step d s choice); statuses = x; idle = r .idle }) (statuses-are s′ ss b ∙ ap (statusesOf d) (m .0))
+      ∙ ap (λ (x : Bool). record { refusal = refusedAt 0 0; values = valuesOf d (step d s choice); statuses = statusesOf d (step d s choice); idle = x }) (ap (λ (t : Tested). t .idle) (m .1))
 
 -- START
 pub start-refused : (file : List ℕ) (r : Refusal) → r ≡ refusal (check file) → (r .number ≡ 0 → ⊥) → started (refused (r .number) (r .place)) ≡ START file

@@ -5,6 +5,9 @@ pub mod Pattern
 pub mod Evaluation
 pub mod Property
 pub mod OneStep
+-- the order of a cell's tests, and REPLAY's counts (document 02, R-3)
+pub mod StatusEventGuard
+-- lists that break a property
 pub mod Breaking
 -- the calls (document 01, "Turned-back calls")
 pub mod Gate

@@ -21,9 +21,13 @@ unfoldable mutual
   executeAll done l s = s
   executeAll (then x xs) l s = executeAll xs l (execute x l s)
 
+-- a matrix has this status
+abbrev pub statusStands : Layout → State → ℕ → ℕ → Bool
+statusStands l s m st = eqb (getD s (statusSlot l m) 0) st
+
 -- a matrix has this status and the event is true
 abbrev pub statusAndEvent : Layout → State → ℕ → ℕ → BoolExpr → Bool
-statusAndEvent l s m st event = eqb (getD s (statusSlot l m) 0) st && evalBool l s event
+statusAndEvent l s m st event = statusStands l s m st && evalBool l s event
 
 -- "A cell is enabled when its matrix has its status and event and guard are true"; "an external is enabled when false"
 unfoldable pub enabled : Layout → State → Mover → Bool

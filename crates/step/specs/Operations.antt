@@ -15,6 +15,7 @@ use Rattle.design.specs.declared.Refusal.{Refusal}
 use Rattle.step.specs.Limits.{lastStateProperty}
 use Rattle.step.specs.Property.{Property, propertyOf}
 use Rattle.step.specs.OneStep.{step, idle, trueAt, holds}
+use Rattle.step.specs.StatusEventGuard.{eventsRead, guardsRead}
 use Rattle.step.specs.Gate.{gate}
 use Rattle.step.specs.Interface.{firstWrong, entriesRight, slotsGiven, StateEntries, entriesOf}
 use Rattle.step.specs.declared.Started.{Started}
@@ -84,17 +85,26 @@ module _ (d : Design) (q : Property) where
 abbrev pub choicesRight : Design → List ℕ → List Bool
 choicesRight d cs = map (λ (c : ℕ). ltb c (length (movers d))) cs
 
--- REPLAY: "13 property over 1; 14 over 100 choices; 12 (place: first such). It answers the first breaking step, or none."
-abbrev pub replayAnswer : List ℕ → ℕ → List ℕ → Answer (Option ℕ)
+-- REPLAY "answers the first breaking step, or none", and (document 02, R-3) "two counts more: its choices of normal cells whose status stood (events read) and those of
+-- them whose event was true (guards read)": of the run from a state.
+abbrev pub runTold : Design → Property → State → List ℕ → Option ℕ × ℕ × ℕ
+runTold d q s cs = (firstBreak d q none s cs 0, eventsRead d s cs, guardsRead d s cs)
+
+-- REPLAY: "13 property over 1; 14 over 100 choices; 12 (place: first such)."
+abbrev pub replayAnswer : List ℕ → ℕ → List ℕ → Answer (Option ℕ × ℕ × ℕ)
 replayAnswer file p cs =
     gate file p (length cs) λ d q.
     need (allRight (choicesRight d cs)) 12 (firstWrong (choicesRight d cs))
-    (answer (firstBreak d q none (start d) cs 0))
+    (answer (runTold d q (start d) cs))
 
-abbrev pub replayed : Answer (Option ℕ) → Replayed
-replayed (refused number place) = record { refusal = refusedAt number place; broken = false; step = 0 }
-replayed (answer none) = record { refusal = refusedAt 0 0; broken = false; step = 0 }
-replayed (answer (some i)) = record { refusal = refusedAt 0 0; broken = true; step = i }
+-- an answer that is not refused
+abbrev pub replayTold : Bool → ℕ → ℕ → ℕ → Replayed
+replayTold broken i events guards = record { refusal = refusedAt 0 0; broken = broken; step = i; events = events; guards = guards }
+
+abbrev pub replayed : Answer (Option ℕ × ℕ × ℕ) → Replayed
+replayed (refused number place) = record { refusal = refusedAt number place; broken = false; step = 0; events = 0; guards = 0 }
+replayed (answer (none, events, guards)) = replayTold false 0 events guards
+replayed (answer (some i, events, guards)) = replayTold true i events guards
 
 unfoldable pub REPLAY : List ℕ → ℕ → List ℕ → Replayed
 REPLAY file p cs = replayed (replayAnswer file p cs)

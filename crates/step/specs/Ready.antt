@@ -1,14 +1,18 @@
--- What inner functions are given: an accepted file with its table of events and its shape, and a state of its size, or two.
+-- What inner functions are given: an accepted file with its table of events and its shape, and a state of its size, or two; and what they promise of a mover.
 use mathlib.Core.Path.{_≡_}
-use mathlib.Core.Bool.{Bool, true, false}
+use mathlib.Core.Bool.{Bool, true, false, not}
 use mathlib.Core.List.{List}
 use mathlib.Core.Option.{Option, none, some}
 use Prim.Native.Nat.{ℕ, _+_, _<_, _≤_}
 use lib.ListN.{length, getD, take, drop}
-use Rattle.design.specs.State.{State, slotCount}
+use Rattle.design.specs.Tree.{Design, Mover}
+use Rattle.design.specs.State.{State, Layout, slotCount}
 use Rattle.design.specs.Places.{Indexed, MoversIndexed}
 use Rattle.step.specs.Limits.{maxBound}
 use Rattle.design.specs.declared.shape.Shape.{Shape}
+use Rattle.step.specs.OneStep.{enabled, idle}
+use Rattle.step.specs.StatusEventGuard.{eventReadOf, guardReadOf, eventReadBy, guardReadBy}
+use Rattle.step.specs.declared.mover.Tested.{Tested}
 
 pub record ReadyState (file table : List ℕ) (h : Shape) (slots : State) : Type 0 where
   pub indexed : Indexed file table h
@@ -35,3 +39,10 @@ pub record Replayable (file events cells : List ℕ) (h : Shape) (pair : State) 
   pub movers : MoversIndexed file cells h
   pub few : length choices ≤ maxBound
   pub named : (i : ℕ) → i < length choices → getD choices i 0 < h .normals + h .externals
+
+-- what comes of testing a mover in a state, and of testing the one that a choice names
+abbrev pub testedOf : Layout → State → Mover → Tested
+testedOf l s m = record { event = eventReadOf l s m; guard = guardReadOf l s m; idle = not (enabled l s m) }
+
+abbrev pub testedBy : Design → State → ℕ → Tested
+testedBy d s c = record { event = eventReadBy d s c; guard = guardReadBy d s c; idle = idle d s c }

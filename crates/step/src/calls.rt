@@ -126,7 +126,7 @@ pub fn step_slots(
     ensures { λ r. ⌜ ((d : Design) → check (now (file .entry)) ≡ accepted d → r ≡ stepped (answer (next d (take (shape .variables) ps ++ take (shape .matrices) ss) choice))) ⌝ }
 {
     load_entries(shape, ps, ss, slots);
-    let idle = move_chosen(file, events, cells, shape, choice, slots);
+    let tested = move_chosen(file, events, cells, shape, choice, slots);
     let values = give_values(shape.variables, slots);
     let statuses = give_statuses(shape.variables, shape.matrices, slots);
     Stepped {
@@ -136,7 +136,7 @@ pub fn step_slots(
         },
         values,
         statuses,
-        idle,
+        idle: tested.idle,
     }
 }
 

@@ -44,11 +44,13 @@ pub struct Held {
     pub holds: bool,
 }
 
-// The first breaking step, where there is one.
+// The first breaking step, where there is one; how many choices had their event read, and how many their guard.
 pub struct Replayed {
     pub refusal: Refusal,
     pub broken: bool,
     pub step: usize,
+    pub events: usize,
+    pub guards: usize,
 }
 
 // START

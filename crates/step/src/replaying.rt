@@ -1,20 +1,22 @@
 // A list of choices, run from the first state.
 ghost use mathlib.Core.Path.{_≡_};
+ghost use mathlib.Core.Bool.{not, _||_, cond};
 ghost use mathlib.Core.List.{map};
-ghost use mathlib.Core.Option.{none, some};
 ghost use Prim.Native.Nat.{ℕ, _+_, _≤_, _<_};
-ghost use lib.ListN.{length, getD, drop, replicate};
-ghost use lib.Dec.{ltb};
-ghost use Rattle.design.specs.Tree.{Design};
+ghost use lib.ListN.{length, drop, replicate};
+ghost use lib.Dec.{ltb, eqb};
+ghost use Rattle.design.specs.Tree.{Design, bit};
 ghost use Rattle.design.specs.State.{start, slotCount};
 ghost use Rattle.design.specs.Check.{check, accepted};
 ghost use Rattle.design.specs.Answer.{refused, answer};
 ghost use Rattle.design.specs.Places.{Accepted, Shaped};
+ghost use Rattle.design.specs.Sections.{Parts};
 ghost use Rattle.step.specs.Limits.{lastProperty, maxBound};
 ghost use Rattle.step.specs.Interface.{firstWrong};
 ghost use Rattle.step.specs.Property.{propertyOf};
-ghost use Rattle.step.specs.Operations.{firstBreak, replayed, REPLAY};
-ghost use Rattle.step.specs.Ready.{Replayable};
+ghost use Rattle.step.specs.OneStep.{trueAt};
+ghost use Rattle.step.specs.Operations.{runTold, replayed, REPLAY};
+ghost use Rattle.step.specs.Ready.{ReadyPair, beforeIn, Replayable};
 use super::Replayed;
 use super::mover::step_pair;
 use super::property::judges_steps;
@@ -58,34 +60,52 @@ pub fn load_start(file: &[u8], shape: Shape, slots: &mut [u16])
     }
 }
 
-pub fn broken_at(i: usize) -> Replayed
-    ensures { λ r. ⌜ r ≡ replayed (answer (some i)) ⌝ }
+// Whether the property is false at step i or was before. Past the first break it is not judged.
+pub fn broken_at(
+    broken: bool,
+    file: &[u8],
+    events: &[u16; EVENT_PLACES],
+    shape: Shape,
+    property: u64,
+    i: usize,
+    pair: &[u16],
+) -> bool
+    requires { ⌜ ReadyPair (now file) (now events) shape (now pair) ⌝ }
+    ensures { λ r. ⌜ ((d : Design) (parts : Parts (now (file .entry)) d)
+        → r ≡ (broken || not (trueAt d (propertyOf d property) (beforeIn (eqb i 0) (slotCount shape) (now (pair .entry))) (drop (slotCount shape) (now (pair .entry)))))) ⌝ }
 {
-    Replayed {
-        refusal: Refusal {
-            number: 0,
-            place: 0,
-        },
-        broken: true,
-        step: i,
+    if broken {
+        return true;
     }
+    !true_at(file, events, shape, property, i == 0, pair)
 }
 
-pub fn never() -> Replayed
-    ensures { λ r. ⌜ r ≡ replayed (answer none) ⌝ }
+// The first step that broke: i, if the first break is now.
+pub fn first_step(was: bool, broken: bool, step: usize, i: usize) -> usize
+    ensures { λ r. ⌜ r ≡ cond was step (cond broken i step) ⌝ }
 {
-    Replayed {
-        refusal: Refusal {
-            number: 0,
-            place: 0,
-        },
-        broken: false,
-        step: 0,
+    if was {
+        return step;
     }
+    if broken {
+        return i;
+    }
+    step
 }
 
-// From the second state of `pair` on, the first state of the run: the first step at which the property is false. Each choice acts on the pair in place.
-pub fn first_break(
+// One more, if it is counted.
+pub fn count_if(n: usize, counted: bool) -> usize
+    requires { ⌜ n < maxBound ⌝ }
+    ensures { λ r. ⌜ r ≡ n + bit counted ⌝ }
+{
+    if counted {
+        return n + 1;
+    }
+    n
+}
+
+// The run from the second state of `pair`: the first step at which the property is false, and the counts of all choices. Each choice acts on the pair in place.
+pub fn replay_choices(
     file: &[u8],
     events: &[u16; EVENT_PLACES],
     cells: &[u16; MAX_MOVERS],
@@ -96,14 +116,18 @@ pub fn first_break(
 ) -> Replayed
     requires { ⌜ Replayable (now file) (now events) (now cells) shape (now pair) (now choices) ⌝ }
     ensures { λ r. ⌜ ((d : Design) → check (now (file .entry)) ≡ accepted d
-        → r ≡ replayed (answer (firstBreak d (propertyOf d property) none (drop (slotCount shape) (now (pair .entry))) (now (choices .entry)) 0))) ⌝ }
+        → r ≡ replayed (answer (runTold d (propertyOf d property) (drop (slotCount shape) (now (pair .entry))) (now (choices .entry))))) ⌝ }
 {
+    let mut broken = false;
+    let mut step = 0;
+    let mut read = 0;
+    let mut guards = 0;
     let mut i = 0;
     while i < choices.len() {
-        if !true_at(file, events, shape, property, i == 0, pair) {
-            return broken_at(i);
-        }
-        step_pair(
+        let now = broken_at(broken, file, events, shape, property, i, pair);
+        step = first_step(broken, now, step, i);
+        broken = now;
+        let tested = step_pair(
             file,
             events,
             cells,
@@ -112,12 +136,21 @@ pub fn first_break(
             judges_steps(property),
             pair,
         );
+        read = count_if(read, tested.event);
+        guards = count_if(guards, tested.guard);
         i = i + 1;
     }
-    if true_at(file, events, shape, property, i == 0, pair) {
-        return never();
+    let now = broken_at(broken, file, events, shape, property, i, pair);
+    Replayed {
+        refusal: Refusal {
+            number: 0,
+            place: 0,
+        },
+        broken: now,
+        step: first_step(broken, now, step, i),
+        events: read,
+        guards,
     }
-    broken_at(i)
 }
 
 // The same from the first state, in slots that are 0.
@@ -131,11 +164,11 @@ pub fn replay_slots(
     pair: &mut [u16],
 ) -> Replayed
     requires { ⌜ Replayable (now file) (now events) (now cells) shape (now pair) (now choices) × (now pair ≡ replicate (slotCount shape + slotCount shape) 0) ⌝ }
-    ensures { λ r. ⌜ ((d : Design) → check (now (file .entry)) ≡ accepted d → r ≡ replayed (answer (firstBreak d (propertyOf d property) none (start d) (now (choices .entry)) 0))) ⌝ }
+    ensures { λ r. ⌜ ((d : Design) → check (now (file .entry)) ≡ accepted d → r ≡ replayed (answer (runTold d (propertyOf d property) (start d) (now (choices .entry))))) ⌝ }
 {
     let n = slot_count(shape);
     load_start(file, shape, &mut pair[n..]);
-    first_break(file, events, cells, shape, property, choices, pair)
+    replay_choices(file, events, cells, shape, property, choices, pair)
 }
 
 pub fn refuse_replay(number: u8, place: usize) -> Replayed
@@ -145,10 +178,12 @@ pub fn refuse_replay(number: u8, place: usize) -> Replayed
         refusal: Refusal { number, place },
         broken: false,
         step: 0,
+        events: 0,
+        guards: 0,
     }
 }
 
-// On an accepted file, with a right property and few choices: the tables are filled once, and each step keeps the state before it.
+// On an accepted file, with a right property and few choices: the tables are filled once, for all steps.
 pub fn replay_accepted(file: &[u8], property: u64, choices: &[u8]) -> Replayed
     requires { ⌜ Accepted (now file) × (property ≤ lastProperty (now file)) × (length (now choices) ≤ maxBound) ⌝ }
     ensures { λ r. ⌜ r ≡ REPLAY (now (file .entry)) property (now (choices .entry)) ⌝ }

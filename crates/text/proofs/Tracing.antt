@@ -16,7 +16,7 @@ use Rattle.design.specs.State.{State, Layout, layout, statusesIn, start}
 use Rattle.design.specs.Check.{Checked, refused, accepted, check, variableCount, matrixCount}
 use Rattle.design.specs.Answer.{Answer, answer, need}
 use Rattle.design.specs.declared.Refusal.{Refusal}
-use Rattle.design.specs.Places.{Accepted, Shaped, MoversIndexed}
+use Rattle.design.specs.Places.{Shaped, MoversIndexed}
 use Rattle.design.specs.Sections.{Parts}
 use Rattle.design.proofs.Sections.{whole}
 use Rattle.design.proofs.Places.{read}
@@ -26,10 +26,11 @@ use Rattle.step.specs.Gate.{gate, refusalOf}
 use Rattle.step.specs.Pattern.{signed}
 use Rattle.step.specs.Interface.{firstWrong}
 use Rattle.step.specs.OneStep.{step, idle, trueAt}
-use Rattle.step.specs.Operations.{refusedAt, allRight, firstBreak, choicesRight, replayed, REPLAY}
+use Rattle.step.specs.Operations.{refusedAt, allRight, runTold, choicesRight, replayed, REPLAY}
 use Rattle.step.specs.declared.Replayed.{Replayed}
 use Rattle.step.specs.Limits.{lastStateProperty}
-use Rattle.step.specs.Ready.{beforeIn, keptIn}
+use Rattle.step.specs.Ready.{beforeIn, keptIn, testedBy}
+use Rattle.step.specs.declared.mover.Tested.{Tested}
 use Rattle.step.proofs.Answering.{all-below}
 use Rattle.step.proofs.Pairs.{front-long, kept-true}
 use Rattle.design.specs.declared.shape.Shape.{Shape}
@@ -103,9 +104,9 @@ module _ (file : List ℕ) (p n : ℕ) (cs : List ℕ) (pair₀ : State) (xs : L
       ∙ ap (λ (y : List ℕ). y ++ nextLines d (propertyOf d p) (suc i) x (drop (suc i) cs)) (kept-line d keep kp (suc i) c u x)
       ∙ ap₂ (λ (a : Option State) (y : State). stateLine d (propertyOf d p) (suc i) c u a y ++ nextLines d (propertyOf d p) (suc i) y (drop (suc i) cs)) (sym first) (sym moved)
 
-  pub printing-on : length pair₀ ≡ n + n → i < length cs → (c : ℕ) → c ≡ getD cs i 0 → (keep : Bool) → keep ≡ ltb lastStateProperty p → (pair′ : State) (u : Bool) → length pair′ ≡ length pair
-      → ((d : Design) → check file ≡ accepted d → (pair′ ≡ keptIn keep n pair ++ step d now c) × (u ≡ idle d now c)) → (zs : List ℕ) (r : ℕ)
-      → ((d : Design) (w : Parts file d) → TextWritten (stateLine d (propertyOf d p) (i + 1) c u (beforeIn (eqb (i + 1) 0) n pair′) (drop n pair′)) ys zs q r)
+  pub printing-on : length pair₀ ≡ n + n → i < length cs → (c : ℕ) → c ≡ getD cs i 0 → (keep : Bool) → keep ≡ ltb lastStateProperty p → (pair′ : State) (u : Tested) → length pair′ ≡ length pair
+      → ((d : Design) → check file ≡ accepted d → (pair′ ≡ keptIn keep n pair ++ step d now c) × (u ≡ testedBy d now c)) → (zs : List ℕ) (r : ℕ)
+      → ((d : Design) (w : Parts file d) → TextWritten (stateLine d (propertyOf d p) (i + 1) c (u .idle) (beforeIn (eqb (i + 1) 0) n pair′) (drop n pair′)) ys zs q r)
       → r ≤ q + maxLine → length zs ≡ length ys → Printing file p n cs pair₀ xs at (i + 1) pair′ zs r
   printing-on y l c e keep kp pair′ u m k zs r h b z = rw (add-one i) (record {
     inside = omega arith;
@@ -113,9 +114,9 @@ module _ (file : List ℕ) (p n : ℕ) (cs : List ℕ) (pair₀ : State) (xs : L
     near = omega (arith, g .near);
     size = z ∙ g .size;
     rest = λ d t.
-        rest-next (stateLine d (propertyOf d p) (suc i) c u (beforeIn (eqb (suc i) 0) n pair′) (drop n pair′)) (nextLines d (propertyOf d p) (suc i) (drop n pair′) (drop (suc i) cs))
-        (next-lines d c keep kp pair′ u y l e (k d t)) (g .rest d t)
-        (subst (λ (j : ℕ). TextWritten (stateLine d (propertyOf d p) j c u (beforeIn (eqb j 0) n pair′) (drop n pair′)) ys zs q r) (add-one i) (h d (whole file d t .parts)));
+        rest-next (stateLine d (propertyOf d p) (suc i) c (u .idle) (beforeIn (eqb (suc i) 0) n pair′) (drop n pair′)) (nextLines d (propertyOf d p) (suc i) (drop n pair′) (drop (suc i) cs))
+        (next-lines d c keep kp pair′ (u .idle) y l e (k d t .0, ap (λ (x : Tested). x .idle) (k d t .1))) (g .rest d t)
+        (subst (λ (j : ℕ). TextWritten (stateLine d (propertyOf d p) j c (u .idle) (beforeIn (eqb j 0) n pair′) (drop n pair′)) ys zs q r) (add-one i) (h d (whole file d t .parts)));
   })
 
   pub printing-end : length cs ≤ i → (d : Design) → check file ≡ accepted d → TextWritten (nextLines d (propertyOf d p) 0 (drop n pair₀) cs) xs ys at q
@@ -139,15 +140,15 @@ result-as b t i {xs} {ys} {at} {r} e w = subst (λ (u : Bool). TextWritten (resu
 -- a call of REPLAY that is not refused
 module _ (file : List ℕ) (p : ℕ) (cs : List ℕ) where
   -- what REPLAY asks of a design, past the gate
-  abbrev asked : Design → Property → Answer (Option ℕ)
-  asked d q = need (allRight (choicesRight d cs)) 12 (firstWrong (choicesRight d cs)) (answer (firstBreak d q none (start d) cs 0))
+  abbrev asked : Design → Property → Answer (Option ℕ × ℕ × ℕ)
+  asked d q = need (allRight (choicesRight d cs)) 12 (firstWrong (choicesRight d cs)) (answer (runTold d q (start d) cs))
 
-  same-refusal : (a : Answer (Option ℕ)) → replayed a .refusal ≡ refusalOf a
+  same-refusal : (a : Answer (Option ℕ × ℕ × ℕ)) → replayed a .refusal ≡ refusalOf a
   same-refusal (Answer.refused n k) = refl
-  same-refusal (answer none) = refl
-  same-refusal (answer (some i)) = refl
+  same-refusal (answer (none, e, g)) = refl
+  same-refusal (answer (some i, e, g)) = refl
 
-  need-zero : (t : Bool) (n k : ℕ) (x : Answer (Option ℕ)) → (n ≡ 0 → ⊥) → refusalOf (need t n k x) .number ≡ 0 → t ≡ true
+  need-zero : (t : Bool) (n k : ℕ) (x : Answer (Option ℕ × ℕ × ℕ)) → (n ≡ 0 → ⊥) → refusalOf (need t n k x) .number ≡ 0 → t ≡ true
   need-zero true n k x z e = refl
   need-zero false n k x z e = absurd (z e)
 
@@ -167,7 +168,7 @@ module _ (file : List ℕ) (p : ℕ) (cs : List ℕ) where
     replayable z =
         let g = zero-passed file p (length cs) asked (gated z) in
         let t = read file (g .accepted) in
-        let q = sym (ap (λ (a : Answer (Option ℕ)). refusalOf a .number) (in-range file p (length cs) asked (g .accepted) (g .property) (g .bound))) ∙ gated z in
+        let q = sym (ap (λ (a : Answer (Option ℕ × ℕ × ℕ)). refusalOf a .number) (in-range file p (length cs) asked (g .accepted) (g .property) (g .bound))) ∙ gated z in
         let r = need-zero (allRight (choicesRight (t .tree) cs)) 12 (firstWrong (choicesRight (t .tree) cs)) _ (λ y. omega arith) q in
         record {
           design = g .accepted;

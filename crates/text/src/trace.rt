@@ -107,9 +107,20 @@ pub fn put_next(
     let mut i = 0;
     while i < choices.len() {
         let c = wide(choices[i]);
-        let idle = step_pair(file, events, cells, shape, c, judges_steps(property), pair);
+        let tested = step_pair(file, events, cells, shape, c, judges_steps(property), pair);
         i = i + 1;
-        p = put_state(file, events, shape, property, i, c, idle, pair, out, p);
+        p = put_state(
+            file,
+            events,
+            shape,
+            property,
+            i,
+            c,
+            tested.idle,
+            pair,
+            out,
+            p,
+        );
     }
     p
 }

@@ -5,6 +5,7 @@ use Rattle.design.specs.Constrained.{bytesMoved, designMoved, check-moved, byte
 use Rattle.design.specs.Multiplied.{check-multiplied}
 use Rattle.step.specs.Pattern.{signed, wrap}
 use Rattle.step.specs.OneStep.{stepping}
+use Rattle.step.specs.StatusEventGuard.{eventReadOf, guardReadOf, eventReadBy, guardReadBy, countFrom}
 use Rattle.step.specs.Operations.{firstBreak}
 use Rattle.clauses.specs.Formula.{encoding}
 use Rattle.clauses.proofs.DesignA.{models-3, models-4}
@@ -15,7 +16,7 @@ use Rattle.search.specs.Solve.{solve}
 use Rattle.verdict.specs.Table.{AllHold, table}
 
 pub table-holds : AllHold table
-unfolding bytesA bytesMoved bytesNoIdle designA designMoved designNoIdle count stepping firstBreak encoding signed wrap turn solved solve
+unfolding bytesA bytesMoved bytesNoIdle designA designMoved designNoIdle count stepping eventReadOf guardReadOf eventReadBy guardReadBy countFrom firstBreak encoding signed wrap turn solved solve
 table-holds = (
   check-A,
   (
@@ -78,7 +79,7 @@ table-holds = (
                                                             models-multiplied-1,
                                                             (
                                                               models-multiplied-2,
-                                                              (refl, (refl, (refl, (refl, (refl, (refl, (refl, (refl, (refl, (refl, (refl, (refl, (refl, tt))))))))))))),
+                                                              (refl, (refl, (refl, (refl, (refl, ((refl, refl), ((refl, refl), ((refl, refl), ((refl, refl), (refl, (refl, (refl, (refl, (refl, (refl, (refl, (refl, tt))))))))))))))))),
                                                             ),
                                                           ),
                                                         ),

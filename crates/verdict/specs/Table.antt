@@ -16,6 +16,7 @@ use Rattle.design.specs.Multiplied.{bytesMultiplied, designMultiplied}
 use Rattle.step.specs.Property.{Property, propertyOf}
 use Rattle.step.specs.Pattern.{plus, minus, times, signed, wrap}
 use Rattle.step.specs.OneStep.{breaksAt, breaks}
+use Rattle.step.specs.StatusEventGuard.{eventsRead, guardsRead}
 use Rattle.step.specs.Operations.{firstBreak}
 use Rattle.clauses.specs.Formula.{S, P, w, G, F, n, lastClause, formula}
 use Rattle.clauses.specs.Theorem.{Model, Exactly}
@@ -54,6 +55,8 @@ pub data Case : Type 0 where
   -- these choices break at this step, and not before; these never
   broken : Subject → List ℕ → ℕ → Case
   never : Subject → List ℕ → Case
+  -- so many events and guards are read along these choices
+  counts : Design → List ℕ → ℕ → ℕ → Case
   -- a bound has so many models
   models : Subject → ℕ → ℕ → Case
   -- two integers, and their sum, difference or product
@@ -70,6 +73,7 @@ Holds (last s k literals) = length (lastClause (s .design) (s .property) k) ≡ 
 Holds (broken s cs i) =
     (breaksAt (s .design) (s .property) cs i ≡ true) × (firstBreak (s .design) (s .property) none (start (s .design)) cs 0 ≡ some i)
 Holds (never s cs) = breaks (s .design) (s .property) cs ≡ false
+Holds (counts d cs events guards) = (eventsRead d (start d) cs ≡ events) × (guardsRead d (start d) cs ≡ guards)
 Holds (models s k count) = Exactly (Model (s .design) (s .property) k) count
 Holds (sum a b c) = signed (plus (wrap a) (wrap b)) ≡ c
 Holds (difference a b c) = signed (minus (wrap a) (wrap b)) ≡ c
@@ -133,6 +137,13 @@ table =
     ∷ product (negℤ (pos 1)) (negℤ (pos 32768)) (negℤ (pos 32768))
     ∷ product (negℤ (pos 3)) (pos 7) (negℤ (pos 21))
     ∷ product (negℤ (pos 3)) (negℤ (pos 7)) (pos 21)
+    -- Events and guards read (document 02, R-3). An external is not counted; cell 0 has no guard, and counts where its event is true.
+    ∷ counts designA (2 ∷ 0 ∷ 1 ∷ []) 2 2
+    -- the status stands and the event is false; then the status does not stand
+    ∷ counts designA (0 ∷ 1 ∷ 2 ∷ []) 1 0
+    -- past the break at 3, and where the guard is false
+    ∷ broken invariantA (2 ∷ 0 ∷ 1 ∷ 0 ∷ 1 ∷ []) 3
+    ∷ counts designA (2 ∷ 0 ∷ 1 ∷ 0 ∷ 1 ∷ []) 4 4
     -- "32767+1 is -32768"; "0-(-32768) is -32768."
     ∷ sum (pos 32767) (pos 1) (negℤ (pos 32768))
     ∷ difference (pos 0) (negℤ (pos 32768)) (negℤ (pos 32768))

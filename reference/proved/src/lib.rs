@@ -9,7 +9,7 @@ use reference::design::{Refusal, MAX_MATRICES, MAX_VARIABLES};
 use reference::operations::{Answer, Operations};
 use reference::query::Query;
 use reference::search::{Outcome, Solved};
-use reference::step::{State, Stepped};
+use reference::step::{Replayed, State, Stepped};
 use std::io::{self, Write};
 use std::path::PathBuf;
 use std::process::{Command, Stdio};
@@ -61,7 +61,7 @@ pub fn holds(query: Query<[u8]>, lent: &Lent, holds: &mut [u8; 1]) -> u64 {
     unsafe { stm_holds(design.as_ptr(), design.len(), &lent.values, &lent.statuses, property, holds) }
 }
 
-pub fn replay(query: Query<[u8]>, choices: &[u8], answer: &mut [u64; 2]) -> u64 {
+pub fn replay(query: Query<[u8]>, choices: &[u8], answer: &mut [u64; 4]) -> u64 {
     let Query { design, property } = query;
     unsafe { stm_replay(design.as_ptr(), design.len(), property, choices.as_ptr(), choices.len(), answer) }
 }
@@ -125,13 +125,13 @@ impl Operations for Proved {
         answered(code, || flag(answer[0]))
     }
 
-    fn replay(&mut self, query: Query<[u8]>, choices: &[u8]) -> Answer<Option<u64>> {
-        let mut answer = [7; 2];
+    fn replay(&mut self, query: Query<[u8]>, choices: &[u8]) -> Answer<Replayed> {
+        let mut answer = [7; 4];
         let code = replay(query, choices, &mut answer);
-        unchanged(code, [7; 2], answer);
+        unchanged(code, [7; 4], answer);
         answered(code, || match answer {
-            [0, 0] => None,
-            [1, step] => Some(step),
+            [0, 0, events, guards] => Replayed { broken: None, events, guards },
+            [1, step, events, guards] => Replayed { broken: Some(step), events, guards },
             _ => panic!("REPLAY answered {answer:?}"),
         })
     }

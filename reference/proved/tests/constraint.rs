@@ -24,18 +24,18 @@ fn holds_refuses_it_in_both_versions() {
 fn replays_judge_every_step_but_the_first_state() {
     let (moved, no_idle) = (file_bytes(&moved()), file_bytes(&no_idle()));
     for (file, choices, expected) in [
-        (&moved, &[2, 0, 1][..], [1, 3]),
-        (&moved, &[2, 0, 2], [0, 0]),
-        (&no_idle, &[], [0, 0]),
-        (&no_idle, &[0], [1, 1]),
-        (&no_idle, &[1, 1], [1, 2]),
+        (&moved, &[2, 0, 1][..], [1, 3, 2, 2]),
+        (&moved, &[2, 0, 2], [0, 0, 1, 1]),
+        (&no_idle, &[], [0, 0, 0, 0]),
+        (&no_idle, &[0], [1, 1, 1, 0]),
+        (&no_idle, &[1, 1], [1, 2, 0, 0]),
     ] {
-        let mut answer = [7; 2];
+        let mut answer = [7; 4];
         assert_eq!(replay(Query::new(&file[..], CONSTRAINT), choices, &mut answer), 0);
         assert_eq!(answer, expected, "{choices:?}");
     }
-    assert_eq!(replay(Query::new(&file_bytes(&design_a())[..], CONSTRAINT), &[], &mut [7; 2]), 13);
-    assert_eq!(replay(Query::new(&moved[..], CONSTRAINT + 1), &[], &mut [7; 2]), 13);
+    assert_eq!(replay(Query::new(&file_bytes(&design_a())[..], CONSTRAINT), &[], &mut [7; 4]), 13);
+    assert_eq!(replay(Query::new(&moved[..], CONSTRAINT + 1), &[], &mut [7; 4]), 13);
 }
 
 #[test]

@@ -218,10 +218,24 @@ fn named_answer(operation: &str, words: &[&str]) -> Option<String> {
         "solve" | "holds" => second.to_string(),
         "verdict" if *second == "clean" => second.to_string(),
         "verdict" => format!("{second} {}", words.get(2)?),
-        "replay" if *second != "none" => "broken".to_string(),
-        "replay" => second.to_string(),
+        "replay" => replay_name(words)?,
         "step" => format!("idle {}", words.last()?),
         _ => return None,
     };
     Some(format!("{operation} {named}"))
+}
+
+/// Whether the property was broken, and whether the counts of events and guards read are 0 or the same.
+fn replay_name(words: &[&str]) -> Option<String> {
+    let [_, step, events, guards] = words else {
+        return None;
+    };
+    let broken = if *step == "none" { "none" } else { "broken" };
+    let counts = match (*events, *guards) {
+        ("0", _) => "no event read",
+        (_, "0") => "events read, no guard",
+        (events, guards) if events == guards => "a guard read for every event",
+        _ => "more events read than guards",
+    };
+    Some(format!("{broken}, {counts}"))
 }

@@ -187,7 +187,10 @@ impl Served<'_> {
             (0..self.bound).map(|i| (list / movers.pow(i) % movers).to_string()).collect();
         let choices = if digits.is_empty() { "-".to_string() } else { digits.join(",") };
         let answer = self.ask("replay", &format!("{} {choices}", self.property))?;
-        Ok(answer != ["none"])
+        match &answer[..] {
+            [broken, _, _] => Ok(broken != "none"),
+            _ => Err(format!("replay replies: {answer:?}")),
+        }
     }
 }
 

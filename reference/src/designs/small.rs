@@ -25,6 +25,7 @@ pub fn all() -> Vec<(&'static str, Design)> {
         ("crossing-turns", crossing_turns()),
         ("vending", vending()),
         ("minus-three", minus_three()),
+        ("barrier", barrier()),
     ]
 }
 
@@ -328,6 +329,28 @@ pub fn minus_three() -> Design {
         cells: vec![normal((0, 0, 0), 0, None, action)],
         invariant: same(less(number(X), constant(0)), is(NEGATIVE)),
         constraint: Some(equal(next_number(X), next())),
+    }
+}
+
+/// A car park of one place, behind a barrier. A place shall stay free, but the guard lets a car take the last one. A run can meet a
+/// cell whose status does not stand, whose event is false, whose guard is false, and which has no guard.
+pub fn barrier() -> Design {
+    const CAR: u8 = 0;
+    const FREE: u8 = 1;
+    const DOWN: u8 = 0;
+    const UP: u8 = 1;
+    let is_free = || less(constant(0), number(FREE));
+    let take = assign_integer(FREE, minus(number(FREE), constant(1)));
+    Design {
+        variables: vec![external(), integer_from(1)],
+        matrices: vec![matrix(2, vec![is(CAR), not(is(CAR))])],
+        cells: vec![
+            normal((0, DOWN, 0), UP, Some(is_free()), vec![take]),
+            normal((0, UP, 0), UP, None, vec![assign(CAR, false)]),
+            normal((0, UP, 1), DOWN, None, vec![]),
+        ],
+        invariant: is_free(),
+        constraint: None,
     }
 }
 

@@ -1,6 +1,9 @@
 //! Requests for the operations on a design.
 
-use super::files::{any_design, any_file, design_to_encode, design_with_product, small_design};
+use super::choices::any_choices;
+use super::files::{
+    any_design, any_file, design_to_encode, design_to_replay, design_with_product, small_design,
+};
 use super::near::{
     affordable_bound, budget_near, exact_tries, formula_of, length_near, property_of, MAX_TRIES,
 };
@@ -45,7 +48,7 @@ pub fn holds(random: &mut Random) -> String {
 
 /// REPLAY and the Replay program take the same fields.
 pub fn replay(random: &mut Random, operation: &str) -> String {
-    let (design, mut file) = any_design(random);
+    let (design, mut file) = design_to_replay(random);
     if operation == "trace" && random.chance(1) {
         file.resize(random.pick(&[16_385, 16_386, 16_390]), 0);
     }
@@ -53,7 +56,7 @@ pub fn replay(random: &mut Random, operation: &str) -> String {
         "trace" => property_byte(random, &design),
         _ => any_property(random, &design),
     };
-    let choices = any_choices(random, design.movers().len());
+    let choices = any_choices(random, &design);
     format!("{operation} {} {property} {}", hex(&file), list_text(&choices))
 }
 
@@ -196,22 +199,6 @@ fn any_choice(random: &mut Random, movers: u64) -> u64 {
         8 => movers,
         _ => random.pick(&[movers + 1, 64, 255, 256, 1 << 32, u64::MAX]),
     }
-}
-
-fn any_choices(random: &mut Random, movers: usize) -> Vec<u8> {
-    let length = match random.below(20) {
-        0 => random.pick(&[99, 100, 101, 102, 255]),
-        1 => random.between(20, 60),
-        _ => random.between(0, 9),
-    };
-    let mut choices: Vec<u8> = (0..length).map(|_| random.below(movers) as u8).collect();
-    if !choices.is_empty() && random.chance(15) {
-        for _ in 0..random.between(1, 2) {
-            let at = random.below(choices.len());
-            choices[at] = random.pick(&[movers as u8 - 1, movers as u8, movers as u8 + 1, 255]);
-        }
-    }
-    choices
 }
 
 fn state_fields(random: &mut Random, design: &Design) -> String {

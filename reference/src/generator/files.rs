@@ -5,7 +5,8 @@ use super::faults;
 use super::limit::large_design;
 use super::products::product_design;
 use super::trees::{
-    any_plan, breakable, chain_design, crowded_plan, deep_plan, design, lengthen, tiny_plan, Plan,
+    any_plan, breakable, busy_plan, chain_design, crowded_plan, deep_plan, design, lengthen,
+    tiny_plan, Plan,
 };
 use crate::builder::file_bytes;
 use crate::design::{check, Design, MAX_FILE, MAX_MOVERS};
@@ -33,6 +34,18 @@ pub fn any_design(random: &mut Random) -> (Design, Vec<u8>) {
     }
     let plan = any_plan(random);
     let design = if random.chance(5) { any_known(random) } else { accepted(random, plan) };
+    let file = file_or_fault(random, &design);
+    (design, file)
+}
+
+/// Half of them have cells whose events and guards a run reads, and properties
+/// that break on the way.
+pub fn design_to_replay(random: &mut Random) -> (Design, Vec<u8>) {
+    if random.chance(50) {
+        return any_design(random);
+    }
+    let plan = busy_plan(random);
+    let design = breakable_design(random, plan);
     let file = file_or_fault(random, &design);
     (design, file)
 }
@@ -72,6 +85,11 @@ pub fn design_to_encode(random: &mut Random) -> (Design, Vec<u8>) {
 
 fn tiny_design(random: &mut Random) -> Design {
     let plan = tiny_plan(random);
+    breakable_design(random, plan)
+}
+
+/// A design whose properties a few steps may break, in most cases.
+fn breakable_design(random: &mut Random, plan: Plan) -> Design {
     let mut design = accepted(random, plan);
     if random.chance(60) {
         design.invariant = breakable(random, &design);

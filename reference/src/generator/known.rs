@@ -11,7 +11,7 @@ use crate::query::Query;
 use crate::random::Random;
 
 /// Small designs and the bounds up to which a verdict on them takes few tries.
-const VERDICTS: [(&str, u64); 15] = [
+const VERDICTS: [(&str, u64); 16] = [
     ("design-a.stm", 4),
     ("first-state.stm", 4),
     ("turnstile.stm", 4),
@@ -27,6 +27,7 @@ const VERDICTS: [(&str, u64); 15] = [
     ("crossing-turns.stm", 3),
     ("vending.stm", 1),
     ("minus-three.stm", 2),
+    ("barrier.stm", 3),
 ];
 
 fn design_for_verdict(random: &mut Random) -> (Design, u64) {

@@ -117,6 +117,24 @@ pub fn crowded_plan(random: &mut Random) -> Plan {
     }
 }
 
+/// Few statuses and some movers, so that a run meets every status and event.
+pub fn busy_plan(random: &mut Random) -> Plan {
+    Plan {
+        variables: random.between(2, 5),
+        integer_percent: 30,
+        matrices: random.between(1, 2),
+        statuses: random.between(2, 3),
+        events: random.between(1, 3),
+        movers: random.between(4, 12),
+        invalid: random.between(0, 2),
+        depth: random.between(1, 3),
+        statements: 2,
+        ifs: 1,
+        product_percent: random.pick(&[0, 20]),
+        constraint: random.chance(50),
+    }
+}
+
 pub fn any_plan(random: &mut Random) -> Plan {
     match random.below(10) {
         0..=4 => tiny_plan(random),

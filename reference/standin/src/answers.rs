@@ -64,9 +64,10 @@ pub fn stm_holds(
     code(Reference.holds(query, &state(values, statuses)), |found| *holds = [found as u8])
 }
 
-pub fn stm_replay(query: Query<[u8]>, choices: &[u8], answer: &mut [u64; 2]) -> u64 {
-    code(Reference.replay(query, choices), |broken| {
-        *answer = broken.map_or([0, 0], |step| [1, step]);
+pub fn stm_replay(query: Query<[u8]>, choices: &[u8], answer: &mut [u64; 4]) -> u64 {
+    code(Reference.replay(query, choices), |replayed| {
+        let (broken, step) = replayed.broken.map_or((0, 0), |step| (1, step));
+        *answer = [broken, step, replayed.events, replayed.guards];
     })
 }
 

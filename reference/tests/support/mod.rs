@@ -3,12 +3,12 @@
 #![allow(dead_code)]
 
 use reference::builder::file_bytes;
-use reference::design::{check, Boolean, Design, Integer};
+use reference::design::{check, Boolean, CellKind, Design, Integer, Mover, Refusal};
 use reference::formula::Formula;
 use reference::query::{Query, CONSTRAINT};
 use reference::random::Random;
 use reference::search::{solve, Outcome, Solved};
-use reference::step::{holds, start, step, State};
+use reference::step::{holds, start, step, Replayed, State};
 use reference::verdict::{verdict, Lent, Verdict};
 use std::collections::HashSet;
 
@@ -27,14 +27,10 @@ pub fn all_lists(movers: usize, length: usize) -> Vec<Vec<u8>> {
 
 /// Whether a list breaks the property, step by step.
 pub fn breaks(design: &Design, property: u64, choices: &[u8]) -> bool {
-    let mut state = start(design);
-    let mut broken = property != CONSTRAINT && bad_step(design, property, &state, &state);
-    for &choice in choices {
-        let after = step(design, &state, choice as u64).unwrap().state;
-        broken |= bad_step(design, property, &state, &after);
-        state = after;
-    }
-    broken
+    let states = states_of(design, choices);
+    let bad = |before: &State, after: &State| bad_step(design, property, before, after);
+    property != CONSTRAINT && bad(&states[0], &states[0])
+        || states.windows(2).any(|pair| bad(&pair[0], &pair[1]))
 }
 
 /// Whether the property is false of a step's two states.
@@ -42,6 +38,50 @@ fn bad_step(design: &Design, property: u64, before: &State, after: &State) -> bo
     match &design.constraint {
         Some(constraint) if property == CONSTRAINT => !says(constraint, before, after),
         _ => !holds(Query::new(design, property), after).unwrap(),
+    }
+}
+
+/// What REPLAY answers.
+pub fn replayed(broken: Option<u64>, events: u64, guards: u64) -> Result<Replayed, Refusal> {
+    Ok(Replayed { broken, events, guards })
+}
+
+/// What is true of a normal cell in a state. A cell without a guard has none to
+/// be true or false.
+pub struct Tested {
+    pub status: bool,
+    pub event: bool,
+    pub guard: Option<bool>,
+}
+
+/// The first state, and the state after each choice, by STEP.
+pub fn states_of(design: &Design, choices: &[u8]) -> Vec<State> {
+    let mut states = vec![start(design)];
+    for (i, &choice) in choices.iter().enumerate() {
+        states.push(step(design, &states[i], choice as u64).unwrap().state);
+    }
+    states
+}
+
+/// What is true of each choice in the state of the same index; `None` for an
+/// external.
+pub fn tested(design: &Design, choices: &[u8], states: &[State]) -> Vec<Option<Tested>> {
+    let movers = design.movers();
+    let tested_choice = |(&choice, state): (&u8, &State)| match movers[choice as usize] {
+        Mover::Cell(i) => Some(tested_cell(design, i, state)),
+        Mover::External(_) => None,
+    };
+    choices.iter().zip(states).map(tested_choice).collect()
+}
+
+fn tested_cell(design: &Design, index: usize, state: &State) -> Tested {
+    let cell = &design.cells[index];
+    let CellKind::Normal { guard, .. } = &cell.kind else { panic!("no mover") };
+    let event = &design.matrices[cell.matrix as usize].events[cell.event as usize];
+    Tested {
+        status: state.statuses[cell.matrix as usize] == cell.status,
+        event: says(event, state, state),
+        guard: guard.as_ref().map(|g| says(g, state, state)),
     }
 }
 

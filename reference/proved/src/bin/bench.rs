@@ -5,13 +5,14 @@ use proved::timing::{make, note, report, seconds};
 use proved::Proved;
 use reference::builder::file_bytes;
 use reference::design::{Boolean, Design, Integer, MAX_MOVERS};
-use reference::designs::{all_files, design_a, money_changer, Property, Version};
+use reference::designs::{all_files, design_a, long_tests, money_changer, Property, Version};
 use reference::formula::Formula;
 use reference::generator::trees::{crowded_plan, design, Plan};
 use reference::operations::{Answer, Operations, Reference};
 use reference::query::{Query, CONSTRAINT, INVARIANT, MAX_BOUND};
 use reference::random::Random;
 use reference::search::Solved;
+use reference::step::{replay_by, Replayed, Tests};
 use std::hint::black_box;
 use std::process::{Command, Stdio};
 use std::time::Instant;
@@ -22,19 +23,64 @@ fn check(name: &str, design: &[u8]) {
     report(&format!("CHECK {name}"), proved, reference);
 }
 
-/// REPLAY of as many choices as it takes; a list that breaks nothing, so that no side may stop early.
-fn replay(name: &str, design: &Design, property: u64) {
-    let file = file_bytes(design);
-    let movers = design.movers().len();
+/// As many choices as REPLAY takes.
+fn choices_of(design: &Design) -> Vec<u8> {
     let mut random = Random::new(1);
-    let choices: Vec<u8> = (0..MAX_BOUND).map(|_| random.below(movers) as u8).collect();
+    let movers = design.movers().len();
+    (0..MAX_BOUND).map(|_| random.below(movers) as u8).collect()
+}
+
+/// What both sides answer for a list that breaks nothing, so that the property is judged at every step.
+fn unbroken(query: Query<[u8]>, choices: &[u8]) -> Replayed {
+    let Answer::Done(replayed) = Proved.replay(query, choices) else {
+        panic!("REPLAY refused a run");
+    };
+    assert_eq!(Reference.replay(query, choices), Answer::Done(replayed));
+    assert_eq!(replayed.broken, None);
+    replayed
+}
+
+fn replay(name: &str, design: &Design, property: u64) {
+    let (file, choices) = (file_bytes(design), choices_of(design));
     let query = Query::new(&file[..], property);
-    assert_eq!(Proved.replay(query, &choices), Answer::Done(None));
+    unbroken(query, &choices);
     let [proved, reference] = seconds([
         &mut || make(Proved.replay(black_box(query), black_box(&choices))),
         &mut || make(Reference.replay(black_box(query), black_box(&choices))),
     ]);
     report(&format!("REPLAY {name}, {MAX_BOUND} choices"), proved, reference);
+}
+
+/// REPLAY where most statuses do not stand, beside a second implementation that makes every test of a chosen cell, and beside one
+/// that leaves off, too. A call is CHECK and the run. The reference's run is timed alone; the proved one is what CHECK leaves of the
+/// call.
+fn replay_long_tests() {
+    let design = long_tests();
+    let (file, choices) = (file_bytes(&design), choices_of(&design));
+    let query = Query::new(&file[..], INVARIANT);
+    let Replayed { events, guards, .. } = unbroken(query, &choices);
+    let call = |tests| black_box(query).checked(|q| replay_by(q, black_box(&choices), tests));
+    let run = |tests| replay_by(black_box(Query::new(&design, INVARIANT)), black_box(&choices), tests);
+    let [proved, proved_check, check, all, all_run, leaving_off, leaving_off_run] = seconds([
+        &mut || make(Proved.replay(black_box(query), black_box(&choices))),
+        &mut || make(Proved.check(black_box(&file))),
+        &mut || make(Reference.check(black_box(&file))),
+        &mut || make(call(Tests::All)),
+        &mut || make(run(Tests::All)),
+        &mut || make(call(Tests::UpToFailure)),
+        &mut || make(run(Tests::UpToFailure)),
+    ]);
+    for (beside, reference, reference_run) in [("all tests", all, all_run), ("leaving off", leaving_off, leaving_off_run)] {
+        report(&format!("REPLAY long-tests, {MAX_BOUND} choices, beside {beside}"), proved, reference);
+        note(&format!("of which CHECK: {}", both(proved_check, check)));
+        note(&format!("and the run: {}", both(proved - proved_check, reference_run)));
+    }
+    note(&format!("events read {events}, guards read {guards}"));
+}
+
+/// The times of a part of a job.
+fn both(proved: f64, reference: f64) -> String {
+    format!("proved {:.2} us, reference {:.2} us", proved * 1e6, reference * 1e6)
 }
 
 /// A design of the most movers, whose invariant nothing breaks.
@@ -118,6 +164,7 @@ fn main() {
     replay("money-changer, revised", &money_changer(Version::Revised, Property::Uic1), INVARIANT);
     replay("money-changer, revised, DYN", &money_changer(Version::Revised, Property::Dyn), CONSTRAINT);
     replay("64 movers", &crowded(), INVARIANT);
+    replay_long_tests();
     for bound in 1..=6 {
         solve("design-a", &design_a(), bound);
     }

@@ -1,27 +1,26 @@
-use native.Mathlib.Omega.{arith}
-use Prim.Native.Nat.{ℕ, _+_}
-use mathlib.Core.Path.{refl, ap, ap₂}
 use borrow.Author.Tests.{not-true, not-false}
 use Rattle.design.proofs.Indexed.{normal-fields}
-use Rattle.step.proofs.Cells.{sizes, kinds, in-range, idle-event, idle-guard, action-reads, moved-cell}
+use Rattle.step.proofs.Cells.{status-fails, event-fails, guard-fails, cell-moves}
 use borrow.Author.Needs.{needs}
 use Rattle.step.proofs.mover.move_cell.Statement.{statement}
 use Rattle.step.proofs.mover.move_cell.Tie as tie
 
-status-and-event-requires : tie.Need-status-and-event-requires
-status-and-event-requires c κs =
+status-stands-requires : tie.Need-status-stands-requires
+status-stands-requires c κs =
     let entry = c .before .before .before in
-    (entry .pre .0, normal-fields _ _ _ (entry .pre .0 .indexed) _ (entry .pre .1))
+    ((_, entry .pre .0), normal-fields _ _ _ (entry .pre .0 .indexed) _ (entry .pre .1))
 
 same-length : tie.Need-same-length
 same-length c = search needs
 
 returns : tie.Need-returns
 returns c =
-    λ x. idle-event _ _ _ _ (c .before .before .before .before .before .pre .0) _ x _ (c .before .status-and-event .ensures) (not-true _ (c .if1 .taken))
+    λ x. status-fails _ _ _ _ (c .before .before .before .before .before .pre .0) _ x _ (c .before .status-stands .ensures) (not-true _ (c .if1 .taken))
 
-guard-true-requires : tie.Need-guard-true-requires
-guard-true-requires c κs = search needs
+cell-event-requires : tie.Need-cell-event-requires
+cell-event-requires c κs =
+    let entry = c .before .before .before .before .before .before in
+    (entry .pre .0, normal-fields _ _ _ (entry .pre .0 .indexed) _ (entry .pre .1))
 
 same-length-2 : tie.Need-same-length-2
 same-length-2 c = search needs
@@ -29,146 +28,52 @@ same-length-2 c = search needs
 returns-2 : tie.Need-returns-2
 returns-2 c =
     let entry = c .before .before .before .before .before .before .before .before in
-    λ x. idle-guard _ _ _ _ (entry .pre .0) _ x _ _ (c .before .before .before .before .status-and-event .ensures) (not-false _ (c .before .before .before
-    .if1 .left)) (c .before .guard-true .ensures x) (not-true _ (c .if2 .taken))
+    λ x. event-fails _ _ _ _ (entry .pre .0) _ x _ (c .before .before .before .before .status-stands .ensures) (not-false _ (c .before .before .before
+    .if1 .left)) _ (c .before .cell-event .ensures) (not-true _ (c .if2 .taken))
 
-add-middle : tie.Need-add-middle
-add-middle c = search needs
-
-add-wide : tie.Need-add-wide
-add-wide c = search needs
-
-shared-slice-read-wide : tie.Need-shared-slice-read-wide
-shared-slice-read-wide c = search needs
-
-wide-requires : tie.Need-wide-requires
-wide-requires c κs = search needs
-
-add-middle-2 : tie.Need-add-middle-2
-add-middle-2 c = search needs
-
-add-word : tie.Need-add-word
-add-word c = search needs
-
-word-requires : tie.Need-word-requires
-word-requires c κs = search needs
-
-add-past : tie.Need-add-past
-add-past c = search needs
-
-run-list-requires : tie.Need-run-list-requires
-run-list-requires c κs =
-    let entry = c .before .before .before .before .before .before .before .before .before .before .before .before in (
-      action-reads _ _ _ _ (entry .pre .0) _ (entry .pre .1) _ _ (ap (λ (k : ℕ). entry .args .p + 8 + k) (c .before .before .wide .ensures .0)) (ap₂ (λ (k
-          j : ℕ). entry .args .p + 8 + k + j) (c .before .before .wide .ensures .0) (c .before .word .ensures .0)),
-      omega (
-        arith,
-        c .before .before
-            .wide .ensures .0,
-        c .before .word .ensures .0,
-        normal-fields _ _ _ (entry .pre .0 .indexed) _ (entry .pre .1) .past,
-        sizes _ _ _ _ (entry
-            .pre .0),
-      ),
-      kinds _ _ _ _ (entry .pre .0),
-      omega (arith, entry .pre .0 .size),
-    )
-
-shared-slice-read-wide-2 : tie.Need-shared-slice-read-wide-2
-shared-slice-read-wide-2 c = search needs
-
-wide-requires-2 : tie.Need-wide-requires-2
-wide-requires-2 c κs = search needs
-
-add-slots : tie.Need-add-slots
-add-slots c = search needs
-
-shared-slice-read-slots : tie.Need-shared-slice-read-slots
-shared-slice-read-slots c = search needs
-
-cast-slots : tie.Need-cast-slots
-cast-slots c =
-    let entry = c .before .before .before .before .before .before .before .before .before .before .before .before .before .before .before .before .before .before in
-    omega (arith, c .shared-slice-known4 .given (entry .args .p + 4))
-
-add-slots-2 : tie.Need-add-slots-2
-add-slots-2 c =
-    let entry = c .before .before .before .before .before .before .before .before .before .before .before .before .before .before .before .before .before .before .before in
-    omega (
-      arith,
-      in-range _ _ _ _ (entry .pre .0) _ _ _ _ (c .before .before .wide2 .ensures .0) refl refl (normal-fields _ _ _ (entry .pre .0 .indexed)
-          _ (entry .pre .1)) .0,
-      sizes _ _ _ _ (entry .pre .0),
-      entry .pre .0 .size,
-    )
-
-mul-slots : tie.Need-mul-slots
-mul-slots c =
-    let entry = c .before .before .before .before .before .before .before .before .before .before .before .before .before .before .before .before .before .before .before in
-    omega (
-      arith,
-      in-range _ _ _ _ (entry .pre .0) _ _ _ _ (c .before .before .wide2 .ensures .0) refl refl (normal-fields _ _ _ (entry .pre .0 .indexed)
-          _ (entry .pre .1)) .0,
-      sizes _ _ _ _ (entry .pre .0),
-      entry .pre .0 .size,
-      c .before .before .before .before .before .slots .given,
-    )
-
-slice-write-slots : tie.Need-slice-write-slots
-slice-write-slots c =
-    let entry = c .before .before .before .before .before .before .before .before .before .before .before .before .before .before .before .before .before .before .before in
-    omega (
-      arith,
-      in-range _ _ _ _ (entry .pre .0) _ _ _ _ (c .before .before .wide2 .ensures .0) refl refl (normal-fields _ _ _ (entry .pre .0 .indexed)
-          _ (entry .pre .1)) .0,
-      sizes _ _ _ _ (entry .pre .0),
-      entry .pre .0 .size,
-      c .before .before .before .before .before .slots .given,
-    )
+guard-true-requires : tie.Need-guard-true-requires
+guard-true-requires c κs = search needs
 
 same-length-3 : tie.Need-same-length-3
 same-length-3 c = search needs
 
 returns-3 : tie.Need-returns-3
 returns-3 c =
-    let at-word = c .before .before .before .before .before .before .before .before in
-    let at-wide = at-word .before in
-    let at-if2 = at-wide .before .before in
-    let at-guard-true = at-if2 .before in
-    let at-if1 = at-guard-true .before .before in
-    let at-status-and-event = at-if1 .before in
-    let entry = at-status-and-event .before .before .before .before in
-    λ x. moved-cell _ _ _ _ (entry .pre .0) _ x _ _ (at-status-and-event .status-and-event .ensures) (not-false _ (at-if1 .if1 .left)) (at-guard-true
-    .guard-true .ensures x) (not-false _ (at-if2 .if2 .left)) _ _ (ap (λ (k : ℕ). entry .args .p + 8 + k) (at-wide .wide .ensures .0)) (ap₂ (λ (k
-    j : ℕ). entry .args .p + 8 + k + j) (at-wide .wide .ensures .0) (at-word .word .ensures .0)) _ (c .before .before .before .before .before
-    .before .run-list .ensures .0) _ _ (c .before .before .wide2 .ensures .0) refl
+    let entry = c .before .before .before .before .before .before .before .before .before .before .before in
+    λ x. guard-fails _ _ _ _ (entry .pre .0) _ x _ (c .before .before .before .before .before .before .before .status-stands .ensures) (not-false _ (c
+    .before .before .before .before .before .before .if1 .left)) _ (c .before .before .before .before .cell-event .ensures) (not-false _ (c
+    .before .before .before .if2 .left)) _ (c .before .guard-true .ensures x) (not-true _ (c .if3 .taken))
+
+act-cell-requires : tie.Need-act-cell-requires
+act-cell-requires c κs = search needs
+
+same-length-4 : tie.Need-same-length-4
+same-length-4 c = search needs
+
+returns-4 : tie.Need-returns-4
+returns-4 c =
+    let at-cell-event = c .before .before .before .before .before .before .before .before in
+    let at-if1 = at-cell-event .before .before in
+    let at-status-stands = at-if1 .before in
+    let entry = at-status-stands .before .before .before .before in
+    λ x. cell-moves _ _ _ _ (entry .pre .0) _ x _ (at-status-stands .status-stands .ensures) (not-false _ (at-if1 .if1 .left)) _ (at-cell-event
+    .cell-event .ensures) (not-false _ (c .before .before .before .before .before .before .before .if2 .left)) _ (c .before .before .before
+    .before .before .guard-true .ensures x) (not-false _ (c .before .before .before .before .if3 .left)) _ (c .before .before .act-cell .ensures
+    x)
 
 pub move-cell-spec : {M : Type 1} → statement M
 move-cell-spec =
     tie.close
     (tie.spec
-    status-and-event-requires
+    status-stands-requires
     same-length
     returns
-    guard-true-requires
+    cell-event-requires
     same-length-2
     returns-2
-    add-middle
-    add-wide
-    shared-slice-read-wide
-    wide-requires
-    add-middle-2
-    add-word
-    word-requires
-    add-past
-    run-list-requires
-    shared-slice-read-wide-2
-    wide-requires-2
-    add-slots
-    shared-slice-read-slots
-    cast-slots
-    add-slots-2
-    mul-slots
-    slice-write-slots
+    guard-true-requires
     same-length-3
-    returns-3)
+    returns-3
+    act-cell-requires
+    same-length-4
+    returns-4)

@@ -1,12 +1,11 @@
 use native.Mathlib.Omega.{arith}
 use mathlib.Core.Path.{ap, _∙_}
-use mathlib.Core.Option.{none}
 use lib.ListN.{drop}
 use Rattle.design.specs.State.{State, slotCount}
 use Rattle.design.specs.Answer.{answer}
 use Rattle.design.proofs.Indexed.{sized}
 use Rattle.step.specs.Property.{propertyOf}
-use Rattle.step.specs.Operations.{firstBreak, replayed}
+use Rattle.step.specs.Operations.{runTold, replayed}
 use Rattle.step.proofs.Pairs.{part-is, put-second}
 use Rattle.step.proofs.Replays.{drop-replicate, replayable-same}
 use borrow.Author.Needs.{needs}
@@ -40,8 +39,8 @@ load-start-requires c κs =
           (entry .args .shape)) 0,
     )
 
-first-break-requires : tie.Need-first-break-requires
-first-break-requires c κs =
+replay-choices-requires : tie.Need-replay-choices-requires
+replay-choices-requires c κs =
     let entry = c .before .before .before .before .before .before .before .before .before in
     replayable-same _ _ _ _ _ _ _ (omega (arith, c .before .before .pair .given)) (entry .pre .0)
 
@@ -53,8 +52,8 @@ returns c =
     let at-load-start = c .before .before .before .before .before .before in
     let at-slot-count = at-load-start .before .before in
     let entry = at-slot-count .before .before .before .before in
-    λ d e. c .before .before .first-break .ensures d e
-    ∙ ap (λ (s : State). replayed (answer (firstBreak d (propertyOf d (entry .args .property)) none s (entry .args .choices .now) 0)))
+    λ d e. c .before .before .replay-choices .ensures d e
+    ∙ ap (λ (s : State). replayed (answer (runTold d (propertyOf d (entry .args .property)) s (entry .args .choices .now))))
     (put-second _ (entry .args .pair .now) (entry .pre .0 .ready .size) _ (at-slot-count .slot-count .ensures .0) _
     ∙ at-load-start .load-start .ensures d e)
 
@@ -68,6 +67,6 @@ replay-slots-spec =
     part-load-start-start
     part-load-start-end
     load-start-requires
-    first-break-requires
+    replay-choices-requires
     same-length
     returns)
