@@ -124,7 +124,7 @@ counted-end d test s₀ cs now i k g l =
 
 -- What the walk has in its variables by step i of the run from s₀, `before` and `now` being the states before and at i: whether the property broke, the step, and the counts.
 -- The run's first break is the one that it has, or the first from i on.
-pub record Walked (d : Design) (q : Property) (s₀ : State) (cs : List ℕ) (before : Option State) (now : State) (i : ℕ) (broken : Bool) (at e k : ℕ) : Type 0 where
+pub record SoFar (d : Design) (q : Property) (s₀ : State) (cs : List ℕ) (before : Option State) (now : State) (i : ℕ) (broken : Bool) (at e k : ℕ) : Type 0 where
   pub breaks : firstBreak d q none s₀ cs 0 ≡ cond broken (some at) (firstBreak d q before now (drop i cs) i)
   pub unbroken : broken ≡ false → at ≡ 0
   pub events : Counted d (eventReadBy d) s₀ cs now i e
@@ -153,15 +153,15 @@ told-is : (broken : Bool) (at events guards : ℕ) (o : Option ℕ) → (broken 
 told-is true at events guards o u f = ap (λ (z : Option ℕ). replayed (answer (z, events, guards))) (sym f)
 told-is false at events guards o u f = ap (λ (k : ℕ). replayTold false k events guards) (u refl) ∙ ap (λ (z : Option ℕ). replayed (answer (z, events, guards))) (sym f)
 
-module _ (d : Design) (q : Property) (s₀ : State) (cs : List ℕ) (before : Option State) (now : State) (i : ℕ) (was : Bool) (at events guards : ℕ) (g : Walked d q s₀ cs before now i was at events guards)
+module _ (d : Design) (q : Property) (s₀ : State) (cs : List ℕ) (before : Option State) (now : State) (i : ℕ) (was : Bool) (at events guards : ℕ) (g : SoFar d q s₀ cs before now i was at events guards)
     (broken : Bool) (at′ : ℕ) (h : broken ≡ (was || not (trueAt d q before now))) (f : at′ ≡ cond was at (cond broken i at)) where
   abbrev holds : Bool
   holds = trueAt d q before now
 
   -- a choice: the property is judged in the state that it acts on, and it is counted by what was read
-  walked-on : i < length cs → Walked d q s₀ cs (some now) (step d now (getD cs i 0)) (suc i) broken at′ (events + bit (eventReadBy d now (getD cs i 0))) (guards + bit (guardReadBy d now (getD cs i 0)))
+  so-far-on : i < length cs → SoFar d q s₀ cs (some now) (step d now (getD cs i 0)) (suc i) broken at′ (events + bit (eventReadBy d now (getD cs i 0))) (guards + bit (guardReadBy d now (getD cs i 0)))
   unfolding firstBreak
-  walked-on l = record {
+  so-far-on l = record {
     breaks = g .breaks ∙ ap (λ (xs : List ℕ). cond was (some at) (firstBreak d q before now xs i)) (drop-cons cs i 0 l)
         ∙ first-judged was holds at i broken at′ h f (firstBreak d q (some now) (step d now (getD cs i 0)) (drop (suc i) cs) (suc i));
     unbroken = still-unbroken was holds at i broken at′ h f (g .unbroken);
@@ -169,9 +169,9 @@ module _ (d : Design) (q : Property) (s₀ : State) (cs : List ℕ) (before : Op
     guards = counted-on d (guardReadBy d) s₀ cs now i guards (g .guards) l;
   }
 
-  walked-end : length cs ≤ i → replayTold broken at′ events guards ≡ replayed (answer (runTold d q s₀ cs))
+  so-far-end : length cs ≤ i → replayTold broken at′ events guards ≡ replayed (answer (runTold d q s₀ cs))
   unfolding firstBreak
-  walked-end l =
+  so-far-end l =
       told-is broken at′ events guards (firstBreak d q none s₀ cs 0) (still-unbroken was holds at i broken at′ h f (g .unbroken))
       (g .breaks ∙ ap (λ (xs : List ℕ). cond was (some at) (firstBreak d q before now xs i)) (drop-of-length-le cs l) ∙ first-judged was holds at i broken at′ h f none)
       ∙ ap₂ (λ (e k : ℕ). replayed (answer (firstBreak d q none s₀ cs 0, e, k)))
@@ -181,13 +181,13 @@ module _ (d : Design) (q : Property) (s₀ : State) (cs : List ℕ) (before : Op
 pub record Replaying (file : List ℕ) (p n : ℕ) (cs : List ℕ) (pair₀ : State) (i : ℕ) (pair : State) (broken : Bool) (at events guards : ℕ) : Type 0 where
   pub inside : i ≤ length cs
   pub size : length pair ≡ length pair₀
-  pub walked : (d : Design) → check file ≡ accepted d → Walked d (propertyOf d p) (drop n pair₀) cs (beforeIn (eqb i 0) n pair) (drop n pair) i broken at events guards
+  pub so-far : (d : Design) → check file ≡ accepted d → SoFar d (propertyOf d p) (drop n pair₀) cs (beforeIn (eqb i 0) n pair) (drop n pair) i broken at events guards
 
 pub replaying-start : (file : List ℕ) (p n : ℕ) (cs : List ℕ) (pair : State) → Replaying file p n cs pair 0 pair false 0 0 0
 replaying-start file p n cs pair = record {
   inside = omega arith;
   size = refl;
-  walked = λ d e. record { breaks = refl; unbroken = λ u. refl; events = record { same = omega arith; few = omega arith }; guards = record { same = omega arith; few = omega arith } };
+  so-far = λ d e. record { breaks = refl; unbroken = λ u. refl; events = record { same = omega arith; few = omega arith }; guards = record { same = omega arith; few = omega arith } };
 }
 
 -- the counts stay below the bound while choices are left
@@ -195,7 +195,7 @@ pub replaying-few : (file : List ℕ) (p n : ℕ) (cs : List ℕ) (pair₀ : Sta
     → Accepted file → i < length cs → length cs ≤ maxBound → (events < maxBound) × (guards < maxBound)
 replaying-few file p n cs pair₀ i pair broken at events guards g a l b =
     let t = read file a in
-    let w = g .walked (t .tree) (t .is) in
+    let w = g .so-far (t .tree) (t .is) in
     (omega (arith, w .events .few), omega (arith, w .guards .few))
 
 -- `broken` and `at′` are the walk's first two variables with step i judged
@@ -218,7 +218,7 @@ module _ (file : List ℕ) (p n : ℕ) (cs : List ℕ) (pair₀ : State) (i : �
   replaying-on l long c q keep kp pair′ t m next e k u v = rw (add-one i) (record {
     inside = omega arith;
     size = m ∙ g .size;
-    walked = λ d a.
+    so-far = λ d a.
         let q′ = propertyOf d p in
         let s₀ = drop n pair₀ in
         let front : length (keptIn keep n pair) ≡ n = front-long n pair (g .size ∙ long) keep in
@@ -229,8 +229,8 @@ module _ (file : List ℕ) (p n : ℕ) (cs : List ℕ) (pair₀ : State) (i : �
         ∙ ap some (ap (take n) (r .0) ∙ take-at (keptIn keep n pair) s n front) in
         let read : e ≡ events + bit (eventReadBy d now c) = u ∙ ap (λ (x : Tested). events + bit (x .event)) (r .1) in
         let guarded : k ≡ guards + bit (guardReadBy d now c) = v ∙ ap (λ (x : Tested). guards + bit (x .guard)) (r .1) in
-        let w = subst (λ (j : ℕ). Walked d q′ s₀ cs (some now) (step d now j) (suc i) broken at′ (events + bit (eventReadBy d now j)) (guards + bit (guardReadBy d now j))) (sym q)
-        (walked-on d q′ s₀ cs (beforeIn (eqb i 0) n pair) now i was at events guards (g .walked d a) broken at′ (h d (whole file d a .parts)) f l) in
+        let w = subst (λ (j : ℕ). SoFar d q′ s₀ cs (some now) (step d now j) (suc i) broken at′ (events + bit (eventReadBy d now j)) (guards + bit (guardReadBy d now j))) (sym q)
+        (so-far-on d q′ s₀ cs (beforeIn (eqb i 0) n pair) now i was at events guards (g .so-far d a) broken at′ (h d (whole file d a .parts)) f l) in
         rw first (rw second (rw read (rw guarded (record {
           breaks = w .breaks ∙ ap (cond broken (some at′)) (kept-break d keep kp s (drop (suc i) cs) (suc i));
           unbroken = w .unbroken;
@@ -241,7 +241,7 @@ module _ (file : List ℕ) (p n : ℕ) (cs : List ℕ) (pair₀ : State) (i : �
 
   pub replaying-end : length cs ≤ i → (d : Design) → check file ≡ accepted d → replayTold broken at′ events guards ≡ replayed (answer (runTold d (propertyOf d p) (drop n pair₀) cs))
   replaying-end l d e =
-      walked-end d (propertyOf d p) (drop n pair₀) cs (beforeIn (eqb i 0) n pair) now i was at events guards (g .walked d e) broken at′ (h d (whole file d e .parts)) f l
+      so-far-end d (propertyOf d p) (drop n pair₀) cs (beforeIn (eqb i 0) n pair) now i was at events guards (g .so-far d e) broken at′ (h d (whole file d e .parts)) f l
 
 -- a step is broken because one before it was, or because the property is false there
 pub broken-before : (was now : Bool) → was ≡ true → true ≡ (was || now)
