@@ -67,8 +67,8 @@ build/printer:
 	@rt check printer > build/printer.log 2>&1 || { tail -n 20 build/printer.log; exit 1; }
 	@cp target/bin/printer $@
 
-# serve-proved runs the Replay program that stands beside it
-build/serve-proved: archive build/replay
+# serve-proved runs the Replay program and, where a piece is lent, the stm that stand beside it
+build/serve-proved: archive build/replay build/stm
 	@$(CARGO) build --release --manifest-path reference/proved/Cargo.toml --bin serve-proved
 	@cp $(CARGO_TARGET_DIR)/release/serve-proved $@
 

@@ -11,11 +11,14 @@
 /* Exit statuses. */
 enum { CLEAN = 0, REFUSED = 2, VIOLATED = 10, SPENT = 20 };
 
-/* A design file is at most 16,384 bytes; one byte more is read, so that a longer one is seen to be too long. */
+/* A design file and a piece are at most 16,384 bytes; one byte more is read, so that a longer one is seen to be too long. */
 enum { MAX_READ = 16385, MAX_CHOICES = 100 };
 
-/* A variable's kind in the file, a property, and an answer of SOLVE. */
-enum { INTEGER = 1, CONSTRAINT = 2, UNSAT = 1 };
+/* A variable's kind in the file, two properties, and an answer of SOLVE. */
+enum { INTEGER = 1, INVARIANT = 0, CONSTRAINT = 2, UNSAT = 1 };
+
+/* Refusal 8 at place 0: no item with an expression stands there in a design, so it is the piece's. */
+enum { BAD_PIECE = 8 };
 
 /* State bits of an integer and of a status; a Boolean has one. */
 enum { INTEGER_BITS = 16, STATUS_BITS = 4 };
@@ -26,6 +29,7 @@ static const char USAGE[] =
     "       stm size FILE PROPERTY BOUND\n"
     "       stm cnf FILE PROPERTY BOUND\n"
     "       stm verdict FILE PROPERTY BOUND [BUDGET]\n"
+    "       --piece PIECEFILE, anywhere after FILE but for check: its expression is property 0 in the invariant's place\n"
     "property: 0 the invariant, 1 no invalid cell is met, 2 the constraint of a design of version 2\n"
     "replay: the run, whether it breaks the property, and how many events and guards of the chosen cells were read\n"
     "exit status: 0 clean or done, 10 violated, 20 budget spent, 2 refused or misused";
@@ -59,7 +63,9 @@ static const char *meaning(unsigned number)
 
 static int refuse(uint64_t code)
 {
-    printf("refused %u at %" PRIu64 ": %s\n", STM_NUMBER(code), STM_PLACE(code), meaning(STM_NUMBER(code)));
+    const char *text = code == BAD_PIECE ? "the piece is no Boolean expression over the design, or is over 16,384 bytes"
+                                         : meaning(STM_NUMBER(code));
+    printf("refused %u at %" PRIu64 ": %s\n", STM_NUMBER(code), STM_PLACE(code), text);
     return REFUSED;
 }
 
@@ -79,6 +85,8 @@ static int misuse_file(const char *message, const char *path)
 struct job {
     uint8_t design[MAX_READ];
     size_t len;
+    uint8_t piece[MAX_READ];
+    size_t piece_len;
     uint64_t property;
     uint64_t bound;
     uint64_t budget;
@@ -86,13 +94,13 @@ struct job {
     size_t choices_len;
 };
 
-/* Reads a design file; 0 where it can be read. */
-static int read_design(const char *path, struct job *j)
+/* Reads a design file or a piece; 0 where it can be read. */
+static int read_file(const char *path, uint8_t bytes[MAX_READ], size_t *len)
 {
     FILE *f = fopen(path, "rb");
     if (!f)
         return misuse_file("cannot open", path);
-    j->len = fread(j->design, 1, MAX_READ, f);
+    *len = fread(bytes, 1, MAX_READ, f);
     int failed = ferror(f) ? misuse_file("cannot read", path) : 0;
     fclose(f);
     return failed;
@@ -230,31 +238,37 @@ static void start_from(const struct job *j, const struct state *s, int32_t *clau
         unit = put_bits(clauses, unit, s->statuses[m], STATUS_BITS);
 }
 
-/* Parts 0 to 3, which are the formula for bound 1, then the unit clause of a choice's flag. */
-static void put_step(const struct job *j, const uint64_t sizes[SIZE_LEN], uint8_t choice, int32_t *clauses)
+/* The words of a choice's unit clause. */
+enum { FLAG_WORDS = 2 };
+
+/* All parts of the formula for bound 0 or 1, which has one choice: then also the unit clause of its flag. Answers the words. */
+static size_t put_formula(const struct job *j, const uint64_t sizes[SIZE_LEN], uint64_t bound, uint8_t choice, int32_t *clauses)
 {
     size_t at = 0, len = (size_t)sizes[SIZE_WORDS];
-    for (uint64_t part = 0; part <= 3; part++) {
+    for (uint64_t part = 0; part <= bound + 2; part++) {
         uint64_t count[1] = {0};
-        stm_encode(j->design, j->len, j->property, 1, part, clauses + at, len - at, count);
+        stm_encode(j->design, j->len, j->piece, j->piece_len, j->property, bound, part, clauses + at, len - at, count);
         at += (size_t)count[0];
     }
+    if (bound == 0)
+        return at;
     clauses[at] = (int32_t)(2 + sizes[SIZE_STATE] + sizes[SIZE_PROPERTY] + choice);
     clauses[at + 1] = 0;
+    return at + FLAG_WORDS;
 }
 
-/* Whether the property holds after a choice in this state, for a property of two states: the formula for bound 1 from this state
- * and with this choice leaves nothing to try, and is satisfiable where the step breaks the property. Less than 0 where there is no
- * memory. */
-static int step_holds(const struct job *j, const struct state *s, uint8_t choice)
+/* Whether the property holds, where HOLDS does not tell: in this state at bound 0, after a choice in this state at bound 1. The
+ * formula from this state and with this choice leaves nothing to try, and is satisfiable where the property breaks. Less than 0
+ * where there is no memory. */
+static int formula_holds(const struct job *j, const struct state *s, uint64_t bound, uint8_t choice)
 {
     uint64_t sizes[SIZE_LEN] = {0}, answer[2] = {0};
     struct memory m;
     int holds = -1;
-    stm_size(j->design, j->len, j->property, 1, sizes);
-    size_t words = (size_t)sizes[SIZE_WORDS] + 2, n = (size_t)sizes[SIZE_VARIABLES];
-    if (!take(&m, words, n)) {
-        put_step(j, sizes, choice, m.clauses);
+    stm_size(j->design, j->len, j->piece, j->piece_len, j->property, bound, sizes);
+    size_t n = (size_t)sizes[SIZE_VARIABLES];
+    if (!take(&m, sizes[SIZE_WORDS] + FLAG_WORDS, n)) {
+        size_t words = put_formula(j, sizes, bound, choice, m.clauses);
         start_from(j, s, m.clauses);
         stm_solve(n, m.clauses, words, m.values, n, m.trail, n, 0, answer);
         holds = answer[0] == UNSAT;
@@ -287,20 +301,31 @@ static void print_state(const struct job *j, size_t step, const struct state *s,
     printf("\n");
 }
 
-/* The run of choices that REPLAY accepts, so that no call here is refused. A property of two states is true at step 0. */
+/* Whether the property holds at a step of the run, or less than 0. HOLDS takes neither a property of two states, which is true at
+ * step 0, nor a piece. */
+static int holds_at(const struct job *j, size_t step, const struct state *before, const struct state *s)
+{
+    if (j->property == CONSTRAINT)
+        return step == 0 ? 1 : formula_holds(j, before, 1, j->choices[step - 1]);
+    if (j->property == INVARIANT && j->piece_len > 0)
+        return formula_holds(j, s, 0, 0);
+    return state_holds(j, s);
+}
+
+/* The run of choices that REPLAY accepts, so that no call here is refused. */
 static int print_trace(const struct job *j)
 {
-    struct state s = {{0}, {0}};
+    struct state before, s = {{0}, {0}};
     uint8_t idle[1] = {0};
-    int two_states = j->property == CONSTRAINT;
     stm_start(j->design, j->len, s.values, s.statuses);
-    print_state(j, 0, &s, 0, two_states || state_holds(j, &s));
-    for (size_t i = 0; i < j->choices_len; i++) {
-        int holds = two_states ? step_holds(j, &s, j->choices[i]) : 0;
+    for (size_t step = 0; step <= j->choices_len; step++) {
+        before = s;
+        if (step > 0)
+            stm_step(j->design, j->len, s.values, s.statuses, j->choices[step - 1], idle);
+        int holds = holds_at(j, step, &before, &s);
         if (holds < 0)
             return REFUSED;
-        stm_step(j->design, j->len, s.values, s.statuses, j->choices[i], idle);
-        print_state(j, i + 1, &s, idle[0], two_states ? holds : state_holds(j, &s));
+        print_state(j, step, &s, idle[0], holds);
     }
     return 0;
 }
@@ -311,7 +336,7 @@ enum { REPLAY_BROKEN, REPLAY_STEP, REPLAY_EVENTS, REPLAY_GUARDS, REPLAY_LEN };
 static int replay(const struct job *j)
 {
     uint64_t answer[REPLAY_LEN] = {0};
-    uint64_t code = stm_replay(j->design, j->len, j->property, j->choices, j->choices_len, answer);
+    uint64_t code = stm_replay(j->design, j->len, j->piece, j->piece_len, j->property, j->choices, j->choices_len, answer);
     if (code)
         return refuse(code);
     int failed = print_trace(j);
@@ -329,7 +354,7 @@ static int size(const struct job *j)
 {
     static const char *const names[SIZE_LEN] = {"S", "P", "w", "G", "n", "clauses", "words"};
     uint64_t sizes[SIZE_LEN];
-    uint64_t code = stm_size(j->design, j->len, j->property, j->bound, sizes);
+    uint64_t code = stm_size(j->design, j->len, j->piece, j->piece_len, j->property, j->bound, sizes);
     if (code)
         return refuse(code);
     for (size_t i = 0; i < SIZE_LEN; i++)
@@ -349,7 +374,8 @@ static int print_parts(const struct job *j, int32_t *words, uint64_t len)
 {
     for (uint64_t part = 0; part <= j->bound + 2; part++) {
         uint64_t count[1] = {0};
-        uint64_t code = stm_encode(j->design, j->len, j->property, j->bound, part, words, (size_t)len, count);
+        uint64_t code =
+            stm_encode(j->design, j->len, j->piece, j->piece_len, j->property, j->bound, part, words, (size_t)len, count);
         if (code)
             return refuse(code);
         print_clauses(words, count[0]);
@@ -362,9 +388,9 @@ static int print_parts(const struct job *j, int32_t *words, uint64_t len)
 static int cnf(const struct job *j)
 {
     uint64_t sizes[SIZE_LEN], shortest[SIZE_LEN];
-    uint64_t code = stm_size(j->design, j->len, j->property, j->bound, sizes);
+    uint64_t code = stm_size(j->design, j->len, j->piece, j->piece_len, j->property, j->bound, sizes);
     if (!code)
-        code = stm_size(j->design, j->len, j->property, j->bound > 0, shortest);
+        code = stm_size(j->design, j->len, j->piece, j->piece_len, j->property, j->bound > 0, shortest);
     if (code)
         return refuse(code);
     uint64_t last = j->bound + 2;
@@ -398,27 +424,46 @@ static int print_verdict(struct job *j, const uint64_t answer[3])
 static int verdict(struct job *j)
 {
     uint64_t sizes[SIZE_LEN], answer[3] = {0};
-    uint64_t code = stm_size(j->design, j->len, j->property, j->bound, sizes);
+    uint64_t code = stm_size(j->design, j->len, j->piece, j->piece_len, j->property, j->bound, sizes);
     if (code)
         return refuse(code);
     uint64_t n = sizes[SIZE_VARIABLES];
     struct memory m;
     int status = take(&m, sizes[SIZE_WORDS], n);
     if (!status) {
-        code = stm_verdict(j->design, j->len, j->property, j->bound, j->budget, m.clauses, (size_t)sizes[SIZE_WORDS], m.values,
-                           (size_t)n, m.trail, (size_t)n, j->choices, MAX_CHOICES, answer);
+        code = stm_verdict(j->design, j->len, j->piece, j->piece_len, j->property, j->bound, j->budget, m.clauses,
+                           (size_t)sizes[SIZE_WORDS], m.values, (size_t)n, m.trail, (size_t)n, j->choices, MAX_CHOICES, answer);
         status = code ? refuse(code) : print_verdict(j, answer);
     }
     give_back(&m);
     return status;
 }
 
-/* The command's words: FILE, then PROPERTY, then CHOICES or BOUND, then BUDGET. */
-static int run(int argc, char **argv)
+/* Takes `--piece PIECEFILE` out of the words after FILE. Answers the number of words left, or 0 where it stands twice or has no
+ * file. */
+static int take_piece(int argc, char **argv, const char **piece)
+{
+    int left = 0;
+    for (int i = 0; i < argc; i++) {
+        if (i < 3 || strcmp(argv[i], "--piece") != 0)
+            argv[left++] = argv[i];
+        else if (*piece || ++i == argc)
+            return 0;
+        else
+            *piece = argv[i];
+    }
+    return left;
+}
+
+/* The command's words: FILE, then PROPERTY, then CHOICES or BOUND, then BUDGET. A piece's path is NULL where there is none. */
+static int run(int argc, char **argv, const char *piece)
 {
     static struct job j;
     const char *command = argv[1];
-    int failed = read_design(argv[2], &j);
+    j.piece_len = 0;
+    int failed = read_file(argv[2], j.design, &j.len);
+    if (!failed && piece)
+        failed = read_file(piece, j.piece, &j.piece_len);
     if (failed)
         return failed;
     if (argc == 3)
@@ -441,13 +486,13 @@ static int run(int argc, char **argv)
     return strcmp(command, "cnf") == 0 ? cnf(&j) : verdict(&j);
 }
 
-/* Whether the command takes so many words. */
-static int fits(int argc, char **argv)
+/* Whether the command takes so many words, and a piece where there is one. */
+static int fits(int argc, char **argv, const char *piece)
 {
     if (argc < 3)
         return 0;
     if (strcmp(argv[1], "check") == 0)
-        return argc == 3;
+        return argc == 3 && !piece;
     if (strcmp(argv[1], "replay") == 0 || strcmp(argv[1], "size") == 0 || strcmp(argv[1], "cnf") == 0)
         return argc == 5;
     return strcmp(argv[1], "verdict") == 0 && (argc == 5 || argc == 6);
@@ -455,9 +500,11 @@ static int fits(int argc, char **argv)
 
 int main(int argc, char **argv)
 {
-    if (!fits(argc, argv))
+    const char *piece = NULL;
+    argc = take_piece(argc, argv, &piece);
+    if (!fits(argc, argv, piece))
         return misuse(USAGE, "");
-    int status = run(argc, argv);
+    int status = run(argc, argv, piece);
     if (fflush(stdout) || ferror(stdout))
         return misuse("cannot write: ", strerror(errno));
     return status;

@@ -9,6 +9,11 @@
  * A design is the bytes of a design file, of version 1 or 2. A property is 0 for the invariant, 1 for "no invalid cell is met",
  * and for a design of version 2 also 2 for its constraint over two successive states; a bound is 0 to 100. A greater one is
  * refused. Refusals are listed in the order of their tests.
+ *
+ * A piece is a property kept outside the design. With property 0, a piece of any bytes stands in the place of the file's
+ * invariant: one Boolean expression that fills its length, at most 16,384 bytes, over the design's variables and matrices, without
+ * the operators that read the next state. Else the call is refused by 8 at place 0. An empty piece is none: property 0 is then the
+ * file's invariant. With any other property the piece is not read, whatever it holds.
  */
 #ifndef STM_H
 #define STM_H
@@ -37,39 +42,41 @@ uint64_t stm_start(const uint8_t *design, size_t design_len, int16_t values[STM_
 uint64_t stm_step(const uint8_t *design, size_t design_len, int16_t values[STM_VALUES], uint16_t statuses[STM_STATUSES],
                   uint64_t choice, uint8_t idle[1]);
 
-/* HOLDS: 11, 13. holds[0] is 1 where the property is true in the state, else 0. One state does not decide a constraint: property
- * 2 is refused by 13 for every design. */
+/* HOLDS: 11, 13. It takes no piece. holds[0] is 1 where the property is true in the state, else 0. One state does not decide a
+ * constraint: property 2 is refused by 13 for every design. */
 uint64_t stm_holds(const uint8_t *design, size_t design_len, const int16_t values[STM_VALUES],
                    const uint16_t statuses[STM_STATUSES], uint64_t property, uint8_t holds[1]);
 
-/* REPLAY: 13, 14, 12. A choice is a byte. answer[0] is 1 where the choices break the property, and answer[1] the first step
- * that does; else both are 0. Property 2 breaks at step 1 or later, since step 0 has no state before it. answer[2] is the events
- * read: the choices of normal cells whose status stood. answer[3] is the guards read: those of them whose event was true, also
- * where the cell has no guard. All choices count, past a break too. */
-uint64_t stm_replay(const uint8_t *design, size_t design_len, uint64_t property, const uint8_t *choices, size_t choices_len,
-                    uint64_t answer[4]);
+/* REPLAY: 13, 8 for the piece, 14, 12. A choice is a byte. answer[0] is 1 where the choices break the property, and answer[1] the
+ * first step that does; else both are 0. Property 2 breaks at step 1 or later, since step 0 has no state before it. answer[2] is
+ * the events read: the choices of normal cells whose status stood. answer[3] is the guards read: those of them whose event was
+ * true, also where the cell has no guard. All choices count, past a break too. */
+uint64_t stm_replay(const uint8_t *design, size_t design_len, const uint8_t *piece, size_t piece_len, uint64_t property,
+                    const uint8_t *choices, size_t choices_len, uint64_t answer[4]);
 
-/* SIZE: 13, 14, 19 where n is over STM_MAX_VARIABLES. answer is S, P, w, G, n, clauses, words. For property 2 P is 0, and its
- * gates are in G. */
-uint64_t stm_size(const uint8_t *design, size_t design_len, uint64_t property, uint64_t bound, uint64_t answer[7]);
+/* SIZE: 13, 8 for the piece, 14, 19 where n is over STM_MAX_VARIABLES. answer is S, P, w, G, n, clauses, words. For property 2 P
+ * is 0, and its gates are in G. */
+uint64_t stm_size(const uint8_t *design, size_t design_len, const uint8_t *piece, size_t piece_len, uint64_t property,
+                  uint64_t bound, uint64_t answer[7]);
 
-/* ENCODE: 13, 14, 19, 15, 16. Writes the words of one part; answer[0] is their number. */
-uint64_t stm_encode(const uint8_t *design, size_t design_len, uint64_t property, uint64_t bound, uint64_t part, int32_t *clauses,
-                    size_t clauses_len, uint64_t answer[1]);
+/* ENCODE: 13, 8 for the piece, 14, 19, 15, 16. Writes the words of one part; answer[0] is their number. */
+uint64_t stm_encode(const uint8_t *design, size_t design_len, const uint8_t *piece, size_t piece_len, uint64_t property,
+                    uint64_t bound, uint64_t part, int32_t *clauses, size_t clauses_len, uint64_t answer[1]);
 
 /* SOLVE: 17, 16. answer[0] is 0 for SAT, 1 for UNSAT, 2 for SPENT; answer[1] is the tries. The first n values are then 0 or 1
  * on SAT, else 0, and the first n trail words 0; the rest is kept. */
 uint64_t stm_solve(uint64_t n, const int32_t *words, size_t words_len, uint8_t *values, size_t values_len, uint32_t *trail,
                    size_t trail_len, uint64_t budget, uint64_t answer[2]);
 
-/* DECODE: 13, 14, 19, 16, 18. Writes `bound` choices and keeps the rest. */
-uint64_t stm_decode(const uint8_t *design, size_t design_len, uint64_t property, uint64_t bound, const uint8_t *values,
-                    size_t values_len, uint8_t *choices, size_t choices_len);
+/* DECODE: 13, 8 for the piece, 14, 19, 16, 18. Writes `bound` choices and keeps the rest. */
+uint64_t stm_decode(const uint8_t *design, size_t design_len, const uint8_t *piece, size_t piece_len, uint64_t property,
+                    uint64_t bound, const uint8_t *values, size_t values_len, uint8_t *choices, size_t choices_len);
 
-/* VERDICT: 13, 14, then 19 and 16 for its own bound. answer[0] is 0 for CLEAN, 1 for VIOLATED, 2 for SPENT; answer[1] the step
- * that breaks, or the bound that was spent, else 0; answer[2] the tries. On VIOLATED the first answer[1] choices are written. */
-uint64_t stm_verdict(const uint8_t *design, size_t design_len, uint64_t property, uint64_t bound, uint64_t budget,
-                     int32_t *clauses, size_t clauses_len, uint8_t *values, size_t values_len, uint32_t *trail,
-                     size_t trail_len, uint8_t *choices, size_t choices_len, uint64_t answer[3]);
+/* VERDICT: 13, 8 for the piece, 14, then 19 and 16 for its own bound. answer[0] is 0 for CLEAN, 1 for VIOLATED, 2 for SPENT;
+ * answer[1] the step that breaks, or the bound that was spent, else 0; answer[2] the tries. On VIOLATED the first answer[1]
+ * choices are written. */
+uint64_t stm_verdict(const uint8_t *design, size_t design_len, const uint8_t *piece, size_t piece_len, uint64_t property,
+                     uint64_t bound, uint64_t budget, int32_t *clauses, size_t clauses_len, uint8_t *values, size_t values_len,
+                     uint32_t *trail, size_t trail_len, uint8_t *choices, size_t choices_len, uint64_t answer[3]);
 
 #endif

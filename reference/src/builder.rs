@@ -110,6 +110,12 @@ pub fn boolean_bytes(e: &Boolean) -> Vec<u8> {
     out
 }
 
+pub fn integer_bytes(e: &Integer) -> Vec<u8> {
+    let mut out = Vec::new();
+    write_integer(&mut out, e);
+    out
+}
+
 pub fn list_bytes(list: &[Statement]) -> Vec<u8> {
     let mut out = Vec::new();
     write_list(&mut out, list);

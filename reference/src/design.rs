@@ -118,6 +118,12 @@ impl Design {
     pub fn event_of(&self, cell: &Cell) -> &Boolean {
         &self.matrices[cell.matrix as usize].events[cell.event as usize]
     }
+
+    /// The one Boolean expression over a state of this design that fills the
+    /// bytes. They need not be those of the design's own file.
+    pub fn expression(&self, bytes: &[u8]) -> Option<Boolean> {
+        whole_boolean(&Names::of_a_state(&self.variables, self.matrices.len()), bytes)
+    }
 }
 
 /// CHECK: the tree of an accepted file, or the first refusal.
@@ -128,7 +134,7 @@ pub fn check(file: &[u8]) -> Result<Design, Refusal> {
     items.section(trailer.matrices_at)?;
     let sizes = read_matrices(&mut items, trailer.matrices)?;
     items.section(trailer.events_at)?;
-    let names = Names { variables: &variables, matrices: sizes.len(), next_state: false };
+    let names = Names::of_a_state(&variables, sizes.len());
     let matrices = read_events(&mut items, &names, &sizes)?;
     items.section(trailer.cells_at)?;
     let cells = read_cells(&mut items, &names, &sizes, trailer.cells)?;
@@ -400,6 +406,10 @@ struct Names<'a> {
 }
 
 impl Names<'_> {
+    fn of_a_state(variables: &[Variable], matrices: usize) -> Names<'_> {
+        Names { variables, matrices, next_state: false }
+    }
+
     fn kind(&self, variable: u8) -> Option<Kind> {
         self.variables.get(variable as usize).map(|v| v.kind)
     }

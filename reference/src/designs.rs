@@ -8,10 +8,12 @@ mod terms;
 
 pub use large::{chain, design_of_variables, most_gates, LARGE_BOUNDS};
 pub use long::long_tests;
-pub use money_changer::{money_changer, Property, Version, ALL_PROPERTIES, ORIGINAL_PROPERTIES};
+pub use money_changer::{
+    money_changer, Property, Version, ALL_PROPERTIES, ORIGINAL_PROPERTIES, STATE_PROPERTIES,
+};
 pub use small::{barrier, crossing_turns, design_a, minus_three, moved, no_idle, vending};
 
-use crate::builder::file_bytes;
+use crate::builder::{boolean_bytes, file_bytes};
 
 /// The name and the bytes of every known design file.
 pub fn all_files() -> Vec<(String, Vec<u8>)> {
@@ -30,4 +32,13 @@ pub fn all_files() -> Vec<(String, Vec<u8>)> {
     files.push(("most-gates.stm".to_string(), file_bytes(&most_gates())));
     files.push(("long-tests.stm".to_string(), file_bytes(&long_tests())));
     files
+}
+
+/// The name and the bytes of every known piece: the properties of the
+/// Money-Changer that are about one state.
+pub fn all_pieces() -> Vec<(String, Vec<u8>)> {
+    let piece = |property: Property| {
+        (format!("money-changer-{}.piece", property.name()), boolean_bytes(&property.invariant()))
+    };
+    STATE_PROPERTIES.map(piece).to_vec()
 }

@@ -3,7 +3,7 @@
 /// Gives every entry to the macro that is named, which declares or defines it.
 /// Brackets hold the parameters as C passes them; parentheses part them by
 /// what they say together: a slice is a pointer and a number of elements, and
-/// a query is a design and a property.
+/// a query is a design, a piece and a property.
 #[macro_export]
 macro_rules! entries {
     ($each:ident) => {
@@ -31,17 +31,17 @@ macro_rules! entries {
                 (holds: *mut [u8; 1])
             ];
             stm_replay[
-                (design: *const u8, design_len: usize, property: u64)
+                (design: *const u8, design_len: usize, piece: *const u8, piece_len: usize, property: u64)
                 (choices: *const u8, choices_len: usize)
                 (answer: *mut [u64; 4])
             ];
             stm_size[
-                (design: *const u8, design_len: usize, property: u64)
+                (design: *const u8, design_len: usize, piece: *const u8, piece_len: usize, property: u64)
                 (bound: u64)
                 (answer: *mut [u64; 7])
             ];
             stm_encode[
-                (design: *const u8, design_len: usize, property: u64)
+                (design: *const u8, design_len: usize, piece: *const u8, piece_len: usize, property: u64)
                 (bound: u64)
                 (part: u64)
                 (clauses: *mut i32, clauses_len: usize)
@@ -56,13 +56,13 @@ macro_rules! entries {
                 (answer: *mut [u64; 2])
             ];
             stm_decode[
-                (design: *const u8, design_len: usize, property: u64)
+                (design: *const u8, design_len: usize, piece: *const u8, piece_len: usize, property: u64)
                 (bound: u64)
                 (values: *const u8, values_len: usize)
                 (choices: *mut u8, choices_len: usize)
             ];
             stm_verdict[
-                (design: *const u8, design_len: usize, property: u64)
+                (design: *const u8, design_len: usize, piece: *const u8, piece_len: usize, property: u64)
                 (bound: u64)
                 (budget: u64)
                 (clauses: *mut i32, clauses_len: usize)

@@ -14,12 +14,12 @@ use crate::query::Query;
 pub use parts::{Formula, Size};
 pub use sink::{Count, Sink};
 
-/// SIZE: 13, 14, 19.
+/// SIZE: 13, 8, 14, 19.
 pub fn size(query: Query<Design>, bound: u64) -> Result<Size, Refusal> {
     Ok(Formula::new(query, bound)?.size())
 }
 
-/// ENCODE: 13, 14, 19, 15, 16. It answers the number of words written.
+/// ENCODE: 13, 8, 14, 19, 15, 16. It answers the number of words written.
 pub fn encode(
     query: Query<Design>,
     bound: u64,
@@ -37,7 +37,7 @@ pub fn encode(
     Ok(formula.write_part(part, clauses))
 }
 
-/// DECODE: 13, 14, 19, 16, 18. It writes the one mover flagged in each frame.
+/// DECODE: 13, 8, 14, 19, 16, 18. It writes the one mover flagged in each frame.
 pub fn decode(
     query: Query<Design>,
     bound: u64,

@@ -9,6 +9,7 @@ mod known;
 mod limit;
 mod lists;
 mod near;
+mod pieces;
 mod products;
 pub mod trees;
 

@@ -43,7 +43,7 @@ pub trait Operations {
         Answer::Missing
     }
 
-    fn holds(&mut self, query: Query<[u8]>, state: &State) -> Answer<bool> {
+    fn holds(&mut self, design: &[u8], state: &State, property: u64) -> Answer<bool> {
         Answer::Missing
     }
 
@@ -98,9 +98,11 @@ pub trait Operations {
         Answer::Missing
     }
 
-    /// What the Replay program prints for this input: property byte, count
-    /// byte, choices, design. Its refusals are printed, too.
-    fn trace(&mut self, input: &[u8]) -> Answer<Vec<u8>> {
+    /// What the Replay program prints for this property, these choices and
+    /// this design, with the piece's expression where the query reads one. Its
+    /// refusals are printed, too. The property is a byte, and so is the number
+    /// of choices.
+    fn trace(&mut self, query: Query<[u8]>, choices: &[u8]) -> Answer<Vec<u8>> {
         Answer::Missing
     }
 }
@@ -121,8 +123,8 @@ impl Operations for Reference {
         design::check(design).and_then(|d| step::step(&d, state, choice)).into()
     }
 
-    fn holds(&mut self, query: Query<[u8]>, state: &State) -> Answer<bool> {
-        query.checked(|q| step::holds(q, state)).into()
+    fn holds(&mut self, design: &[u8], state: &State, property: u64) -> Answer<bool> {
+        design::check(design).and_then(|d| step::holds(&d, state, property)).into()
     }
 
     fn replay(&mut self, query: Query<[u8]>, choices: &[u8]) -> Answer<Replayed> {
@@ -174,7 +176,7 @@ impl Operations for Reference {
         query.checked(|q| verdict::verdict(q, bound, budget, lent)).into()
     }
 
-    fn trace(&mut self, input: &[u8]) -> Answer<Vec<u8>> {
-        Answer::Done(programs::replay_output(input))
+    fn trace(&mut self, query: Query<[u8]>, choices: &[u8]) -> Answer<Vec<u8>> {
+        Answer::Done(programs::trace(query, choices))
     }
 }

@@ -14,6 +14,13 @@ pub fn replay_output(input: &[u8]) -> Vec<u8> {
     let Some((query, choices)) = split_replay(input) else {
         return refused(Refusal { number: 1, place: 0 });
     };
+    trace(query, choices)
+}
+
+/// What the Replay program prints for the query, also where a piece is lent,
+/// which the program itself never is.
+pub fn trace(query: Query<[u8]>, choices: &[u8]) -> Vec<u8> {
+    let query = Query { design: read_design(query.design), ..query };
     query.checked(|query| print_replay(query, choices)).unwrap_or_else(refused)
 }
 
@@ -39,7 +46,7 @@ fn split_replay(input: &[u8]) -> Option<(Query<'_, [u8]>, &[u8])> {
         return None;
     };
     let (choices, design) = rest.split_at_checked(*count as usize)?;
-    Some((Query::new(read_design(design), *property as u64), choices))
+    Some((Query::new(design, *property as u64), choices))
 }
 
 fn print_replay(query: Query<Design>, choices: &[u8]) -> Result<Vec<u8>, Refusal> {
@@ -48,7 +55,7 @@ fn print_replay(query: Query<Design>, choices: &[u8]) -> Result<Vec<u8>, Refusal
     let mut out = String::new();
     let mut broken = None;
     for (i, stepped) in states.iter().enumerate() {
-        let holds = holds_at(query.design, claim, &states, i);
+        let holds = holds_at(query.design, &claim, &states, i);
         if !holds && broken.is_none() {
             broken = Some(i);
         }

@@ -45,13 +45,30 @@ fn answered(operations: &mut impl Operations, request: &str) -> Option<String> {
         ["start", d] => start(operations, d),
         ["step", d, v, s, choice] => step(operations, d, v, s, choice),
         ["holds", d, v, s, property] => holds(operations, d, v, s, property),
-        ["replay", d, property, choices] => replay(operations, d, property, choices),
-        ["size", d, property, bound] => size(operations, d, property, bound),
-        ["encode", d, ref rest @ ..] => encode(operations, d, rest),
         ["solve", n, words, ref rest @ ..] => solve(operations, n, words, rest),
-        ["decode", d, ref rest @ ..] => decode(operations, d, rest),
-        ["verdict", d, ref rest @ ..] => verdict(operations, d, rest),
-        ["trace", d, property, choices] => trace(operations, d, property, choices),
+        [operation, d, piece, property, ref rest @ ..] => {
+            let asked = Asked::new(d, piece, property)?;
+            answered_query(operations, operation, asked.query(), rest)
+        }
+        _ => None,
+    }
+}
+
+/// As `answered`, for the operations that take a design, a piece and a
+/// property.
+fn answered_query(
+    operations: &mut impl Operations,
+    operation: &str,
+    query: Query<[u8]>,
+    rest: &[&str],
+) -> Option<String> {
+    match operation {
+        "replay" => replay(operations, query, rest),
+        "size" => size(operations, query, rest),
+        "encode" => encode(operations, query, rest),
+        "decode" => decode(operations, query, rest),
+        "verdict" => verdict(operations, query, rest),
+        "trace" => trace(operations, query, rest),
         _ => None,
     }
 }
@@ -82,25 +99,26 @@ fn holds(
     s: &str,
     property: &str,
 ) -> Option<String> {
-    let answer = operations.holds(query(&bytes(d)?, property)?, &state(v, s)?);
+    let answer = operations.holds(&bytes(d)?, &state(v, s)?, number(property)?);
     finish(answer, |holds| format!("ok {}", holds as u8))
 }
 
-fn replay(
-    operations: &mut impl Operations,
-    d: &str,
-    property: &str,
-    choices: &str,
-) -> Option<String> {
-    let answer = operations.replay(query(&bytes(d)?, property)?, &list(choices)?);
+fn replay(operations: &mut impl Operations, query: Query<[u8]>, rest: &[&str]) -> Option<String> {
+    let [choices] = rest else {
+        return None;
+    };
+    let answer = operations.replay(query, &list(choices)?);
     finish(answer, |replayed| {
         let broken = replayed.broken.map_or("none".to_string(), |i| i.to_string());
         format!("ok {broken} {} {}", replayed.events, replayed.guards)
     })
 }
 
-fn size(operations: &mut impl Operations, d: &str, property: &str, bound: &str) -> Option<String> {
-    let answer = operations.size(query(&bytes(d)?, property)?, number(bound)?);
+fn size(operations: &mut impl Operations, query: Query<[u8]>, rest: &[&str]) -> Option<String> {
+    let [bound] = rest else {
+        return None;
+    };
+    let answer = operations.size(query, number(bound)?);
     finish(answer, |size| size_text(&size))
 }
 
@@ -108,13 +126,11 @@ fn size_text(size: &Size) -> String {
     format!("ok {}", size.numbers().map(|x| x.to_string()).join(" "))
 }
 
-fn encode(operations: &mut impl Operations, d: &str, rest: &[&str]) -> Option<String> {
-    let [property, bound, part, length] = rest else {
+fn encode(operations: &mut impl Operations, query: Query<[u8]>, rest: &[&str]) -> Option<String> {
+    let [bound, part, length] = rest else {
         return None;
     };
     let mut clauses: Vec<i32> = lent(length)?;
-    let design = bytes(d)?;
-    let query = query(&design, property)?;
     let answer = operations.encode(query, number(bound)?, number(part)?, &mut clauses);
     let memory = memory_text(&[hash(&clauses)]);
     finish_with(answer, &memory, |count| {
@@ -141,32 +157,25 @@ fn solve(operations: &mut impl Operations, n: &str, words: &str, rest: &[&str]) 
     })
 }
 
-fn decode(operations: &mut impl Operations, d: &str, rest: &[&str]) -> Option<String> {
-    let [property, bound, values, length] = rest else {
+fn decode(operations: &mut impl Operations, query: Query<[u8]>, rest: &[&str]) -> Option<String> {
+    let [bound, values, length] = rest else {
         return None;
     };
     let bound: u64 = number(bound)?;
     let mut choices: Vec<u8> = lent(length)?;
-    let design = bytes(d)?;
-    let query = query(&design, property)?;
     let answer = operations.decode(query, bound, &list(values)?, &mut choices);
     let memory = memory_text(&[hash(&choices)]);
     finish_with(answer, &memory, |()| format!("ok {}", list_text(front(&choices, bound))))
 }
 
-fn verdict(operations: &mut impl Operations, d: &str, rest: &[&str]) -> Option<String> {
-    let [property, bound, budget, lengths @ ..] = rest else {
-        return None;
-    };
-    let [clauses, values, trail, choices] = lengths else {
+fn verdict(operations: &mut impl Operations, query: Query<[u8]>, rest: &[&str]) -> Option<String> {
+    let [bound, budget, clauses, values, trail, choices] = rest else {
         return None;
     };
     let mut clauses: Vec<i32> = lent(clauses)?;
     let mut values: Vec<u8> = lent(values)?;
     let mut trail: Vec<u32> = lent(trail)?;
     let mut choices: Vec<u8> = lent(choices)?;
-    let design = bytes(d)?;
-    let query = query(&design, property)?;
     let lent = Lent {
         clauses: &mut clauses,
         values: &mut values,
@@ -185,17 +194,15 @@ fn verdict(operations: &mut impl Operations, d: &str, rest: &[&str]) -> Option<S
     })
 }
 
-fn trace(
-    operations: &mut impl Operations,
-    d: &str,
-    property: &str,
-    choices: &str,
-) -> Option<String> {
+/// The program reads the property and the number of choices as bytes.
+fn trace(operations: &mut impl Operations, query: Query<[u8]>, rest: &[&str]) -> Option<String> {
+    let [choices] = rest else {
+        return None;
+    };
     let choices: Vec<u8> = list(choices)?;
-    let mut input = vec![number(property)?, u8::try_from(choices.len()).ok()?];
-    input.extend_from_slice(&choices);
-    input.extend_from_slice(&bytes(d)?);
-    finish(operations.trace(&input), |output| {
+    u8::try_from(query.property).ok()?;
+    u8::try_from(choices.len()).ok()?;
+    finish(operations.trace(query, &choices), |output| {
         let text = String::from_utf8_lossy(&output).into_owned();
         text.strip_suffix('\n').unwrap_or(&text).replace('\n', ";")
     })
@@ -285,8 +292,21 @@ fn list<T: FromStr>(text: &str) -> Option<Vec<T>> {
     text.split(',').map(number).collect()
 }
 
-fn query<'a>(design: &'a [u8], property: &str) -> Option<Query<'a, [u8]>> {
-    Some(Query::new(design, number(property)?))
+/// What a request with a property asks about.
+struct Asked {
+    design: Vec<u8>,
+    piece: Vec<u8>,
+    property: u64,
+}
+
+impl Asked {
+    fn new(d: &str, piece: &str, property: &str) -> Option<Asked> {
+        Some(Asked { design: bytes(d)?, piece: bytes(piece)?, property: number(property)? })
+    }
+
+    fn query(&self) -> Query<'_, [u8]> {
+        Query::new(&self.design[..], self.property).with_piece(&self.piece)
+    }
 }
 
 fn state(values: &str, statuses: &str) -> Option<State> {

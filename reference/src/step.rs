@@ -75,11 +75,11 @@ pub fn step(design: &Design, state: &State, choice: u64) -> Result<Stepped, Refu
     Ok(moved(design, state, movers[choice as usize], Tests::UpToFailure).0)
 }
 
-/// HOLDS: 11 for the state, then 13 for the property.
-pub fn holds(query: Query<Design>, state: &State) -> Result<bool, Refusal> {
-    check_state(query.design, state)?;
-    let claim = query.check_state_property()?;
-    Ok(claim_holds(query.design, claim, None, state))
+/// HOLDS: 11 for the state, then 13 for the property. It takes no piece.
+pub fn holds(design: &Design, state: &State, property: u64) -> Result<bool, Refusal> {
+    check_state(design, state)?;
+    let claim = Query::new(design, property).check_state_property()?;
+    Ok(claim_holds(design, &claim, None, state))
 }
 
 /// REPLAY: the first breaking step, or none, and the counts of the whole run.
@@ -91,11 +91,11 @@ pub fn replay(query: Query<Design>, choices: &[u8]) -> Result<Replayed, Refusal>
 pub fn replay_by(query: Query<Design>, choices: &[u8], tests: Tests) -> Result<Replayed, Refusal> {
     let claim = check_replay(query, choices)?;
     let Run { states, events, guards } = run(query.design, choices, tests);
-    let broken = (0..states.len()).find(|&i| !holds_at(query.design, claim, &states, i));
+    let broken = (0..states.len()).find(|&i| !holds_at(query.design, &claim, &states, i));
     Ok(Replayed { broken: broken.map(|i| i as u64), events, guards })
 }
 
-/// The refusals of REPLAY, in its order: 13, 14, 12.
+/// The refusals of REPLAY, in its order: 13, 8, 14, 12.
 pub fn check_replay<'a>(query: Query<'a, Design>, choices: &[u8]) -> Result<Claim<'a>, Refusal> {
     let claim = query.check_bound(choices.len() as u64)?;
     let movers = query.design.movers().len();
@@ -147,14 +147,14 @@ fn status_fits(design: &Design, index: usize, status: u8) -> bool {
 
 /// Whether the property is true at step i of a run. A list of choices breaks
 /// it at the steps where it is not.
-pub fn holds_at(design: &Design, claim: Claim, run: &[Stepped], i: usize) -> bool {
+pub fn holds_at(design: &Design, claim: &Claim, run: &[Stepped], i: usize) -> bool {
     let before = i.checked_sub(1).map(|earlier| &run[earlier].state);
     claim_holds(design, claim, before, &run[i].state)
 }
 
 /// `before` is the state that the last choice acted on. The first state has
 /// none, and no constraint is false there.
-fn claim_holds(design: &Design, claim: Claim, before: Option<&State>, state: &State) -> bool {
+fn claim_holds(design: &Design, claim: &Claim, before: Option<&State>, state: &State) -> bool {
     match claim {
         Claim::Invariant(e) => boolean(Pair::one(state), e),
         Claim::NoInvalidCell => {

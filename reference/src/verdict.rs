@@ -28,7 +28,7 @@ pub struct Lent<'a> {
     pub choices: &'a mut [u8],
 }
 
-/// VERDICT: 13, 14, 19 for its own bound, 16, then the bounds from 0.
+/// VERDICT: 13, 8, 14, 19 for its own bound, 16, then the bounds from 0.
 pub fn verdict(
     query: Query<Design>,
     bound: u64,

@@ -53,14 +53,14 @@ fn state_11_then_choice_12() {
     ] {
         assert_eq!(step(&design, &state(changes), 0), refused(11, place));
         assert_eq!(step(&design, &state(changes), 9), refused(11, place));
-        assert_eq!(holds(Query::new(&design, 2), &state(changes)), refused(11, place));
+        assert_eq!(holds(&design, &state(changes), 2), refused(11, place));
     }
     assert!(step(&design, &state(&[(0, 1), (1, -32_768), (32, 1)]), 2).is_ok());
     for choice in [3, 64, 256, u64::MAX] {
         assert_eq!(step(&design, &state(&[]), choice), refused(12, 0));
     }
-    assert_eq!(holds(Query::new(&design, 2), &state(&[])), refused(13, 0));
-    assert_eq!(holds(Query::new(&design, 1), &state(&[])), Ok(true));
+    assert_eq!(holds(&design, &state(&[]), 2), refused(13, 0));
+    assert_eq!(holds(&design, &state(&[]), 1), Ok(true));
 }
 
 #[test]
@@ -247,8 +247,8 @@ fn check_comes_first_in_every_call() {
     assert_eq!(reference.check(&file), Answer::Refused(bad));
     assert_eq!(reference.start(&file), Answer::Refused(bad));
     assert_eq!(reference.step(&file, &none, 99), Answer::Refused(bad));
+    assert_eq!(reference.holds(&file, &none, 9), Answer::Refused(bad));
     let query = Query::new(&file[..], 9);
-    assert_eq!(reference.holds(query, &none), Answer::Refused(bad));
     assert_eq!(reference.replay(query, &[9; 200]), Answer::Refused(bad));
     assert_eq!(reference.size(query, 255), Answer::Refused(bad));
     assert_eq!(reference.encode(query, 255, 999, &mut []), Answer::Refused(bad));

@@ -236,10 +236,9 @@ fn holds_refuses_property_2_after_the_state() {
     for (design, last) in [(design_a(), 1), (moved(), 1)] {
         let first = start(&design);
         for property in 0..=3 {
-            let query = Query::new(&design, property);
-            assert_eq!(holds(query, &bad), refused(11, 32));
+            assert_eq!(holds(&design, &bad, property), refused(11, 32));
             let expected = if property <= last { Ok(true) } else { refused(13, 0) };
-            assert_eq!(holds(query, &first), expected);
+            assert_eq!(holds(&design, &first, property), expected);
         }
     }
 }

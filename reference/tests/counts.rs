@@ -142,9 +142,10 @@ fn generated_requests_tell_wrong_counts() {
     for _ in 0..2_000 {
         let request = generator.request();
         let fields: Vec<&str> = request.split(' ').collect();
-        let choices: Vec<u8> = fields[3].split(',').filter_map(|c| c.parse().ok()).collect();
+        let choices: Vec<u8> = fields[4].split(',').filter_map(|c| c.parse().ok()).collect();
         let Ok(design) = check(&bytes(fields[1]).unwrap()) else { continue };
-        let query = Query::new(&design, fields[2].parse().unwrap());
+        let piece = bytes(fields[2]).unwrap();
+        let query = Query::new(&design, fields[3].parse().unwrap()).with_piece(&piece);
         let Ok(answer) = replay(query, &choices) else { continue };
         let broken = answer.broken.map_or(choices.len(), |step| step as usize);
         for (told, wrong) in told.iter_mut().zip(wrong_counts(&design, &choices, broken)) {

@@ -3,27 +3,79 @@
 mod support;
 
 use reference::design::{check, Boolean, CellKind, Design, Integer, Statement};
-use reference::designs::all_files;
+use reference::designs::{all_files, all_pieces, money_changer, Property, Version};
 use std::collections::BTreeSet;
-use std::path::Path;
+use std::path::{Path, PathBuf};
 use support::first_break;
+
+fn folder() -> PathBuf {
+    Path::new(env!("CARGO_MANIFEST_DIR")).join("../designs")
+}
+
+/// The files of the folder with this ending are these.
+fn folder_has(ending: &str, files: &[(String, Vec<u8>)]) {
+    let mut names = BTreeSet::new();
+    for (name, bytes) in files {
+        assert_eq!(&std::fs::read(folder().join(name)).unwrap(), bytes, "{name}");
+        names.insert(name.clone());
+    }
+    let found: BTreeSet<String> = std::fs::read_dir(folder())
+        .unwrap()
+        .map(|entry| entry.unwrap().file_name().into_string().unwrap())
+        .filter(|name| name.ends_with(ending))
+        .collect();
+    assert_eq!(found, names);
+}
 
 #[test]
 fn files_equal_the_builder() {
-    let folder = Path::new(env!("CARGO_MANIFEST_DIR")).join("../designs");
-    let mut names = BTreeSet::new();
-    for (name, bytes) in all_files() {
-        assert_eq!(std::fs::read(folder.join(&name)).unwrap(), bytes, "{name}");
-        assert!(check(&bytes).is_ok(), "{name}");
-        names.insert(name);
+    folder_has(".stm", &all_files());
+    folder_has(".piece", &all_pieces());
+    assert!(all_files().iter().all(|(_, bytes)| check(bytes).is_ok()));
+}
+
+/// Both designs take every piece, also those that source 001 asks of one alone.
+#[test]
+fn pieces_are_properties_of_the_money_changer() {
+    for version in [Version::Original, Version::Revised] {
+        let design = money_changer(version, Property::Dyn);
+        for (name, piece) in all_pieces() {
+            assert!(design.expression(&piece).is_some(), "{name}");
+        }
     }
-    let is_design = |name: &String| name.ends_with(".stm");
-    let found: BTreeSet<String> = std::fs::read_dir(folder)
-        .unwrap()
-        .map(|entry| entry.unwrap().file_name().into_string().unwrap())
-        .filter(is_design)
-        .collect();
-    assert_eq!(found, names);
+}
+
+/// The rows of a table, by their words.
+fn rows(table: &str) -> Vec<Vec<String>> {
+    let text = std::fs::read_to_string(folder().join(table)).unwrap();
+    let rows = text.lines().filter(|line| !line.starts_with('#'));
+    rows.map(|line| line.split_whitespace().map(String::from).collect()).collect()
+}
+
+/// The file whose row a piece's row has to be: the one with the piece as its
+/// invariant; where the property is the constraint, the design's own.
+fn file_of(design: &str, piece: &str, property: &str) -> String {
+    let name = piece.strip_prefix("money-changer-").and_then(|p| p.strip_suffix(".piece"));
+    match property {
+        "2" => design.to_string(),
+        _ => design.replace("dyn", name.unwrap()),
+    }
+}
+
+/// Sizes, verdict, tries, models and choices: all words but the first.
+#[test]
+fn rows_of_pieces_are_those_of_the_files_with_that_invariant() {
+    let stored = [rows("rows.txt"), rows("rows-deep.txt")].concat();
+    let mut pieces = BTreeSet::new();
+    for row in [rows("rows-pieces.txt"), rows("rows-deep.txt")].concat() {
+        let Some((design, piece)) = row[0].split_once('+') else { continue };
+        let file = file_of(design, piece, &row[1]);
+        let same = stored.iter().find(|other| other[0] == file && other[1..4] == row[1..4]);
+        assert_eq!(same.unwrap()[1..], row[1..], "{}", row[0]);
+        pieces.insert((design.to_string(), piece.to_string()));
+    }
+    // Four published properties of the original, six of the revised one.
+    assert_eq!(pieces.len(), 10);
 }
 
 /// Operator bytes of a design.

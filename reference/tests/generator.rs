@@ -109,7 +109,7 @@ fn requests_reach_the_ends_of_the_step_rule() {
                 }
             }
             ["holds", _, v, s, _] => seen_in_state(&design, v, s, &mut seen),
-            [_, _, _, choices] => seen_in_choices(&design, choices, &mut seen),
+            [_, _, _, _, choices] => seen_in_choices(&design, choices, &mut seen),
             _ => {}
         }
     }
@@ -245,7 +245,7 @@ fn illegal_reads(file: &[u8], place: usize) -> impl Iterator<Item = u8> + '_ {
 fn property(fields: &[&str]) -> Option<u64> {
     let at = match fields[0] {
         "holds" => 4,
-        "replay" | "size" | "encode" | "decode" | "verdict" | "trace" => 2,
+        "replay" | "size" | "encode" | "decode" | "verdict" | "trace" => 3,
         _ => return None,
     };
     fields[at].parse().ok()
@@ -326,9 +326,9 @@ fn formulas_of_property_2_read_by_every_operator() {
         let request = generator.request();
         let fields: Vec<&str> = request.split(' ').collect();
         let Ok(design) = check(&bytes(fields[1]).unwrap()) else { continue };
-        if let (Some(constraint), "2") = (&design.constraint, fields[2]) {
+        if let (Some(constraint), "2") = (&design.constraint, fields[3]) {
             next_reads(constraint, &mut seen);
-            with_bound += (fields[3] != "0") as u32;
+            with_bound += (fields[4] != "0") as u32;
         }
     }
     assert_eq!(seen, BTreeSet::from([0x06, 0x07, 0x17]));

@@ -89,7 +89,7 @@ fn it_comes_after_14_and_before_15_16_and_18() {
 fn other_calls_and_properties_are_answered() {
     for design in [most_gates(), design_of_variables(MAX_VARIABLE, 80)] {
         let query = Query::new(&design, NO_INVALID_CELL);
-        assert_eq!(holds(query, &start(&design)), Ok(true));
+        assert_eq!(holds(&design, &start(&design), NO_INVALID_CELL), Ok(true));
         // Mover 0 is a cell of the last status, which no run comes to.
         assert_eq!(replay(query, &[0; 100]), replayed(None, 0, 0));
         assert!(size(Query::new(&design, INVARIANT), MAX_BOUND).unwrap().variables < 1 << 31);

@@ -134,7 +134,7 @@ fn its_value_is_the_product_wrapped() {
             };
             for (value, truth) in [(expected, true), (expected.wrapping_add(1), false)] {
                 let design = is(value);
-                let held = holds(Query::new(&design, INVARIANT), &start(&design));
+                let held = holds(&design, &start(&design), INVARIANT);
                 assert_eq!(held, Ok(truth), "{c} times {a}");
             }
         }

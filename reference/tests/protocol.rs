@@ -25,13 +25,13 @@ fn one_reply_of_each_operation() {
     assert_eq!(with_design("start D"), format!("ok {ZEROS} {none}"));
     assert_eq!(with_design(&format!("step D {ZEROS} {none} 2")), format!("ok 1{rest} {none} 0"));
     assert_eq!(with_design(&format!("holds D {ZEROS} {none} 0")), "ok 1");
-    assert_eq!(with_design("replay D 0 2,0,1"), "ok 3 2 2");
-    assert_eq!(with_design("replay D 0 -"), "ok none 0 0");
-    assert_eq!(with_design("size D 0 3"), "ok 21 80 3 371 1527 5413 20136");
-    assert_eq!(with_design("trace D 0 -"), "0 - 0 1 0 0 | 0;holds");
-    assert!(with_design("encode D 0 3 5 6").starts_with("ok 5 -102,-577,-1052,-1527,0 mem "));
+    assert_eq!(with_design("replay D - 0 2,0,1"), "ok 3 2 2");
+    assert_eq!(with_design("replay D - 0 -"), "ok none 0 0");
+    assert_eq!(with_design("size D - 0 3"), "ok 21 80 3 371 1527 5413 20136");
+    assert_eq!(with_design("trace D - 0 -"), "0 - 0 1 0 0 | 0;holds");
+    assert!(with_design("encode D - 0 3 5 6").starts_with("ok 5 -102,-577,-1052,-1527,0 mem "));
     assert!(answer("solve 2 1,0 2 2 9").starts_with("ok sat 1 1,0 mem "));
-    assert!(with_design("verdict D 0 0 0 1038 102 102 0").starts_with("ok clean 0 mem "));
+    assert!(with_design("verdict D - 0 0 0 1038 102 102 0").starts_with("ok clean 0 mem "));
 }
 
 /// The hash of no bytes, and of the byte 11, by the definition of FNV-1a.
@@ -48,7 +48,7 @@ fn memory_hashes() {
 fn a_refusal_has_a_number_and_a_place() {
     assert_eq!(answer("check -"), "refused 1 at 0");
     assert_eq!(answer("check 00"), "refused 1 at 1");
-    assert_eq!(with_design("replay D 0 0,3"), "refused 12 at 1");
+    assert_eq!(with_design("replay D - 0 0,3"), "refused 12 at 1");
 }
 
 /// The examples of docs/PROTOCOL.md, as they stand there.
@@ -56,11 +56,12 @@ fn a_refusal_has_a_number_and_a_place() {
 fn the_examples_of_the_document() {
     let document = include_str!("../../docs/PROTOCOL.md");
     for (start, design, count) in [
-        ("With the file of Design A", design_a(), 9),
+        ("With the file of Design A as D (", design_a(), 9),
         ("With the file of `designs/moved.stm`", moved(), 5),
         ("With the file of `designs/minus-three.stm`", minus_three(), 5),
         ("With the file of `designs/most-gates.stm`", most_gates(), 7),
         ("With the file of `designs/barrier.stm`", barrier(), 4),
+        ("With the file of Design A as D, and pieces", design_a(), 11),
     ] {
         let section = document.lines().skip_while(|line| !line.starts_with(start)).skip(1);
         let rows = section.take_while(|line| !line.starts_with("With "));
@@ -80,8 +81,8 @@ fn the_examples_of_the_document() {
 
 #[test]
 fn leading_zeros_and_signs() {
-    assert_eq!(with_design("size D 01 003"), with_design("size D 1 3"));
-    assert_eq!(with_design("replay D 0 02,000,1"), "ok 3 2 2");
+    assert_eq!(with_design("size D - 01 003"), with_design("size D - 1 3"));
+    assert_eq!(with_design("replay D - 0 02,000,1"), "ok 3 2 2");
     assert_eq!(answer("solve 01 -01,-0,00 1 1 09"), answer("solve 1 -1,0,0 1 1 9"));
     let negative = ZEROS.replacen('0', "-0", 1);
     assert_eq!(with_design(&format!("holds D {negative} 0,0,0,0,0,0,0,0 0")), "ok 1");
@@ -95,13 +96,13 @@ fn properties_and_bounds_over_a_byte() {
         let hash = "cbf29ce484222325";
         for (request, refused) in [
             (format!("holds D {ZEROS} {none} {number}"), "refused 13 at 0"),
-            (format!("replay D {number} -"), "refused 13 at 0"),
-            (format!("size D {number} 101"), "refused 13 at 0"),
-            (format!("size D 0 {number}"), "refused 14 at 0"),
-            (format!("encode D 0 {number} 0 0"), &format!("refused 14 at 0 mem {hash}")),
-            (format!("decode D 1 {number} - 0"), &format!("refused 14 at 0 mem {hash}")),
+            (format!("replay D - {number} -"), "refused 13 at 0"),
+            (format!("size D - {number} 101"), "refused 13 at 0"),
+            (format!("size D - 0 {number}"), "refused 14 at 0"),
+            (format!("encode D - 0 {number} 0 0"), &format!("refused 14 at 0 mem {hash}")),
+            (format!("decode D - 1 {number} - 0"), &format!("refused 14 at 0 mem {hash}")),
             (
-                format!("verdict D 0 {number} 0 0 0 0 0"),
+                format!("verdict D - 0 {number} 0 0 0 0 0"),
                 &format!("refused 14 at 0 mem {hash} {hash} {hash} {hash}"),
             ),
         ] {
@@ -118,7 +119,7 @@ fn malformed_requests() {
         format!("holds - {ZEROS} 0,{none} 0"),
         format!("holds - {} {none} 0", ZEROS.replacen('0', "32768", 1)),
         format!("holds - {ZEROS} 256{} 0", &none[1..]),
-        format!("trace - 0 {}", &"0,".repeat(256)[..511]),
+        format!("trace - - 0 {}", &"0,".repeat(256)[..511]),
     ] {
         assert_eq!(answer(&request), "error", "{request}");
     }
@@ -145,14 +146,21 @@ fn malformed_requests() {
         "solve 1 1,,0 1 1 0",
         "solve 1 +1,0 1 1 0",
         "solve 1 9999999999,0 1 1 0",
-        "size 00 18446744073709551616 0",
-        "size 00 0 18446744073709551616",
-        "trace 00 256 -",
-        "size 00 0 -1",
-        "replay 00 0 256",
-        "replay 00 0 1,",
+        "size 00 - 18446744073709551616 0",
+        "size 00 - 0 18446744073709551616",
+        "trace 00 - 256 -",
+        "size 00 0 0",
+        "size 00 0 0 0",
+        "size 00 AB 0 0",
+        "size 00  0 0",
+        "size 00 00 - 0",
+        "replay 00 0 -",
+        "verdict 00 0 0 0 0 0 0 0",
+        "size 00 - 0 -1",
+        "replay 00 - 0 256",
+        "replay 00 - 0 1,",
         "step 00 0 0 0",
-        "encode 00 0 0 0 99999999999999",
+        "encode 00 - 0 0 0 99999999999999",
     ] {
         assert_eq!(answer(request), "error", "{request}");
     }

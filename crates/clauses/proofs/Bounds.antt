@@ -1,4 +1,4 @@
--- The sizes of an accepted design: its state bits, its movers, and its gates of a frame, at most `mostGates`. So n is at most `mostVariables` for any bound (Limits).
+-- The sizes of an accepted design and a property of it: its state bits, its movers, and its gates of a frame, at most `mostGates`. So n is at most `mostVariables` for any bound (Limits).
 use mathlib.Core.Path.{_≡_, refl, sym, ap, _∙_}
 use mathlib.Core.Bool.{Bool, true, false}
 use mathlib.Core.List.{List, [], _∷_, _++_, map}
@@ -10,15 +10,19 @@ use Rattle.design.specs.State.{width, statusWidth, widths}
 use Rattle.design.specs.Limits.{maxVariables, maxCells, maxMovers, maxDepth, maxNest, maxBits}
 use Rattle.design.specs.Expression.{Names, withLater, boolExpr}
 use Rattle.design.specs.DesignFile.{item, Matrix, Entry, normal, invalid, eventAt, guard, c-matrix, c-event, c-guard, c-middle, c-past, c-kind, cellAt}
-use Rattle.design.specs.Check.{Checked, check, normals, invalids, itemsEnd, hasConstraint, constraintOffset, matricesOffset, eventsOffset, cellsOffset, invariantOffset, names, eventIn}
+use Rattle.design.specs.Check.{Checked, check, normals, invalids, itemsEnd, hasConstraint, constraintOffset, matricesOffset, eventsOffset, cellsOffset, invariantOffset, names, eventIn, refusal}
+use Rattle.design.specs.Places.{Accepted}
 use Rattle.design.specs.Sections.{Run, Rows, Cells, EntryRead}
 use Rattle.design.proofs.Sections.{item-same, filling-inv, items-before, Whole, whole}
 use Rattle.design.proofs.Widths.{total-append, statuses-total}
 use Rattle.design.proofs.Positions.{event-reads, cell-reads, expressions-order, invariant-stands, constraint-stands, constraint-none}
-use Rattle.step.specs.Property.{propertyOf}
+use Rattle.step.specs.Piece.{pieceRight, expressionOf}
+use Rattle.step.specs.Ready.{expressionText}
+use Rattle.step.specs.Property.{Property, propertyOf}
+use Rattle.step.proofs.Pieces.{text-got, text-short}
 use Rattle.clauses.specs.Formula.{total, S, w}
 use Rattle.clauses.specs.Cost.{gatesIn, boolCost, enableCost, effectCost, moverCost, moversCost, invalidCost, propertyCost, stepPropertyCost, stepCost}
-use Rattle.clauses.specs.Limits.{gatesOfByte, gatesOfEvent, mostGates}
+use Rattle.clauses.specs.Limits.{gatesOfByte, gatesOfEvent, textGates, mostGates}
 use Rattle.clauses.proofs.Bytes.{bool-bytes, list-bytes}
 
 -- an event has at most 255 bytes
@@ -133,10 +137,10 @@ module _ (file : List ℕ) (bytes : (i : ℕ) → getD file i 0 < 256) where
     cells-bytes (invalid p ∷ xs) before at past r = let h = cell-bytes before at (invalid p) (r .0) (r .1) in let k = cells-bytes xs at (r .0) past (r .2) in omega arith
 
 -- the state bits, the movers, and the gates of a frame
-pub record Bounded (d : Design) : Type 0 where
+pub record Bounded (d : Design) (q : Property) : Type 0 where
   pub bits : S d ≤ maxBits
   pub movers : w d ≤ maxMovers
-  pub gates : (p : ℕ) → gatesIn (propertyCost d (propertyOf d p)) + gatesIn (stepCost d (propertyOf d p)) ≤ mostGates
+  pub gates : gatesIn (propertyCost d q) + gatesIn (stepCost d q) ≤ mostGates
 
 module _ (file : List ℕ) (bytes : (i : ℕ) → getD file i 0 < 256) (d : Design) (h : Whole file d) where
   S-bound : S d ≤ maxBits
@@ -182,13 +186,20 @@ module _ (file : List ℕ) (bytes : (i : ℕ) → getD file i 0 < 256) (d : Desi
           let z : gatesIn (boolCost (d .constraint)) ≡ 0 = ap (λ x. gatesIn (boolCost x)) (constraint-none file d (h .parts) e) in
           omega (arith, expressions-order file d (h .parts))
 
-  gates-bound : (p : ℕ) → gatesIn (propertyCost d (propertyOf d p)) + gatesIn (stepCost d (propertyOf d p)) ≤ mostGates
-  unfolding propertyCost stepCost stepPropertyCost propertyOf
-  gates-bound zero = omega (arith, invariant-bound, constraint-bound, items-before file, cells-bound, movers-bound, h .short)
-  gates-bound (suc zero) = omega (arith, invariant-bound, constraint-bound, items-before file, cells-bound, movers-bound, h .short)
-  gates-bound (suc (suc p)) = omega (arith, invariant-bound, constraint-bound, items-before file, cells-bound, movers-bound, h .short)
+  -- wherever the expression stands, its text has at most so many bytes
+  expression-bound : Accepted file → (piece : List ℕ) → pieceRight file piece 0 ≡ true → gatesIn (boolCost (expressionOf file piece d)) ≤ textGates
+  expression-bound a piece t =
+      let text = expressionText file piece in
+      omega (arith, bool-bytes text (names file) (length text) maxDepth 0 .of (expressionOf file piece d) (length text) (text-got file piece a t d (h .parts)), text-short file piece a t)
 
-pub bounded : (file : List ℕ) → ((i : ℕ) → getD file i 0 < 256) → (d : Design) → check file ≡ Checked.accepted d → Bounded d
-bounded file bytes d e =
+  gates-bound : Accepted file → (piece : List ℕ) (p : ℕ) → pieceRight file piece p ≡ true → gatesIn (propertyCost d (propertyOf file piece d p)) + gatesIn (stepCost d (propertyOf file piece d p)) ≤ mostGates
+  unfolding propertyCost stepCost stepPropertyCost propertyOf
+  gates-bound a piece zero t = omega (arith, expression-bound a piece t, invariant-bound, constraint-bound, items-before file, cells-bound, movers-bound, h .short)
+  gates-bound a piece (suc zero) t = omega (arith, invariant-bound, constraint-bound, items-before file, cells-bound, movers-bound, h .short)
+  gates-bound a piece (suc (suc p)) t = omega (arith, invariant-bound, constraint-bound, items-before file, cells-bound, movers-bound, h .short)
+
+-- of a file, a piece that is right, and a property
+pub bounded : (file piece : List ℕ) → ((i : ℕ) → getD file i 0 < 256) → (d : Design) → check file ≡ Checked.accepted d → (p : ℕ) → pieceRight file piece p ≡ true → Bounded d (propertyOf file piece d p)
+bounded file piece bytes d e p t =
     let h = whole file d e in
-    record { bits = S-bound file bytes d h; movers = w-bound file bytes d h; gates = gates-bound file bytes d h }
+    record { bits = S-bound file bytes d h; movers = w-bound file bytes d h; gates = gates-bound file bytes d h (ap (λ (x : Checked). refusal x .number) e) piece p t }

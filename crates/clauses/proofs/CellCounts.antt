@@ -17,7 +17,10 @@ use Rattle.design.specs.Sections.{Parts, Cells, CellRead, NormalRead, Standing,
 use Rattle.design.specs.Places.{Indexed}
 use Rattle.design.proofs.Positions.{cell-reads, expressions-order, constraint-none}
 use Rattle.design.proofs.Places.{Read as Tree, read, cell-fields}
+use Rattle.step.specs.Piece.{noPiece, pieceRight}
+use Rattle.step.specs.Ready.{expressionText}
 use Rattle.step.specs.Property.{propertyOf}
+use Rattle.step.proofs.Pieces as pieces
 use Rattle.step.specs.Accepted.{isRead}
 use Rattle.design.specs.Sections.{NormalCell}
 use Rattle.design.proofs.Indexed as indexed
@@ -27,7 +30,7 @@ use Rattle.clauses.specs.Ready.{ShapedFile, Ready}
 use Rattle.clauses.specs.Limits.{textGates, mostGates}
 use Rattle.clauses.specs.declared.cost.GatesAt.{GatesAt}
 use Rattle.clauses.proofs.Bounds.{bounded}
-use Rattle.clauses.proofs.FrameCounts.{entries-few, property-cells, property-invariant, property-none, step-property-none, step-property-cost}
+use Rattle.clauses.proofs.FrameCounts.{entries-few, property-cells, property-expression, property-none, step-property-none, step-property-cost}
 use Rattle.clauses.proofs.TextGates.{Few, bool-few}
 
 -- the gates of what is known to be read
@@ -54,8 +57,8 @@ none-few r n e = let z = none-gates r n e in record { ands = omega (arith, z .0)
 none-has : (r : GatesAt) (n : ℕ) → r ≡ noGates n → {k : Cost} → k ≡ cost 0 0 → HasGates r k
 none-has r n e q = let z = none-gates r n e in subst (HasGates r) (sym q) (record { ands = z .0; wides = z .1 })
 
-pub property-without : (p : ℕ) → (p ≡ 0 → ⊥) → (p ≡ 1 → ⊥) → (r : GatesAt) → r ≡ noGates 0 → FewGates mostGates r × ((d : Design) → HasGates r (propertyCost d (propertyOf d p)))
-property-without p z o r e = (none-few r 0 e, λ d. none-has r 0 e (property-none d p z o))
+pub property-without : (file piece : List ℕ) (p : ℕ) → (p ≡ 0 → ⊥) → (p ≡ 1 → ⊥) → (r : GatesAt) → r ≡ noGates 0 → FewGates mostGates r × ((d : Design) → HasGates r (propertyCost d (propertyOf file piece d p)))
+property-without file piece p z o r e = (none-few r 0 e, λ d. none-has r 0 e (property-none file piece d p z o))
 
 -- what is known of an accepted file with its shape
 module _ {file : List ℕ} {shape : Shape} (h : ShapedFile file shape) where
@@ -68,19 +71,16 @@ module _ {file : List ℕ} {shape : Shape} (h : ShapedFile file shape) where
   pub tail : tailBytes (version file) ≤ length file
   tail = indexed.tail-inside file (h .accepted)
 
-  pub expressions-inside : constraintOffset file ≤ itemsEnd file
-  expressions-inside = let t = read file (h .accepted) in expressions-order file (t .tree) (t .all .parts) .1
-
   -- the gates of property 2 in a step
   abbrev StepGates : ℕ → GatesAt → Type 0
-  StepGates p r = FewGates mostGates r × ((d : Design) → Parts file d → HasGates r (stepPropertyCost (propertyOf d p)))
+  StepGates p r = FewGates mostGates r × ((d : Design) → Parts file d → (piece : List ℕ) → HasGates r (stepPropertyCost (propertyOf file piece d p)))
 
   pub no-step-property : (p : ℕ) → p < 2 → (r : GatesAt) → r ≡ noGates 0 → StepGates p r
-  no-step-property p l r e = (none-few r 0 e, λ d w. none-has r 0 e (step-property-none d p l))
+  no-step-property p l r e = (none-few r 0 e, λ d w piece. none-has r 0 e (step-property-none file piece d p l))
 
   pub no-constraint : hasConstraint file ≡ false → (p : ℕ) → 2 ≤ p → (r : GatesAt) → r ≡ noGates 0 → StepGates p r
   unfolding boolCost
-  no-constraint z p l r e = (none-few r 0 e, λ d w. none-has r 0 e (step-property-cost d p l ∙ ap boolCost (constraint-none file d w z)))
+  no-constraint z p l r e = (none-few r 0 e, λ d w piece. none-has r 0 e (step-property-cost file piece d p l ∙ ap boolCost (constraint-none file d w z)))
 
   module _ (c : hasConstraint file ≡ true) (at end : ℕ) (a : at ≡ constraintOffset file) (b : end ≡ itemsEnd file) where
     pub constraint-reads : isRead (boolExpr file (withLater true (namesOf file shape)) end maxDepth at) ≡ true
@@ -89,7 +89,7 @@ module _ {file : List ℕ} {shape : Shape} (h : ShapedFile file shape) where
     pub constraint-gates : (p : ℕ) → 2 ≤ p → (r : GatesAt) → r ≡ gatesAt boolCost (boolExpr file (withLater true (namesOf file shape)) end maxDepth at) → StepGates p r
     constraint-gates p l r e = (
       few-gates r (bool-few file _ end (omega (arith, sizes .1)) maxDepth at r e),
-      λ d w. subst (HasGates r) (sym (step-property-cost d p l)) (known-gates boolCost _ _ _ r (indexed.constraint-got file (h .accepted) shape (h .counts) at end a b d w c) e),
+      λ d w piece. subst (HasGates r) (sym (step-property-cost file piece d p l)) (known-gates boolCost _ _ _ r (indexed.constraint-got file (h .accepted) shape (h .counts) at end a b d w c) e),
     )
 
 pub tables : {file table : List ℕ} {shape : Shape} → Ready file table shape → Indexed file table shape
@@ -135,22 +135,26 @@ module _ (file table : List ℕ) (H : Shape) (h : Ready file table H) where
         let s = subst (λ (i : ℕ). HasGates x (boolCost (eventIn (w .rows) i (c-event file p)))) a (subst (λ (j : ℕ). HasGates x (boolCost (eventIn (w .rows) m j))) b (k d w)) in
         record { ands = omega (arith, s .ands); wides = omega (arith, s .wides) }
 
-  -- the property: the invariant, the invalid cells, or none here
-  module _ (at end : ℕ) (a : at ≡ invariantOffset file) (b : end ≡ constraintOffset file) where
-    pub invariant-within : end ≤ length file
-    invariant-within = omega (arith, expressions-inside (h .shaped))
+  -- the property: the expression of the piece or of the file, the invalid cells, or none here
+  module _ (piece : List ℕ) (p : ℕ) (right : pieceRight file piece p ≡ true) (z : p ≡ 0) (text : List ℕ) (e : text ≡ expressionText file piece) where
+    right-0 : pieceRight file piece 0 ≡ true
+    right-0 = ap (pieceRight file piece) (sym z) ∙ right
 
-    pub invariant-reads : isRead (boolExpr file N end maxDepth at) ≡ true
-    invariant-reads = ap isRead (indexed.invariant-some file (h .shaped .accepted) H (h .shaped .counts) at end a b .1)
+    pub expression-short : length text ≤ maxBytes
+    expression-short = pieces.short file piece (h .shaped .accepted) right-0 H (h .shaped .counts) text e
 
-    pub invariant-gates : (p : ℕ) → p ≡ 0 → (r : GatesAt) → r ≡ gatesAt boolCost (boolExpr file N end maxDepth at) → FewGates mostGates r × ((d : Design) → Parts file d → HasGates r (propertyCost d (propertyOf d p)))
-    invariant-gates p z r e = (
-      few-gates r (bool-few file N end (omega (arith, invariant-within, sizes (h .shaped) .1)) maxDepth at r e),
-      λ d w. subst (HasGates r) (sym (property-invariant file d w (H .bits) (h .shaped .bits .state d w) p z)) (known-gates boolCost _ _ _ r (indexed.invariant-got file (h .shaped .accepted) H (h .shaped .counts) at end a b d w) e),
+    pub expression-reads : isRead (boolExpr text N (length text) maxDepth 0) ≡ true
+    expression-reads = pieces.expression-reads file piece (h .shaped .accepted) right-0 H (h .shaped .counts) text e
+
+    pub expression-gates : (r : GatesAt) → r ≡ gatesAt boolCost (boolExpr text N (length text) maxDepth 0) → FewGates mostGates r × ((d : Design) → Parts file d → HasGates r (propertyCost d (propertyOf file piece d p)))
+    expression-gates r k = (
+      few-gates r (bool-few text N (length text) expression-short maxDepth 0 r k),
+      λ d w. subst (HasGates r) (sym (property-expression file d w (H .bits) (h .shaped .bits .state d w) piece p z))
+          (known-gates boolCost _ _ _ r (pieces.expression-got file piece (h .shaped .accepted) right-0 H (h .shaped .counts) text e d w) k),
     )
 
-  pub property-gates : (p : ℕ) → p ≡ 1 → (r : GatesAt) → ((d : Design) (w : Parts file d) → HasGates r (entriesCost (H .bits) true (w .entries))) → (d : Design) → Parts file d → HasGates r (propertyCost d (propertyOf d p))
-  property-gates p z r k d w = subst (HasGates r) (sym (property-cells file d w (H .bits) (h .shaped .bits .state d w) p z)) (k d w)
+  pub property-gates : (piece : List ℕ) (p : ℕ) → p ≡ 1 → (r : GatesAt) → ((d : Design) (w : Parts file d) → HasGates r (entriesCost (H .bits) true (w .entries))) → (d : Design) → Parts file d → HasGates r (propertyCost d (propertyOf file piece d p))
+  property-gates piece p z r k d w = subst (HasGates r) (sym (property-cells file d w (H .bits) (h .shaped .bits .state d w) piece p z)) (k d w)
 
   -- a normal cell
   module _ (p : ℕ) (x : NormalCell file p) where
@@ -340,7 +344,8 @@ module _ (file table : List ℕ) (H : Shape) (h : Ready file table H) (bytes : (
   tree = read file (h .shaped .accepted)
 
   total-few : (t : Bool) → (entriesCost (H .bits) t (tree .all .parts .entries) .ands ≤ mostGates) × (entriesCost (H .bits) t (tree .all .parts .entries) .wides ≤ mostGates)
-  total-few t = entries-few file (tree .tree) (tree .all .parts) (H .bits) (h .shaped .bits .state (tree .tree) (tree .all .parts)) (bounded file bytes (tree .tree) (tree .is)) t
+  unfolding propertyOf
+  total-few t = entries-few file (tree .tree) (tree .all .parts) (H .bits) (h .shaped .bits .state (tree .tree) (tree .all .parts)) (bounded file noPiece bytes (tree .tree) (tree .is) 1 (pieces.no-piece-right file 1)) t
 
   module _ (t : Bool) (left : ℕ) (g : GatesAt) where
     pub cell-here : 0 < left → Walking file (H .bits) t left g → CellHere file (g .next)

@@ -5,9 +5,8 @@ use lib.ListN.{length}
 use Rattle.design.specs.DesignA.{designA, count}
 use Rattle.design.specs.Constrained.{designMoved, designNoIdle}
 use Rattle.design.specs.WellFormed.{WellFormed}
-use Rattle.step.specs.Property.{propertyOf}
+use Rattle.step.specs.Property.{constraint, PropertyOk}
 use Rattle.step.specs.OneStep.{stepping}
-use Rattle.step.proofs.Properties.{property-ok}
 use Rattle.clauses.specs.Formula.{encoding}
 use Rattle.clauses.specs.Theorem.{Model, Exactly}
 use Rattle.clauses.proofs.Counting.{breakers, models}
@@ -27,12 +26,13 @@ well-formed-moved = record {
   start = omega arith;
 }
 
-breakers-moved : length (breakers designMoved (propertyOf designMoved 2) 3) ≡ 1
+breakers-moved : length (breakers designMoved (constraint (designMoved .constraint)) 3) ≡ 1
 unfolding designA designMoved count encoding stepping breakers
 breakers-moved = refl
 
-pub models-moved : Exactly (Model designMoved (propertyOf designMoved 2) 3) 1
-models-moved = models designMoved well-formed-moved (propertyOf designMoved 2) (property-ok designMoved well-formed-moved 2) 3 1 breakers-moved
+pub models-moved : Exactly (Model designMoved (constraint (designMoved .constraint)) 3) 1
+unfolding PropertyOk
+models-moved = models designMoved well-formed-moved (constraint (designMoved .constraint)) (well-formed-moved .constraint) 3 1 breakers-moved
 
 well-formed-noIdle : WellFormed designNoIdle
 unfolding designNoIdle count encoding stepping
@@ -49,9 +49,10 @@ well-formed-noIdle = record {
   start = omega arith;
 }
 
-breakers-noIdle : length (breakers designNoIdle (propertyOf designNoIdle 2) 2) ≡ 3
+breakers-noIdle : length (breakers designNoIdle (constraint (designNoIdle .constraint)) 2) ≡ 3
 unfolding designNoIdle count encoding stepping breakers
 breakers-noIdle = refl
 
-pub models-noIdle : Exactly (Model designNoIdle (propertyOf designNoIdle 2) 2) 3
-models-noIdle = models designNoIdle well-formed-noIdle (propertyOf designNoIdle 2) (property-ok designNoIdle well-formed-noIdle 2) 2 3 breakers-noIdle
+pub models-noIdle : Exactly (Model designNoIdle (constraint (designNoIdle .constraint)) 2) 3
+unfolding PropertyOk
+models-noIdle = models designNoIdle well-formed-noIdle (constraint (designNoIdle .constraint)) (well-formed-noIdle .constraint) 2 3 breakers-noIdle

@@ -170,16 +170,16 @@ module _ (k : ℕ) (values choices : List ℕ) where
             ∙ answer-exit (chosenList values (F d q) (w d) k base) (deep ∙ from-good d q values k base 0 base-is (omega arith)) (list-long values (F d q) (w d) k base)
 
   -- the call of a file
-  module _ (file : List ℕ) (p : ℕ) where
-    pub decode-refused : (number place : ℕ) → admission.Refused number place ≡ admissionSizes file p k → exit (Refused number place) choices ≡ DECODE file p k values choices
+  module _ (file piece : List ℕ) (p : ℕ) where
+    pub decode-refused : (number place : ℕ) → admission.Refused number place ≡ admissionSizes file piece p k → exit (Refused number place) choices ≡ DECODE file piece p k values choices
     unfolding decode choicesToWrite
-    decode-refused number place e = sym (ap (λ (x : Answer (List ℕ)). decodeExit (written x choices)) (admission-refused file p k number place e _))
+    decode-refused number place e = sym (ap (λ (x : Answer (List ℕ)). decodeExit (written x choices)) (admission-refused file piece p k number place e _))
 
-    pub decode-passed : (s : FrameSizes) → admission.Passed s ≡ admissionSizes file p k → ((i : ℕ) → getD file i 0 < 256) → (x : DecodeExit)
-        → ((d : Design) (q : Property) → WellFormed d → s ≡ frameSizes d q → x ≡ decodeExit (written (choicesOf d q k values (length choices)) choices)) → x ≡ DECODE file p k values choices
+    pub decode-passed : (s : FrameSizes) → admission.Passed s ≡ admissionSizes file piece p k → ((i : ℕ) → getD file i 0 < 256) → (x : DecodeExit)
+        → ((d : Design) (q : Property) → WellFormed d → s ≡ frameSizes d q → x ≡ decodeExit (written (choicesOf d q k values (length choices)) choices)) → x ≡ DECODE file piece p k values choices
     unfolding decode choicesToWrite
     decode-passed s e bytes x f =
-        let a = admission-admitted file p k s e bytes in
+        let a = admission-admitted file piece p k s e bytes in
         let t = read file (a .accepted) in
-        f (t .tree) (propertyOf (t .tree) p) (well-formed file bytes (t .tree) (t .is)) (a .sizes (t .tree) (t .is))
+        f (t .tree) (propertyOf file piece (t .tree) p) (well-formed file bytes (t .tree) (t .is)) (a .sizes (t .tree) (t .is))
         ∙ sym (ap (λ (y : Answer (List ℕ)). decodeExit (written y choices)) (admitted-in a bytes _ (t .tree) (t .is)))

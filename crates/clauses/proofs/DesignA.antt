@@ -4,12 +4,12 @@ use Prim.Native.Nat.{ℕ}
 use native.Mathlib.Omega.{arith}
 use lib.ListN.{length}
 use Rattle.design.specs.Check.{checking}
-use Rattle.design.specs.DesignA.{bytesA, designA, count}
+use Rattle.design.specs.DesignA.{bytesA, pieceA, designA, count}
 use Rattle.design.specs.WellFormed.{WellFormed}
-use Rattle.step.specs.Property.{Property, propertyOf}
+use Rattle.step.specs.Piece.{noPiece, pieceRight}
+use Rattle.step.specs.Property.{Property, invariant, propertyOf, PropertyOk}
 use Rattle.step.specs.OneStep.{stepping}
 use Rattle.step.specs.Gate.{gate}
-use Rattle.step.proofs.Properties.{property-ok}
 use Rattle.clauses.specs.Formula.{F, encoding}
 use Rattle.design.specs.Answer.{answer, onDesign}
 use Rattle.clauses.specs.Admission.{admit}
@@ -19,7 +19,7 @@ use Rattle.clauses.proofs.Counting.{breakers, models}
 
 -- property 0
 abbrev invariantA : Property
-invariantA = propertyOf designA 0
+invariantA = invariant (designA .invariant)
 
 -- "S=21, P=80, w=3, G=371, F=475."
 abbrev sizesA : ℕ → ℕ → ℕ → Sizes
@@ -30,13 +30,13 @@ unfolding designA encoding
 frame-A = refl
 
 -- "Bound 0: n=102, 295 clauses."
-pub size-A-0 : size bytesA 0 0 ≡ answer (sizesA 102 295 1038)
-unfolding bytesA checking encoding gate admit onDesign sizesOf size
+pub size-A-0 : size bytesA noPiece 0 0 ≡ answer (sizesA 102 295 1038)
+unfolding bytesA checking encoding pieceRight gate admit onDesign sizesOf size
 size-A-0 = refl
 
 -- "Bound 3: n=1527, 5413 clauses."
-pub size-A-3 : size bytesA 0 3 ≡ answer (sizesA 1527 5413 20136)
-unfolding bytesA checking encoding gate admit onDesign sizesOf size
+pub size-A-3 : size bytesA noPiece 0 3 ≡ answer (sizesA 1527 5413 20136)
+unfolding bytesA checking encoding pieceRight gate admit onDesign sizesOf size
 size-A-3 = refl
 
 -- "Bound 3 has 1 model; bound 4 has 9."
@@ -64,7 +64,24 @@ unfolding designA count encoding stepping breakers
 breakers-4 = refl
 
 pub models-3 : Exactly (Model designA invariantA 3) 1
-models-3 = models designA well-formed-A invariantA (property-ok designA well-formed-A 0) 3 1 breakers-3
+unfolding PropertyOk
+models-3 = models designA well-formed-A invariantA (well-formed-A .invariant) 3 1 breakers-3
 
 pub models-4 : Exactly (Model designA invariantA 4) 9
-models-4 = models designA well-formed-A invariantA (property-ok designA well-formed-A 0) 4 9 breakers-4
+unfolding PropertyOk
+models-4 = models designA well-formed-A invariantA (well-formed-A .invariant) 4 9 breakers-4
+
+-- with the piece in the invariant's place: c is 1 after the choices 2, 0
+abbrev lentA : Property
+lentA = propertyOf bytesA pieceA designA 0
+
+lent-ok : PropertyOk designA lentA
+unfolding bytesA pieceA designA count checking encoding stepping PropertyOk
+lent-ok = omega arith
+
+breakers-lent : length (breakers designA lentA 2) ≡ 1
+unfolding bytesA pieceA designA count checking encoding stepping breakers
+breakers-lent = refl
+
+pub models-lent : Exactly (Model designA lentA 2) 1
+models-lent = models designA well-formed-A lentA lent-ok 2 1 breakers-lent

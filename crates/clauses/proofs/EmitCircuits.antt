@@ -10,7 +10,7 @@ use Rattle.design.specs.Tree.{truth}
 use Rattle.clauses.specs.Literal.{Literal, negate, trueLiteral, falseLiteral}
 use Rattle.clauses.specs.Circuit.{Build, give, _>>=_, and!, xor!, or!, Bits, Summed, sum!, difference!, shift, addend, negateTop, less!, xors!, chain!, equal! }
 use Rattle.clauses.specs.Writing.{fromCode, fromCodes, Emits}
-use Rattle.clauses.specs.Piece.{SumBit, sumBit! }
+use Rattle.clauses.specs.Builders.{SumBit, sumBit! }
 use Rattle.clauses.proofs.EmitWords.{append-nil, code-no}
 use Rattle.clauses.proofs.EmitLists.{drop-one, drop-all, drop-none, take-all, codes-more}
 use Rattle.clauses.proofs.EmitBuilds.{emits-same, emits-result, emits-bind, emits-map, Left, left-start, left-on, left-map, left-same, left-result, left-end}

@@ -23,7 +23,7 @@ use Rattle.clauses.specs.Literal.{Literal, negate, falseLiteral, literal
 use Rattle.clauses.specs.Circuit.{Build, give, _>>=_, and!, or!, Bits, Summed, sum!, difference!, shift, addend, product!, equal!, less! }
 use Rattle.clauses.specs.Expression.{Slots, constantBits, integerAt, booleanAt, int!, bool! }
 use Rattle.clauses.specs.Writing.{fromCodes, Emits}
-use Rattle.clauses.specs.Piece.{arithmetic!, logic!, compare! }
+use Rattle.clauses.specs.Builders.{arithmetic!, logic!, compare! }
 use Rattle.clauses.specs.FlatState.{readSlots, layoutOf, Slotted, Reads}
 use Rattle.clauses.specs.Encoders.{Writes, Here, Encodes, intsAt, boolsAt, IntHere, BoolHere}
 use Rattle.clauses.specs.declared.gate.Cursor.{Cursor}

@@ -152,55 +152,55 @@ module _ (file : List ℕ) (h : Accepted file) (nv nm : ℕ) (e : nv ≡ variabl
       (puts-then one (puts-same (sym both) (puts-then (p2 d w) (p3 (omega (arith, first-small))))))
 
 -- the property's literal at a frame
-pub property-out : {file : List ℕ} {shape : Shape} (h : ShapedFile file shape) (codes : List ℕ) (p v n y r : ℕ) → length codes ≡ maxBits → n ≡ shape .bits → (v + n ≤ variableLimit → take n (fromCodes codes) ≡ variablesFrom v n) → y ≡ v + n
-    → {xs ys : List ℤ} {c k : ℕ} → ((d : Design) (w : Parts file d) → Emits y (property! d (propertyOf d p) (slotsOf file shape codes) y) xs ys 0 (fromCode r) c k)
-    → (d : Design) (w : Parts file d) → v + n + P d (propertyOf d p) ≤ variableLimit → fromCode r ≡ (propertyAt d (propertyOf d p) v) .out
+pub property-out : {file : List ℕ} (piece : List ℕ) {shape : Shape} (h : ShapedFile file shape) (codes : List ℕ) (p v n y r : ℕ) → length codes ≡ maxBits → n ≡ shape .bits → (v + n ≤ variableLimit → take n (fromCodes codes) ≡ variablesFrom v n) → y ≡ v + n
+    → {xs ys : List ℤ} {c k : ℕ} → ((d : Design) (w : Parts file d) → Emits y (property! d (propertyOf file piece d p) (slotsOf file shape codes) y) xs ys 0 (fromCode r) c k)
+    → (d : Design) (w : Parts file d) → v + n + P d (propertyOf file piece d p) ≤ variableLimit → fromCode r ≡ (propertyAt d (propertyOf file piece d p) v) .out
 unfolding propertyAt gateWords
-property-out {file} {shape} h codes p v n y r size en taken ey f d w room =
+property-out {file} piece {shape} h codes p v n y r size en taken ey f d w room =
     let s : n ≡ S d = en ∙ h .bits .state d w in
     let state = state-is h d w codes v size (ap (λ (k : ℕ). take k (fromCodes codes)) (sym s) ∙ taken (omega arith) ∙ ap (variablesFrom v) s) in
-    let same : property! d (propertyOf d p) (slotsOf file shape codes) y ≡ property! d (propertyOf d p) (stateAt d v) (v + S d) = ap₂ (λ (a : Slots) (k : ℕ). property! d (propertyOf d p) a k) state (ey ∙ ap (λ (k : ℕ). v + k) s) in
-    let b = property! d (propertyOf d p) (stateAt d v) (v + S d) in
-    let costs = property-costs-at d (propertyOf d p) v in
+    let same : property! d (propertyOf file piece d p) (slotsOf file shape codes) y ≡ property! d (propertyOf file piece d p) (stateAt d v) (v + S d) = ap₂ (λ (a : Slots) (k : ℕ). property! d (propertyOf file piece d p) a k) state (ey ∙ ap (λ (k : ℕ). v + k) s) in
+    let b = property! d (propertyOf file piece d p) (stateAt d v) (v + S d) in
+    let costs = property-costs-at d (propertyOf file piece d p) v in
     let g = gates-counted (b .gates) in
     let ws = words-counted (b .gates) in
-    emits-same _ _ same (f d w) .emits (record { numbers = omega (arith, costs .ands, costs .wides, P-is d (propertyOf d p)); words = omega (arith, costs .ands, costs .wides, P-is d (propertyOf d p)) }) .result
+    emits-same _ _ same (f d w) .emits (record { numbers = omega (arith, costs .ands, costs .wides, P-is d (propertyOf file piece d p)); words = omega (arith, costs .ands, costs .wides, P-is d (propertyOf file piece d p)) }) .result
 
 -- property 2's literal in the step out of a frame: its gates are the last before the next frame
-pub step-out : {file : List ℕ} (p v after y r : ℕ) (g : GatesAt) → ((i : ℕ) → getD file i 0 < 256) → ((d : Design) → Parts file d → HasGates g (stepPropertyCost (propertyOf d p)))
+pub step-out : {file : List ℕ} (p v after y r : ℕ) (g : GatesAt) → ((i : ℕ) → getD file i 0 < 256) → ((d : Design) → Parts file d → (piece : List ℕ) → HasGates g (stepPropertyCost (propertyOf file piece d p)))
     → (g .ands + g .wides ≤ after → y ≡ after - (g .ands + g .wides))
-    → {xs ys : List ℤ} {c k : ℕ} → ((d : Design) (w : Parts file d) → v + S d ≤ variableLimit → after + S d ≤ variableLimit → Emits y (stepProperty! d (propertyOf d p) (stateAt d v) (stateAt d after) y) xs ys 0 (fromCode r) c k)
-    → (d : Design) → check file ≡ Checked.accepted d → after ≡ v + F d (propertyOf d p) → after + S d ≤ variableLimit → fromCode r ≡ (stepPropertyAt d (propertyOf d p) v (stateAt d after)) .out
+    → {xs ys : List ℤ} {c k : ℕ} → ((d : Design) (w : Parts file d) (piece : List ℕ) → v + S d ≤ variableLimit → after + S d ≤ variableLimit → Emits y (stepProperty! d (propertyOf file piece d p) (stateAt d v) (stateAt d after) y) xs ys 0 (fromCode r) c k)
+    → (d : Design) → check file ≡ Checked.accepted d → (piece : List ℕ) → after ≡ v + F d (propertyOf file piece d p) → after + S d ≤ variableLimit → fromCode r ≡ (stepPropertyAt d (propertyOf file piece d p) v (stateAt d after)) .out
 unfolding stepPropertyAt gateWords F stepCost
-step-out {file} p v after y r g bytes gates less f d ok e room =
-    let q = propertyOf d p in
+step-out {file} p v after y r g bytes gates less f d ok piece e room =
+    let q = propertyOf file piece d p in
     let wf = well-formed file bytes d ok in
     let parts = whole file d ok .parts in
-    let k = gates d parts in
+    let k = gates d parts piece in
     let costs = step-property-costs-at d q v (stateAt d after) in
     let ends : (stepAt d q v) .next + gatesIn (stepPropertyCost q) ≡ after = omega (arith, step-costs-at d wf q v .next, property-next d q v, G-is d wf q) in
     let same : y ≡ (stepAt d q v) .next = omega (arith, less (omega (arith, k .ands, k .wides)), k .ands, k .wides) in
     let b = stepPropertyAt d q v (stateAt d after) in
     let n = gates-counted (b .gates) in
     let ws = words-counted (b .gates) in
-    emits-same _ _ (ap (stepProperty! d q (stateAt d v) (stateAt d after)) same) (f d parts (omega arith) room) .emits
+    emits-same _ _ (ap (stepProperty! d q (stateAt d v) (stateAt d after)) same) (f d parts piece (omega arith) room) .emits
     (record { numbers = omega (arith, costs .ands, costs .wides); words = omega (arith, costs .ands, costs .wides) }) .result
 
 -- the literal that counts, by the property's number
 module _ (d : Design) where
-  pub literal-of-state : (p : ℕ) → p < 2 → (v n : ℕ) → n ≡ S d → (l : Literal) → (v + n + P d (propertyOf d p) ≤ variableLimit → l ≡ (propertyAt d (propertyOf d p) v) .out)
-      → PropertyLiteralFits d (propertyOf d p) v → l ≡ propertyLiteralAt d (propertyOf d p) v
+  pub literal-of-state : (file piece : List ℕ) (p : ℕ) → p < 2 → (v n : ℕ) → n ≡ S d → (l : Literal) → (v + n + P d (propertyOf file piece d p) ≤ variableLimit → l ≡ (propertyAt d (propertyOf file piece d p) v) .out)
+      → PropertyLiteralFits d (propertyOf file piece d p) v → l ≡ propertyLiteralAt d (propertyOf file piece d p) v
   unfolding propertyOf
-  literal-of-state zero h v n e l f room = f (omega arith)
-  literal-of-state (suc zero) h v n e l f room = f (omega arith)
-  literal-of-state (suc (suc p)) h v n e l f room = absurd (omega arith)
+  literal-of-state file piece zero h v n e l f room = f (omega arith)
+  literal-of-state file piece (suc zero) h v n e l f room = f (omega arith)
+  literal-of-state file piece (suc (suc p)) h v n e l f room = absurd (omega arith)
 
-  pub literal-of-step : (p : ℕ) → 2 ≤ p → (v after : ℕ) → after ≡ v + F d (propertyOf d p) → (l : Literal) → (after + S d ≤ variableLimit → l ≡ (stepPropertyAt d (propertyOf d p) v (stateAt d after)) .out)
-      → PropertyLiteralFits d (propertyOf d p) v → l ≡ propertyLiteralAt d (propertyOf d p) v
+  pub literal-of-step : (file piece : List ℕ) (p : ℕ) → 2 ≤ p → (v after : ℕ) → after ≡ v + F d (propertyOf file piece d p) → (l : Literal) → (after + S d ≤ variableLimit → l ≡ (stepPropertyAt d (propertyOf file piece d p) v (stateAt d after)) .out)
+      → PropertyLiteralFits d (propertyOf file piece d p) v → l ≡ propertyLiteralAt d (propertyOf file piece d p) v
   unfolding propertyOf
-  literal-of-step zero h v after e l f room = absurd (omega arith)
-  literal-of-step (suc zero) h v after e l f room = absurd (omega arith)
-  literal-of-step (suc (suc p)) h v after e l f room = f (omega arith) ∙ ap (λ (k : ℕ). (stepPropertyAt d (constraint (d .constraint)) v (stateAt d k)) .out) e
+  literal-of-step file piece zero h v after e l f room = absurd (omega arith)
+  literal-of-step file piece (suc zero) h v after e l f room = absurd (omega arith)
+  literal-of-step file piece (suc (suc p)) h v after e l f room = f (omega arith) ∙ ap (λ (k : ℕ). (stepPropertyAt d (constraint (d .constraint)) v (stateAt d k)) .out) e
 
   -- in the frames that count it is within the limit
   state-fits : (q : Property) (j k : ℕ) → j ≤ k → n d q k ≤ lastVariable → frame d q j + S d + P d q ≤ variableLimit
@@ -229,32 +229,32 @@ module _ (d : Design) where
   counted q s k e = ap (λ (x : FrameSizes). k + x .last) e ∙ omega (arith, frames-are k q)
 
 -- the last clause, a frame at a time
-pub record Closing (file : List ℕ) (p stride frames : ℕ) (xs₀ : List ℤ) (cur₀ : ℕ) (xs : List ℤ) (cur x j : ℕ) : Type 0 where
+pub record Closing (file piece : List ℕ) (p stride frames : ℕ) (xs₀ : List ℤ) (cur₀ : ℕ) (xs : List ℤ) (cur x j : ℕ) : Type 0 where
   pub within : j ≤ frames
   pub start : x ≡ 2 + j * stride
-  pub left : (d : Design) (bound : ℕ) → check file ≡ Checked.accepted d → stride ≡ F d (propertyOf d p) → frames ≡ framesTaken (propertyOf d p) bound → n d (propertyOf d p) bound ≤ lastVariable
-      → PutsLeft (clauseWords (lastClause d (propertyOf d p) bound)) xs₀ cur₀ (clauseWords (negatedFrom d (propertyOf d p) (frames - j) j)) xs cur
+  pub left : (d : Design) (bound : ℕ) → check file ≡ Checked.accepted d → stride ≡ F d (propertyOf file piece d p) → frames ≡ framesTaken (propertyOf file piece d p) bound → n d (propertyOf file piece d p) bound ≤ lastVariable
+      → PutsLeft (clauseWords (lastClause d (propertyOf file piece d p) bound)) xs₀ cur₀ (clauseWords (negatedFrom d (propertyOf file piece d p) (frames - j) j)) xs cur
 
-module _ (file : List ℕ) (p stride frames : ℕ) (xs₀ : List ℤ) (cur₀ : ℕ) where
-  pub closing-start : Closing file p stride frames xs₀ cur₀ xs₀ cur₀ 2 0
+module _ (file piece : List ℕ) (p stride frames : ℕ) (xs₀ : List ℤ) (cur₀ : ℕ) where
+  pub closing-start : Closing file piece p stride frames xs₀ cur₀ xs₀ cur₀ 2 0
   unfolding lastClause
   closing-start = record {
     within = omega arith;
     start = omega arith;
     left = λ d bound ok e f room.
-        let q = propertyOf d p in
+        let q = propertyOf file piece d p in
         subst (λ (m : ℕ). PutsLeft (clauseWords (negatedFrom d q (framesTaken q bound) 0)) xs₀ cur₀ (clauseWords (negatedFrom d q m 0)) xs₀ cur₀) (let z : framesTaken q bound ≡ frames - 0 = omega arith in z) (puts-start _ xs₀ cur₀);
   }
 
-  pub closing-on : {xs : List ℤ} {cur x j : ℕ} → j < frames → Closing file p stride frames xs₀ cur₀ xs cur x j → (y : ℕ) (l m : Literal) → y ≡ x + stride
-      → ((d : Design) → check file ≡ Checked.accepted d → stride ≡ F d (propertyOf d p) → PropertyLiteralFits d (propertyOf d p) x → l ≡ propertyLiteralAt d (propertyOf d p) x) → m ≡ negate l
-      → {ys : List ℤ} {c : ℕ} → Puts (wordOf m ∷ []) xs ys cur c → Closing file p stride frames xs₀ cur₀ ys c y (j + 1)
+  pub closing-on : {xs : List ℤ} {cur x j : ℕ} → j < frames → Closing file piece p stride frames xs₀ cur₀ xs cur x j → (y : ℕ) (l m : Literal) → y ≡ x + stride
+      → ((d : Design) → check file ≡ Checked.accepted d → stride ≡ F d (propertyOf file piece d p) → PropertyLiteralFits d (propertyOf file piece d p) x → l ≡ propertyLiteralAt d (propertyOf file piece d p) x) → m ≡ negate l
+      → {ys : List ℤ} {c : ℕ} → Puts (wordOf m ∷ []) xs ys cur c → Closing file piece p stride frames xs₀ cur₀ ys c y (j + 1)
   unfolding negatedFrom
   closing-on {x = x} {j = j} lt k y l m ey el em {ys} {c} puts = record {
     within = omega arith;
     start = omega (arith, k .start, suc-mul j stride, ap (λ (i : ℕ). i * stride) (add-one j));
     left = λ d bound ok e f room.
-        let q = propertyOf d p in
+        let q = propertyOf file piece d p in
         let at = start-frame d q stride x j e (k .start) in
         let fits = literal-fits d q j bound (omega arith) room in
         let lit : l ≡ propertyLiteralIn d q j = el d ok e (subst (PropertyLiteralFits d q) (sym at) fits) ∙ ap (propertyLiteralAt d q) at ∙ property-literal-is d q j in
@@ -265,12 +265,12 @@ module _ (file : List ℕ) (p stride frames : ℕ) (xs₀ : List ℤ) (cur₀ : 
         (puts-on (wordOf (negate (propertyLiteralIn d q j)) ∷ []) rest e1 (k .left d bound ok e f room) (puts-same one puts));
   }
 
-  pub closing-end : {xs : List ℤ} {cur x j : ℕ} → frames ≤ j → Closing file p stride frames xs₀ cur₀ xs cur x j → {ys : List ℤ} {c : ℕ} → Puts (pos 0 ∷ []) xs ys cur c
+  pub closing-end : {xs : List ℤ} {cur x j : ℕ} → frames ≤ j → Closing file piece p stride frames xs₀ cur₀ xs cur x j → {ys : List ℤ} {c : ℕ} → Puts (pos 0 ∷ []) xs ys cur c
       → ((i : ℕ) → getD file i 0 < 256) → {s : FrameSizes} {bound : ℕ} → SmallFormula s bound → stride ≡ frameLength s → frames ≡ bound + s .last
-      → (d : Design) → check file ≡ Checked.accepted d → s ≡ frameSizes d (propertyOf d p) → Puts (words (lastClause d (propertyOf d p) bound ∷ [])) xs₀ ys cur₀ c
+      → (d : Design) → check file ≡ Checked.accepted d → s ≡ frameSizes d (propertyOf file piece d p) → Puts (words (lastClause d (propertyOf file piece d p) bound ∷ [])) xs₀ ys cur₀ c
   unfolding negatedFrom
   closing-end {j = j} l k puts bytes {s} {bound} h es ef d ok e =
-      let q = propertyOf d p in
+      let q = propertyOf file piece d p in
       let wf = well-formed file bytes d ok in
       let stride-is : stride ≡ F d q = es ∙ ap frameLength e ∙ length-is d wf q in
       let room = small-numbers d wf q h e bound (le-refl bound) in

@@ -24,7 +24,10 @@ use Rattle.design.proofs.Widths.{layout-is as layout-by-counts}
 use Rattle.design.proofs.Indexed as indexed
 use Rattle.design.proofs.Places.{Read as Tree, read, cell-fields, cell-stands, normal-stands}
 use Rattle.design.specs.declared.shape.Shape.{Shape}
+use Rattle.step.specs.Piece.{pieceRight, expressionOf}
+use Rattle.step.specs.Ready.{expressionText}
 use Rattle.step.specs.Property.{propertyOf}
+use Rattle.step.proofs.Pieces.{expression-got}
 use Rattle.design.specs.Sections.{NormalCell}
 use Rattle.design.specs.Places.{externalsFrom}
 use Rattle.design.proofs.Externals.{mover-count, cell-mover, raise-mover}
@@ -34,7 +37,7 @@ use Rattle.clauses.specs.Expression.{Slots, bool! }
 use Rattle.clauses.specs.Action.{statusAndEvent!, mover!, movers!, noInvalid! }
 use Rattle.clauses.specs.Formula.{property!, stepProperty! }
 use Rattle.clauses.specs.Writing.{fromCode, Emits}
-use Rattle.clauses.specs.Piece.{link! }
+use Rattle.clauses.specs.Builders.{link! }
 use Rattle.clauses.specs.FlatState.{slotsOf, readSlots, layoutOf}
 use Rattle.clauses.specs.Ready.{ShapedFile, resultFrom}
 use Rattle.clauses.specs.Encoders.{Writes, Gives, BoolHere, BoolEncoded}
@@ -45,7 +48,7 @@ use Rattle.clauses.proofs.EmitWords.{append-nil}
 use Rattle.clauses.proofs.EmitLists.{drop-all}
 use Rattle.clauses.proofs.EmitBuilds.{emits-same, emits-result, emits-give, emits-bind, Left, left-start, left-on, left-map, left-same, left-result, left-end}
 use Rattle.clauses.proofs.EmitStates.{built-same}
-use Rattle.clauses.proofs.CellCounts.{sizes, expressions-inside}
+use Rattle.clauses.proofs.CellCounts.{sizes}
 
 -- every external's kind byte is 2
 kind-in : (file : List ℕ) (v : ℕ) (rest : List ℕ) → ((k : ℕ) → k < length rest → getD file (3 * getD rest k 0) 0 ≡ 2) → (t : Bool) → eqb (getD file (3 * v) 0) 2 ≡ t → (k : ℕ) → k < length (cond t (v ∷ rest) rest) → getD file (3 * getD (cond t (v ∷ rest) rest) k 0) 0 ≡ 2
@@ -299,28 +302,28 @@ gives-true b e {pen} {xs} r (l, c, v) =
     (subst (λ (k : ℕ). Emits (pen .var) (b (pen .var)) xs xs (pen .cur) trueLiteral (r .cur) k) (sym v)
     (subst (λ (k : ℕ). Emits (pen .var) (b (pen .var)) xs xs (pen .cur) trueLiteral k (pen .var)) (sym c) one))
 
-module _ (d : Design) (s : Slots) where
-  pub property-none : (p : ℕ) → (p ≡ 0 → ⊥) → (p ≡ 1 → ⊥) → property! d (propertyOf d p) s ≡ give trueLiteral
+module _ (file piece : List ℕ) (d : Design) (s : Slots) where
+  pub property-none : (p : ℕ) → (p ≡ 0 → ⊥) → (p ≡ 1 → ⊥) → property! d (propertyOf file piece d p) s ≡ give trueLiteral
   unfolding property! propertyOf
   property-none zero h z = absurd (h refl)
   property-none (suc zero) h z = absurd (z refl)
   property-none (suc (suc p)) h z = refl
 
   module _ (next : Slots) where
-    pub step-property-none : (p : ℕ) → p < 2 → stepProperty! d (propertyOf d p) s next ≡ give trueLiteral
+    pub step-property-none : (p : ℕ) → p < 2 → stepProperty! d (propertyOf file piece d p) s next ≡ give trueLiteral
     unfolding stepProperty! propertyOf
     step-property-none zero h = refl
     step-property-none (suc zero) h = refl
     step-property-none (suc (suc p)) h = absurd (omega arith)
 
-    pub step-property-is : (p : ℕ) → 2 ≤ p → stepProperty! d (propertyOf d p) s next ≡ bool! (layout d) (s ++ next) (d .constraint)
+    pub step-property-is : (p : ℕ) → 2 ≤ p → stepProperty! d (propertyOf file piece d p) s next ≡ bool! (layout d) (s ++ next) (d .constraint)
     unfolding stepProperty! propertyOf
     step-property-is zero h = absurd (omega arith)
     step-property-is (suc zero) h = absurd (omega arith)
     step-property-is (suc (suc p)) h = refl
 
     -- a file without a constraint
-    pub step-property-true : (p : ℕ) → 2 ≤ p → d .constraint ≡ constantB true → stepProperty! d (propertyOf d p) s next ≡ give trueLiteral
+    pub step-property-true : (p : ℕ) → 2 ≤ p → d .constraint ≡ constantB true → stepProperty! d (propertyOf file piece d p) s next ≡ give trueLiteral
     unfolding bool!
     step-property-true p h e = step-property-is p h ∙ ap (bool! (layout d) (s ++ next)) e
 
@@ -329,34 +332,34 @@ module _ {file : List ℕ} {shape : Shape} (h : ShapedFile file shape) where
   pub layout-is : (d : Design) (w : Parts file d) → layout d ≡ layoutOf shape
   layout-is d w = sym (layout-by-counts file d w (shape .variables) (shape .matrices) (h .counts .variables) (h .counts .matrices))
 
-  property-0 : (d : Design) (w : Parts file d) (p : ℕ) (s : Slots) (n : ℕ) → p ≡ 0 → bool! (layoutOf shape) s (d .invariant) n ≡ property! d (propertyOf d p) s n
+  property-0 : (piece : List ℕ) (d : Design) (w : Parts file d) (p : ℕ) (s : Slots) (n : ℕ) → p ≡ 0 → bool! (layoutOf shape) s (expressionOf file piece d) n ≡ property! d (propertyOf file piece d p) s n
   unfolding property! propertyOf
-  property-0 d w zero s n e = ap (λ (l : Layout). bool! l s (d .invariant) n) (sym (layout-is d w))
-  property-0 d w (suc p) s n e = absurd (omega arith)
+  property-0 piece d w zero s n e = ap (λ (l : Layout). bool! l s (expressionOf file piece d) n) (sym (layout-is d w))
+  property-0 piece d w (suc p) s n e = absurd (omega arith)
 
-  pub property-1 : (d : Design) (w : Parts file d) (p : ℕ) (s : Slots) (n : ℕ) → p ≡ 1 → noInvalid! (layoutOf shape) s trueLiteral (d .invalid) n ≡ property! d (propertyOf d p) s n
+  pub property-1 : (piece : List ℕ) (d : Design) (w : Parts file d) (p : ℕ) (s : Slots) (n : ℕ) → p ≡ 1 → noInvalid! (layoutOf shape) s trueLiteral (d .invalid) n ≡ property! d (propertyOf file piece d p) s n
   unfolding property! propertyOf
-  property-1 d w zero s n e = absurd (omega arith)
-  property-1 d w (suc zero) s n e = ap (λ (l : Layout). noInvalid! l s trueLiteral (d .invalid) n) (sym (layout-is d w))
-  property-1 d w (suc (suc p)) s n e = absurd (omega arith)
+  property-1 piece d w zero s n e = absurd (omega arith)
+  property-1 piece d w (suc zero) s n e = ap (λ (l : Layout). noInvalid! l s trueLiteral (d .invalid) n) (sym (layout-is d w))
+  property-1 piece d w (suc (suc p)) s n e = absurd (omega arith)
 
   pub cell-in : (p i : ℕ) → i < cellCount file → p ≡ pastCells file i (cellsOffset file) → CellFields file p
   cell-in p i l e = let t = read file (h .accepted) in scan-fields file shape [] (t .tree) (t .all .parts) p i l e
 
-  -- the invariant's gates
-  module _ (at : ℕ) (a : at ≡ invariantOffset file) where
-    invariant-got : (d : Design) (w : Parts file d) → boolExpr file (namesOf file shape) (constraintOffset file) maxDepth at ≡ got (d .invariant) (constraintOffset file)
-    invariant-got = indexed.invariant-got file (h .accepted) shape (h .counts) at (constraintOffset file) a refl
+  -- the gates of property 0's expression, in the piece or in the file
+  module _ (piece : List ℕ) (p : ℕ) (right : pieceRight file piece p ≡ true) (z : p ≡ 0) (text : List ℕ) (e : text ≡ expressionText file piece) where
+    text-got : (d : Design) (w : Parts file d) → boolExpr text (namesOf file shape) (length text) maxDepth 0 ≡ got (expressionOf file piece d) (length text)
+    text-got = expression-got file piece (h .accepted) (ap (pieceRight file piece) (sym z) ∙ right) shape (h .counts) text e
 
-    pub invariant-here : BoolHere file file shape false at
-    invariant-here =
+    pub expression-here : BoolHere text file shape false 0
+    expression-here =
         let t = read file (h .accepted) in
-        record { end = constraintOffset file; levels = maxDepth; inside = omega (arith, expressions-inside h); read = record { tree = t .tree .invariant; past = constraintOffset file; reads = invariant-got (t .tree) (t .all .parts) } }
+        record { end = length text; levels = maxDepth; inside = omega arith; read = record { tree = expressionOf file piece (t .tree); past = length text; reads = text-got (t .tree) (t .all .parts) } }
 
-    pub invariant-writes : (p : ℕ) → p ≡ 0 → (codes : List ℕ) {pen : Cursor} {xs ys : List ℤ} (r : BoolOut) → BoolEncoded file file shape false codes at pen xs ys r
-        → (d : Design) (w : Parts file d) → Writes pen (property! d (propertyOf d p) (slotsOf file shape codes)) xs ys (fromCode (r .lit)) (r .pen)
-    invariant-writes p z codes {pen = pen} r k d w =
-        emits-same _ _ (property-0 d w p (slotsOf file shape codes) (pen .var) z) (k .encodes (constraintOffset file) maxDepth _ _ (omega (arith, expressions-inside h)) (invariant-got d w) .0)
+    pub expression-writes : (codes : List ℕ) {pen : Cursor} {xs ys : List ℤ} (r : BoolOut) → BoolEncoded text file shape false codes 0 pen xs ys r
+        → (d : Design) (w : Parts file d) → Writes pen (property! d (propertyOf file piece d p) (slotsOf file shape codes)) xs ys (fromCode (r .lit)) (r .pen)
+    expression-writes codes {pen = pen} r k d w =
+        emits-same _ _ (property-0 piece d w p (slotsOf file shape codes) (pen .var) z) (k .encodes (length text) maxDepth _ _ (omega arith) (text-got d w) .0)
 
   -- the constraint's gates, over two states
   module _ (c : hasConstraint file ≡ true) (at : ℕ) (a : at ≡ constraintOffset file) where
@@ -369,10 +372,10 @@ module _ {file : List ℕ} {shape : Shape} (h : ShapedFile file shape) where
         record { end = itemsEnd file; levels = maxDepth; inside = omega arith; read = record { tree = t .tree .constraint; past = itemsEnd file; reads = constraint-got (t .tree) (t .all .parts) } }
 
     pub constraint-writes : (p : ℕ) → 2 ≤ p → (codes : List ℕ) {pen : Cursor} {xs ys : List ℤ} (r : BoolOut) → BoolEncoded file file shape true codes at pen xs ys r
-        → (d : Design) (w : Parts file d) (s next : Slots) → readSlots true file shape codes ≡ s ++ next → Writes pen (stepProperty! d (propertyOf d p) s next) xs ys (fromCode (r .lit)) (r .pen)
-    constraint-writes p l codes {pen = pen} r k d w s next e =
+        → (d : Design) (w : Parts file d) (piece : List ℕ) (s next : Slots) → readSlots true file shape codes ≡ s ++ next → Writes pen (stepProperty! d (propertyOf file piece d p) s next) xs ys (fromCode (r .lit)) (r .pen)
+    constraint-writes p l codes {pen = pen} r k d w piece s next e =
         emits-same _ _
-        (ap₂ (λ (x : Layout) (y : Slots). bool! x y (d .constraint) (pen .var)) (sym (layout-is d w)) e ∙ ap (λ (b : Build Literal). b (pen .var)) (sym (step-property-is d s next p l)))
+        (ap₂ (λ (x : Layout) (y : Slots). bool! x y (d .constraint) (pen .var)) (sym (layout-is d w)) e ∙ ap (λ (b : Build Literal). b (pen .var)) (sym (step-property-is file piece d s next p l)))
         (k .encodes (itemsEnd file) maxDepth _ _ (omega arith) (constraint-got d w) .0)
 
   pub mover-total : {cells : List ℕ} → CellsIndexed file cells (shape .normals) → (d : Design) (w : Parts file d) → length (movers d) ≡ shape .normals + shape .externals

@@ -1,4 +1,4 @@
--- The gates of a frame are those of the file's cells, externals and invariant.
+-- The gates of a frame are those of the file's cells and externals, and of the property.
 use mathlib.Core.Path.{_≡_, refl, sym, ap, ap₂, subst, _∙_}
 use mathlib.Core.Bool.{Bool, true, false}
 use mathlib.Core.List.{List, [], _∷_, _++_, map}
@@ -14,6 +14,7 @@ use Rattle.design.specs.Sections.{Parts}
 use Rattle.design.specs.declared.shape.Shape.{Shape}
 use Rattle.design.proofs.Sections.{whole}
 use Rattle.design.proofs.Places.{read}
+use Rattle.step.specs.Piece.{pieceRight, expressionOf}
 use Rattle.step.specs.Property.{Property, invariant, noInvalidCell, constraint, propertyOf}
 use Rattle.design.specs.Places.{externalsFrom}
 use Rattle.design.proofs.Externals.{raises, mover-count}
@@ -90,52 +91,51 @@ module _ (file : List ℕ) (d : Design) (w : Parts file d) (bits : ℕ) (b : bit
   step-wides p =
       omega (arith, movers-wides (S d) (map cell (d .cells)) (externals 0 (d .variables)), ap (λ (x : Cost). x .wides) cells-are, ap (λ (x : Cost). x .wides) raises-are, raises-wides bits raised)
 
-  pub property-cells : (p : ℕ) → p ≡ 1 → propertyCost d (propertyOf d p) ≡ entriesCost bits true (w .entries)
+  pub property-cells : (piece : List ℕ) (p : ℕ) → p ≡ 1 → propertyCost d (propertyOf file piece d p) ≡ entriesCost bits true (w .entries)
   unfolding propertyCost propertyOf
-  property-cells zero z = absurd (omega arith)
-  property-cells (suc zero) z = ap invalidCost (w .invalid) ∙ sym (entries-invalid bits (w .entries))
-  property-cells (suc (suc p)) z = absurd (omega arith)
+  property-cells piece zero z = absurd (omega arith)
+  property-cells piece (suc zero) z = ap invalidCost (w .invalid) ∙ sym (entries-invalid bits (w .entries))
+  property-cells piece (suc (suc p)) z = absurd (omega arith)
 
-  pub property-invariant : (p : ℕ) → p ≡ 0 → propertyCost d (propertyOf d p) ≡ boolCost (d .invariant)
+  pub property-expression : (piece : List ℕ) (p : ℕ) → p ≡ 0 → propertyCost d (propertyOf file piece d p) ≡ boolCost (expressionOf file piece d)
   unfolding propertyCost propertyOf
-  property-invariant zero z = refl
-  property-invariant (suc p) z = absurd (omega arith)
+  property-expression piece zero z = refl
+  property-expression piece (suc p) z = absurd (omega arith)
 
-  pub entries-few : Bounded d → (t : Bool) → (entriesCost bits t (w .entries) .ands ≤ mostGates) × (entriesCost bits t (w .entries) .wides ≤ mostGates)
-  entries-few k false =
-      let e = propertyOf d 0 in
-      (omega (arith, step-ands e, k .gates 0), omega (arith, step-wides e, k .gates 0))
+  pub entries-few : Bounded d noInvalidCell → (t : Bool) → (entriesCost bits t (w .entries) .ands ≤ mostGates) × (entriesCost bits t (w .entries) .wides ≤ mostGates)
+  unfolding propertyCost
+  entries-few k false = (omega (arith, step-ands noInvalidCell, k .gates), omega (arith, step-wides noInvalidCell, k .gates))
   entries-few k true =
-      let e = property-cells 1 refl in
-      (omega (arith, ap (λ (x : Cost). x .ands) e, k .gates 1), omega (arith, ap (λ (x : Cost). x .wides) e, k .gates 1))
+      let e = ap invalidCost (w .invalid) ∙ sym (entries-invalid bits (w .entries)) in
+      (omega (arith, ap (λ (x : Cost). x .ands) e, k .gates), omega (arith, ap (λ (x : Cost). x .wides) e, k .gates))
 
 -- which properties have gates in a frame's state, and in the step out of it, and whether the last clause takes the last frame
-module _ (d : Design) where
-  pub property-none : (p : ℕ) → (p ≡ 0 → ⊥) → (p ≡ 1 → ⊥) → propertyCost d (propertyOf d p) ≡ cost 0 0
+module _ (file piece : List ℕ) (d : Design) where
+  pub property-none : (p : ℕ) → (p ≡ 0 → ⊥) → (p ≡ 1 → ⊥) → propertyCost d (propertyOf file piece d p) ≡ cost 0 0
   unfolding propertyCost propertyOf
   property-none zero h z = absurd (h refl)
   property-none (suc zero) h z = absurd (z refl)
   property-none (suc (suc p)) h z = refl
 
-  pub step-property-none : (p : ℕ) → p < 2 → stepPropertyCost (propertyOf d p) ≡ cost 0 0
+  pub step-property-none : (p : ℕ) → p < 2 → stepPropertyCost (propertyOf file piece d p) ≡ cost 0 0
   unfolding stepPropertyCost propertyOf
   step-property-none zero h = refl
   step-property-none (suc zero) h = refl
   step-property-none (suc (suc p)) h = absurd (omega arith)
 
-  pub step-property-cost : (p : ℕ) → 2 ≤ p → stepPropertyCost (propertyOf d p) ≡ boolCost (d .constraint)
+  pub step-property-cost : (p : ℕ) → 2 ≤ p → stepPropertyCost (propertyOf file piece d p) ≡ boolCost (d .constraint)
   unfolding stepPropertyCost propertyOf
   step-property-cost zero h = absurd (omega arith)
   step-property-cost (suc zero) h = absurd (omega arith)
   step-property-cost (suc (suc p)) h = refl
 
-  pub last-one : (p : ℕ) → p < 2 → 1 ≡ lastFrames (propertyOf d p)
+  pub last-one : (p : ℕ) → p < 2 → 1 ≡ lastFrames (propertyOf file piece d p)
   unfolding propertyOf
   last-one zero h = refl
   last-one (suc zero) h = refl
   last-one (suc (suc p)) h = absurd (omega arith)
 
-  pub last-none : (p : ℕ) → 2 ≤ p → 0 ≡ lastFrames (propertyOf d p)
+  pub last-none : (p : ℕ) → 2 ≤ p → 0 ≡ lastFrames (propertyOf file piece d p)
   unfolding propertyOf
   last-none zero h = absurd (omega arith)
   last-none (suc zero) h = absurd (omega arith)
@@ -146,9 +146,9 @@ last-few (invariant e) = omega arith
 last-few noInvalidCell = omega arith
 last-few (constraint e) = omega arith
 
-pub frame-bound : (d : Design) (prop : ℕ) → Bounded d → SmallFrame (frameSizes d (propertyOf d prop))
+pub frame-bound : (d : Design) (q : Property) → Bounded d q → SmallFrame (frameSizes d q)
 unfolding frameSizes
-frame-bound d prop k = record { bits = k .bits; movers = k .movers; gates = k .gates prop; last = last-few (propertyOf d prop) }
+frame-bound d q k = record { bits = k .bits; movers = k .movers; gates = k .gates; last = last-few q }
 
 -- the sizes of a frame, from what the loops answer
 abbrev frameOf : ℕ → ℕ → ℕ → ℕ → ℕ → ℕ → ℕ → FrameSizes
@@ -159,16 +159,16 @@ frame-same {bits} {bits′} {m} {m′} {a} {a′} {b} {b′} {x} {x′} {y} {y�
     ap₂ (λ (i j : ℕ). frameOf i j a b x y l) e₁ e₂ ∙ ap₂ (λ (i j : ℕ). frameOf bits′ m′ i j x y l) e₃ e₄ ∙ ap₂ (λ (i j : ℕ). frameOf bits′ m′ a′ b′ i j l) e₅ e₆
     ∙ ap (frameOf bits′ m′ a′ b′ x′ y′) e₇
 
-module _ (file : List ℕ) (h : Accepted file) (H : Shape) (normals : ℕ) (m : Measured file normals H) (p s q : GatesAt) (t prop last : ℕ) (cs : List ℕ) (c : CellsIndexed file cs normals)
-    (hp : (d : Design) → Parts file d → HasGates p (propertyCost d (propertyOf d prop))) (hs : (d : Design) (w : Parts file d) → HasGates s (entriesCost (H .bits) false (w .entries))) (hq : (d : Design) → Parts file d → HasGates q (stepPropertyCost (propertyOf d prop)))
-    (ht : t ≡ H .externals * H .bits) (hl : (d : Design) → last ≡ lastFrames (propertyOf d prop)) where
+module _ (file piece : List ℕ) (h : Accepted file) (H : Shape) (normals : ℕ) (m : Measured file normals H) (p s q : GatesAt) (t prop last : ℕ) (cs : List ℕ) (c : CellsIndexed file cs normals)
+    (hp : (d : Design) → Parts file d → HasGates p (propertyCost d (propertyOf file piece d prop))) (hs : (d : Design) (w : Parts file d) → HasGates s (entriesCost (H .bits) false (w .entries))) (hq : (d : Design) → Parts file d → HasGates q (stepPropertyCost (propertyOf file piece d prop)))
+    (ht : t ≡ H .externals * H .bits) (hl : (d : Design) → last ≡ lastFrames (propertyOf file piece d prop)) where
   abbrev made : FrameSizes
   made = frameOf (H .bits) (H .normals + H .externals) (p .ands) (p .wides) (s .ands + q .ands) (s .wides + t + q .wides) last
 
   raised-is : H .externals ≡ length (externalsFrom file 0 (variableCount file))
   raised-is = m .externals ∙ ap (λ (k : ℕ). length (externalsFrom file 0 k)) (m .shaped .variables)
 
-  pub frame-made : (d : Design) → check file ≡ Checked.accepted d → made ≡ frameSizes d (propertyOf d prop)
+  pub frame-made : (d : Design) → check file ≡ Checked.accepted d → made ≡ frameSizes d (propertyOf file piece d prop)
   unfolding frameSizes w
   frame-made d e =
       let w = whole file d e .parts in
@@ -178,11 +178,11 @@ module _ (file : List ℕ) (h : Accepted file) (H : Shape) (normals : ℕ) (m : 
       let j = hq d w in
       let n : H .normals + H .externals ≡ length (movers d) = omega (arith, mover-count file d w, m .normals, c .count, raised-is) in
       let z : H .externals * H .bits ≡ length (externalsFrom file 0 (variableCount file)) * H .bits = ap (λ (k : ℕ). k * H .bits) raised-is in
-      let x : s .ands + q .ands ≡ stepCost d (propertyOf d prop) .ands = omega (arith, i .ands, j .ands, step-ands file d w (H .bits) b (propertyOf d prop)) in
-      let y : s .wides + t + q .wides ≡ stepCost d (propertyOf d prop) .wides = omega (arith, i .wides, j .wides, step-wides file d w (H .bits) b (propertyOf d prop)) in
+      let x : s .ands + q .ands ≡ stepCost d (propertyOf file piece d prop) .ands = omega (arith, i .ands, j .ands, step-ands file d w (H .bits) b (propertyOf file piece d prop)) in
+      let y : s .wides + t + q .wides ≡ stepCost d (propertyOf file piece d prop) .wides = omega (arith, i .wides, j .wides, step-wides file d w (H .bits) b (propertyOf file piece d prop)) in
       frame-same b n (g .ands) (g .wides) x y (hl d)
 
-  pub frame-small : ((i : ℕ) → getD file i 0 < 256) → SmallFrame made
-  frame-small bytes =
+  pub frame-small : ((i : ℕ) → getD file i 0 < 256) → pieceRight file piece prop ≡ true → SmallFrame made
+  frame-small bytes right =
       let t = read file h in
-      subst SmallFrame (sym (frame-made (t .tree) (t .is))) (frame-bound (t .tree) prop (bounded file bytes (t .tree) (t .is)))
+      subst SmallFrame (sym (frame-made (t .tree) (t .is))) (frame-bound (t .tree) (propertyOf file piece (t .tree) prop) (bounded file piece bytes (t .tree) (t .is) prop right))

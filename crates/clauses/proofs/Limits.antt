@@ -13,6 +13,7 @@ use Rattle.design.specs.Check.{Checked, check}
 use Rattle.design.specs.Limits.{maxMovers, maxBits}
 use Rattle.design.specs.WellFormed.{WellFormed}
 use Rattle.design.proofs.WellFormed.{well-formed}
+use Rattle.step.specs.Piece.{pieceRight}
 use Rattle.step.specs.Property.{Property, invariant, noInvalidCell, constraint, propertyOf}
 use Rattle.clauses.specs.Words.{words}
 use Rattle.clauses.specs.Formula.{framesTaken, S, w, F, n, part, formula}
@@ -65,18 +66,15 @@ pub record Small (d : Design) (p : Property) (k : ℕ) : Type 0 where
   pub formula-words : length (words (formula d p k)) < 2 ^ 36
   pub part-words : (i : ℕ) → length (words (part d p k i)) < 2 ^ 30
 
-module _ (d : Design) (wf : WellFormed d) (b : Bounded d) (number k : ℕ) (few : k ≤ maxBound) where
-  abbrev p : Property
-  p = propertyOf d number
-
+module _ (d : Design) (wf : WellFormed d) (p : Property) (b : Bounded d p) (k : ℕ) (few : k ≤ maxBound) where
   frame-bound : F d p ≤ frameLimit
   unfolding F
-  frame-bound = omega (arith, P-is d p, G-is d wf p, b .gates number, b .bits, b .movers)
+  frame-bound = omega (arith, P-is d p, G-is d wf p, b .gates, b .bits, b .movers)
 
   -- k frames, and the state and the property of one more
   n-bound : n d p k ≤ mostVariables
   unfolding n
-  n-bound = let f : k * F d p ≤ maxBound * frameLimit = mul-le-mul few frame-bound in omega (arith, P-is d p, b .gates number, b .bits)
+  n-bound = let f : k * F d p ≤ maxBound * frameLimit = mul-le-mul few frame-bound in omega (arith, P-is d p, b .gates, b .bits)
 
   ties-bound : w d * S d ≤ maxMovers * maxBits
   ties-bound = mul-le-mul (b .movers) (b .bits)
@@ -101,14 +99,14 @@ module _ (d : Design) (wf : WellFormed d) (b : Bounded d) (number k : ℕ) (few 
   words-bound =
       let x : (1 + k) * wordsIn (propertyCost d p) ≤ (1 + maxBound) * wordsIn (propertyCost d p) = mul-le-mul (let q : 1 + k ≤ 1 + maxBound = omega arith in q) (le-refl (wordsIn (propertyCost d p))) in
       let y : k * stepWordCount d p ≤ maxBound * (16 * gatesIn (stepCost d p) + besideWords) = mul-le-mul few step-words in
-      omega (arith, b .gates number, b .bits, few-taken p k)
+      omega (arith, b .gates, b .bits, few-taken p k)
 
   clauses-bound : clauseCount d p k < 2 ^ 34
   unfolding clauseCount firstClauses
   clauses-bound =
       let x : (1 + k) * clausesIn (propertyCost d p) ≤ (1 + maxBound) * clausesIn (propertyCost d p) = mul-le-mul (let q : 1 + k ≤ 1 + maxBound = omega arith in q) (le-refl (clausesIn (propertyCost d p))) in
       let y : k * stepClauseCount d p ≤ maxBound * (4 * gatesIn (stepCost d p) + besideClauses) = mul-le-mul few step-clauses in
-      omega (arith, b .gates number, b .bits)
+      omega (arith, b .gates, b .bits)
 
   part-bound : (i : ℕ) → partWordCount d p k i < 2 ^ 30
   unfolding partWordCount firstWords
@@ -116,8 +114,8 @@ module _ (d : Design) (wf : WellFormed d) (b : Bounded d) (number k : ℕ) (few 
   part-bound (suc j) = go (leb j k) (ltb j k)
     where
       go : (t u : Bool) → cond t (wordsIn (propertyCost d p) + cond u (stepWordCount d p) 0) (suc (framesTaken p k)) < 2 ^ 30
-      go true true = omega (arith, b .gates number, step-words)
-      go true false = omega (arith, b .gates number)
+      go true true = omega (arith, b .gates, step-words)
+      go true false = omega (arith, b .gates)
       go false u = omega (arith, few-taken p k)
 
   pub small : Small d p k
@@ -130,5 +128,6 @@ module _ (d : Design) (wf : WellFormed d) (b : Bounded d) (number k : ℕ) (few 
         part-words = λ i. omega (arith, part-words d wf p k i, part-bound i);
       }
 
-pub small-of-file : (file : List ℕ) → ((i : ℕ) → getD file i 0 < 256) → (d : Design) → check file ≡ Checked.accepted d → (p k : ℕ) → k ≤ maxBound → Small d (propertyOf d p) k
-small-of-file file bytes d e p k few = small d (well-formed file bytes d e) (bounded file bytes d e) p k few
+pub small-of-file : (file piece : List ℕ) → ((i : ℕ) → getD file i 0 < 256) → (d : Design) → check file ≡ Checked.accepted d → (p : ℕ) → pieceRight file piece p ≡ true → (k : ℕ) → k ≤ maxBound
+    → Small d (propertyOf file piece d p) k
+small-of-file file piece bytes d e p right k few = small d (well-formed file bytes d e) (propertyOf file piece d p) (bounded file piece bytes d e p right) k few

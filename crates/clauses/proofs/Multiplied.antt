@@ -9,17 +9,16 @@ use lib.ListN.{length}
 use Rattle.design.specs.State.{start}
 use Rattle.design.specs.Multiplied.{designMultiplied}
 use Rattle.design.specs.WellFormed.{WellFormed}
-use Rattle.step.specs.Property.{Property, propertyOf}
+use Rattle.step.specs.Property.{Property, invariant, PropertyOk}
 use Rattle.step.specs.OneStep.{breaksAt, breaks, stepping}
 use Rattle.step.specs.Operations.{firstBreak}
-use Rattle.step.proofs.Properties.{property-ok}
 use Rattle.clauses.specs.Formula.{S, P, w, G, F, n, formula, encoding}
 use Rattle.clauses.specs.Theorem.{Model, Exactly}
 use Rattle.clauses.proofs.Counting.{breakers, models}
 
 -- property 0
 abbrev invariantMultiplied : Property
-invariantMultiplied = propertyOf designMultiplied 0
+invariantMultiplied = invariant (designMultiplied .invariant)
 
 pub frame-multiplied : (S designMultiplied ≡ 20) × (P designMultiplied invariantMultiplied ≡ 1360) × (w designMultiplied ≡ 1)
     × (G designMultiplied invariantMultiplied ≡ 1334) × (F designMultiplied invariantMultiplied ≡ 2715)
@@ -68,7 +67,9 @@ unfolding designMultiplied encoding stepping breakers
 breakers-2 = refl
 
 pub models-multiplied-1 : Exactly (Model designMultiplied invariantMultiplied 1) 0
-models-multiplied-1 = models designMultiplied well-formed-multiplied invariantMultiplied (property-ok designMultiplied well-formed-multiplied 0) 1 0 breakers-1
+unfolding PropertyOk
+models-multiplied-1 = models designMultiplied well-formed-multiplied invariantMultiplied (well-formed-multiplied .invariant) 1 0 breakers-1
 
 pub models-multiplied-2 : Exactly (Model designMultiplied invariantMultiplied 2) 1
-models-multiplied-2 = models designMultiplied well-formed-multiplied invariantMultiplied (property-ok designMultiplied well-formed-multiplied 0) 2 1 breakers-2
+unfolding PropertyOk
+models-multiplied-2 = models designMultiplied well-formed-multiplied invariantMultiplied (well-formed-multiplied .invariant) 2 1 breakers-2

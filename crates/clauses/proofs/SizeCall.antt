@@ -46,15 +46,15 @@ module _ (d : Design) (wf : WellFormed d) (p : Property) where
         words = firstWords d + (1 + k) * wordsIn (propertyCost d p) + k * stepWordCount d p + m;
       }) (variables-are d wf p k) (frames-are k p)
 
-module _ (file : List ℕ) (p k : ℕ) where
-  pub size-refused : (number place : ℕ) → admission.Refused number place ≡ admissionSizes file p k → Refused number place ≡ sizeReply (size file p k)
+module _ (file piece : List ℕ) (p k : ℕ) where
+  pub size-refused : (number place : ℕ) → admission.Refused number place ≡ admissionSizes file piece p k → Refused number place ≡ sizeReply (size file piece p k)
   unfolding size
-  size-refused number place e = sym (ap sizeReply (admission-refused file p k number place e _))
+  size-refused number place e = sym (ap sizeReply (admission-refused file piece p k number place e _))
 
-  pub size-answer : (s : FrameSizes) → admission.Passed s ≡ admissionSizes file p k → ((i : ℕ) → getD file i 0 < 256) → (r : FormulaSizes) → r ≡ formulaSizes s k → Sized r ≡ sizeReply (size file p k)
+  pub size-answer : (s : FrameSizes) → admission.Passed s ≡ admissionSizes file piece p k → ((i : ℕ) → getD file i 0 < 256) → (r : FormulaSizes) → r ≡ formulaSizes s k → Sized r ≡ sizeReply (size file piece p k)
   unfolding size
   size-answer s e bytes r q =
-      let a = admission-admitted file p k s e bytes in
+      let a = admission-admitted file piece p k s e bytes in
       let t = read file (a .accepted) in
-      ap Sized (q ∙ ap (λ (x : FrameSizes). formulaSizes x k) (a .sizes (t .tree) (t .is)) ∙ seven-are (t .tree) (well-formed file bytes (t .tree) (t .is)) (propertyOf (t .tree) p) k)
+      ap Sized (q ∙ ap (λ (x : FrameSizes). formulaSizes x k) (a .sizes (t .tree) (t .is)) ∙ seven-are (t .tree) (well-formed file bytes (t .tree) (t .is)) (propertyOf file piece (t .tree) p) k)
       ∙ sym (ap sizeReply (admitted-in a bytes _ (t .tree) (t .is)))

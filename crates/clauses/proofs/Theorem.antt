@@ -60,6 +60,7 @@ module _ (d : Design) (wf : WellFormed d) (p : Property) (ok : PropertyOk d p) (
     decode = λ ρ values s h. decode-chooses d wf p ok ρ values k s (h .long) (h .value);
   }
 
--- so of every accepted file, whose entries are bytes
-pub theorem-of-file : (file : List ℕ) → ((i : ℕ) → getD file i 0 < 256) → (d : Design) → check file ≡ Checked.accepted d → (p k : ℕ) → Theorem d (propertyOf d p) k
-theorem-of-file file bytes d e p k = let wf = well-formed file bytes d e in theorem d wf (propertyOf d p) (property-ok d wf p) k
+-- so of every accepted file and every piece, whose entries are bytes
+pub theorem-of-file : (file piece : List ℕ) → ((i : ℕ) → getD file i 0 < 256) → ((i : ℕ) → getD piece i 0 < 256) → (d : Design) → check file ≡ Checked.accepted d → (p k : ℕ)
+    → Theorem d (propertyOf file piece d p) k
+theorem-of-file file piece bytes all d e p k = theorem d (well-formed file bytes d e) (propertyOf file piece d p) (property-ok file piece bytes all d e p) k

@@ -46,10 +46,10 @@ choicesOf d q k values room =
     need (leb (n d q k) (length values) && leb k room) 16 0
     (chosenFrom d q values k 0)
 
--- "DECODE: 13; 14; 16 values under n or choices under k; 18". 19 is straight after 14 (document 02, R-2).
-unfoldable pub choicesToWrite : List ℕ → ℕ → ℕ → List ℕ → ℕ → Answer (List ℕ)
-choicesToWrite file p k values room =
-    admit file p k λ d q.
+-- "DECODE: 13; 14; 16 values under n or choices under k; 18". 8 and 19 (document 02, R-4 and R-2) stand in `admit`.
+unfoldable pub choicesToWrite : List ℕ → List ℕ → ℕ → ℕ → List ℕ → ℕ → Answer (List ℕ)
+choicesToWrite file piece p k values room =
+    admit file piece p k λ d q.
     choicesOf d q k values room
 
 -- the answer, which holds nothing, and the choices after the call
@@ -62,6 +62,6 @@ abbrev pub written : Answer (List ℕ) → List ℕ → AfterDecode
 written (refused number place) choices = record { answer = refused number place; choices = choices }
 written (answer cs) choices = record { answer = answer tt; choices = cs ++ drop (length cs) choices }
 
--- of a file, a property, a bound, the values and the lent choices
-unfoldable pub decode : List ℕ → ℕ → ℕ → List ℕ → List ℕ → AfterDecode
-decode file p k values choices = written (choicesToWrite file p k values (length choices)) choices
+-- of a file, a piece, a property, a bound, the values and the lent choices
+unfoldable pub decode : List ℕ → List ℕ → ℕ → ℕ → List ℕ → List ℕ → AfterDecode
+decode file piece p k values choices = written (choicesToWrite file piece p k values (length choices)) choices

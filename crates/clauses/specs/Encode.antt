@@ -9,11 +9,11 @@ use Rattle.clauses.specs.Formula.{part}
 use Rattle.clauses.specs.Admission.{admit}
 use Rattle.design.specs.Answer.{Answer, refused, answer, need}
 
--- the words that are to be written to a buffer of this length: "ENCODE: 13; 14; 15 part over k+2; 16 buffer short." 19 is straight after 14
--- (document 02, R-2).
-unfoldable pub wordsToWrite : List ℕ → ℕ → ℕ → ℕ → ℕ → Answer (List ℤ)
-wordsToWrite file p k i room =
-    admit file p k λ d q.
+-- the words that are to be written to a buffer of this length: "ENCODE: 13; 14; 15 part over k+2; 16 buffer short." 8 and 19
+-- (document 02, R-4 and R-2) stand in `admit`.
+unfoldable pub wordsToWrite : List ℕ → List ℕ → ℕ → ℕ → ℕ → ℕ → Answer (List ℤ)
+wordsToWrite file piece p k i room =
+    admit file piece p k λ d q.
     need (leb i (k + 2)) 15 0
     (need (leb (length (words (part d q k i))) room) 16 0
     (answer (words (part d q k i))))
@@ -28,6 +28,6 @@ abbrev pub filled : Answer (List ℤ) → List ℤ → AfterEncode
 filled (refused number place) buffer = record { answer = refused number place; buffer = buffer }
 filled (answer ws) buffer = record { answer = answer (length ws); buffer = ws ++ drop (length ws) buffer }
 
--- of a file, a property, a bound, a part and the lent buffer
-unfoldable pub encode : List ℕ → ℕ → ℕ → ℕ → List ℤ → AfterEncode
-encode file p k i buffer = filled (wordsToWrite file p k i (length buffer)) buffer
+-- of a file, a piece, a property, a bound, a part and the lent buffer
+unfoldable pub encode : List ℕ → List ℕ → ℕ → ℕ → ℕ → List ℤ → AfterEncode
+encode file piece p k i buffer = filled (wordsToWrite file piece p k i (length buffer)) buffer

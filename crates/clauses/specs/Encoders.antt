@@ -17,7 +17,7 @@ use Rattle.clauses.specs.Expression.{int!, bool! }
 use Rattle.clauses.specs.Action.{muxes!, statement!, statements! }
 use Rattle.clauses.specs.Formula.{total}
 use Rattle.clauses.specs.Writing.{fromCode, fromCodes, Emits}
-use Rattle.clauses.specs.Piece.{SumBit}
+use Rattle.clauses.specs.Builders.{SumBit}
 use Rattle.clauses.specs.FlatState.{widthsIn, slotsOf, readSlots, layoutOf, Reads}
 use Rattle.clauses.specs.declared.gate.Cursor.{Cursor}
 use Rattle.clauses.specs.declared.gate.Out.{Out}

@@ -6,6 +6,7 @@ use lib.Dec.{ltb, leb}
 use lib.ListN.{length}
 use Rattle.design.specs.Tree.{Design, movers, truth}
 use Rattle.design.specs.State.{State, layout, widths, start}
+use Rattle.step.specs.Piece.{expressionOf}
 use Rattle.step.specs.Property.{Property, invariant, noInvalidCell, constraint, propertyOf}
 unfoldable pub use Rattle.design.specs.Tree.{w}
 pub use Rattle.design.specs.State.{total}
@@ -193,6 +194,6 @@ module _ (d : Design) where
 -- Not part of the formula: to unfold this is to unfold all of it, for facts about given designs.
 unfoldable pub encoding : ℕ
 unfolding give _>>=_ and! xor! mux! or! sum! difference! product! less! xors! chain! equal! int! bool! muxBits! muxes! statement! statements! statusAndEvent!
-    enable! effect! mover! movers! noInvalid! movers layout widths start S w propertyOf property! stepProperty! step! stateAt propertyAt flagsAt stepAt
+    enable! effect! mover! movers! noInvalid! movers layout widths start S w expressionOf propertyOf property! stepProperty! step! stateAt propertyAt flagsAt stepAt
     stepPropertyAt P G F frame n firstPart propertyClauses stepPropertyIn stepClauses framePart propertyLiteralIn negatedFrom lastClause part partsFrom formula choicesFrom choices
 encoding = 0

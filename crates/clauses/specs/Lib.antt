@@ -21,7 +21,7 @@ pub mod Theorem
 pub mod Cost
 -- inner functions: the buffer, the literals of a state, encoders, sizes, DECODE's loops
 pub mod Writing
-pub mod Piece
+pub mod Builders
 pub mod FlatState
 pub mod Encoders
 pub mod FrameSizes

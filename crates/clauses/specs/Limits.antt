@@ -1,4 +1,4 @@
--- Limits of the gates and sizes of an accepted file's formula, from the file's own (design/specs/Limits). The greatest property and bound of a
+-- Limits of the gates and sizes of the formula of an accepted file and piece, from the file's own (design/specs/Limits). The greatest property and bound of a
 -- call stand in step/specs/Limits, what a cursor is below in Writing.
 use Prim.Native.Nat.{ℕ, _+_, _*_, _-_, _/_}
 use Rattle.design.specs.Limits.{maxBytes, trailerBytes, maxVariables, maxCells, maxMovers, maxBits}
@@ -21,15 +21,15 @@ gatesOfEvent = gatesOfByte * 255
 abbrev pub textGates : ℕ
 textGates = gatesOfByte * maxBytes
 
--- P + G, the gates of a frame: all bytes before the trailer, the event of each cell, and the muxes of each external
+-- P + G, the gates of a frame: all bytes before the trailer, those of a piece (document 02, R-4), the event of each cell, and the muxes of each external
 abbrev pub mostGates : ℕ
-mostGates = gatesOfByte * (maxBytes - trailerBytes) + gatesOfEvent * maxCells + maxBits * maxVariables
+mostGates = gatesOfByte * (maxBytes - trailerBytes) + textGates + gatesOfEvent * maxCells + maxBits * maxVariables
 
 -- F
 abbrev pub frameLimit : ℕ
 frameLimit = maxBits + mostGates + maxMovers
 
--- No n is greater, of any accepted file and bound: 3,523,052,849. That is more than `lastVariable`, so n is tested; the machine numbers of the sizes hold it.
+-- No n is greater, of any accepted file, piece and bound: 4,229,645,617. That is more than `lastVariable`, so n is tested; the machine numbers of the sizes hold it.
 abbrev pub mostVariables : ℕ
 mostVariables = 1 + maxBound * frameLimit + maxBits + mostGates
 

@@ -1,5 +1,6 @@
 -- What the functions over an accepted file are given, its shape and its table of events, and what those for cells and movers write.
 use mathlib.Core.Path.{_≡_}
+use mathlib.Core.Bool.{true}
 use mathlib.Core.List.{List, [], _∷_, _++_, map}
 use Prim.Native.Nat.{ℕ, _+_, _<_, _≤_}
 use lib.ListN.{length, getD, take, drop}
@@ -11,6 +12,7 @@ use Rattle.design.specs.Check.{Checked, check}
 use Rattle.design.specs.Places.{Accepted, Shaped, StateBits, EventsIndexed, CellsIndexed, externalsFrom}
 use Rattle.design.specs.Sections.{Parts}
 use Rattle.design.specs.declared.shape.Shape.{Shape}
+use Rattle.step.specs.Piece.{pieceRight}
 use Rattle.step.specs.Property.{Property, invariant, noInvalidCell, constraint, propertyOf}
 use Rattle.clauses.specs.Literal.{Literal, positive, trueLiteral}
 use Rattle.clauses.specs.Words.{words}
@@ -19,7 +21,7 @@ use Rattle.clauses.specs.Expression.{Slots, bool! }
 use Rattle.clauses.specs.Action.{statusAndEvent!, enable!, mover!, movers!, noInvalid! }
 use Rattle.clauses.specs.Limits.{lastVariable}
 use Rattle.clauses.specs.Writing.{variableLimit, fromCode, Puts, Emits}
-use Rattle.clauses.specs.Piece.{link! }
+use Rattle.clauses.specs.Builders.{link! }
 use Rattle.clauses.specs.FlatState.{widthsIn, layoutOf, cut, slotsOf}
 use Rattle.clauses.specs.Encoders.{Gives, Writes}
 use Rattle.clauses.specs.FrameSizes.{frameSizes, SmallFrame, variablesOf}
@@ -73,13 +75,13 @@ module _ (file : List ℕ) (shape : Shape) (codes : List ℕ) where
   abbrev pub InvalidGates : List InvalidCell → Cursor → List ℤ → List ℤ → Out → Type 0
   InvalidGates cs pen xs ys r = Gives pen (noInvalid! (layoutOf shape) (slotsOf file shape codes) trueLiteral cs) xs ys r
 
-  abbrev pub PropertyGates : Design → ℕ → Cursor → List ℤ → List ℤ → Out → Type 0
-  PropertyGates d p pen xs ys r = Gives pen (property! d (propertyOf d p) (slotsOf file shape codes)) xs ys r
+  abbrev pub PropertyGates : Design → Property → Cursor → List ℤ → List ℤ → Out → Type 0
+  PropertyGates d q pen xs ys r = Gives pen (property! d q (slotsOf file shape codes)) xs ys r
 
 -- property 2 in a step, of the state whose first variable is v and the next one's, which starts at `after`
-abbrev pub StepPropertyGates : Design → ℕ → ℕ → ℕ → Cursor → List ℤ → List ℤ → Out → Type 0
-StepPropertyGates d p v after pen xs ys r =
-    v + S d ≤ variableLimit → after + S d ≤ variableLimit → Gives pen (stepProperty! d (propertyOf d p) (stateAt d v) (stateAt d after)) xs ys r
+abbrev pub StepPropertyGates : Design → Property → ℕ → ℕ → Cursor → List ℤ → List ℤ → Out → Type 0
+StepPropertyGates d q v after pen xs ys r =
+    v + S d ≤ variableLimit → after + S d ≤ variableLimit → Gives pen (stepProperty! d q (stateAt d v) (stateAt d after)) xs ys r
 
 -- the property's literal in the frame whose first variable is v (`propertyLiteralIn`), and that its variables are within the limit
 abbrev pub propertyLiteralAt : Design → Property → ℕ → Literal
@@ -101,29 +103,30 @@ module _ (n b : ℕ) (xs ys : List ℤ) (cur cur′ : ℕ) where
       f + all ≤ variableLimit → b + n ≤ variableLimit → ((k : ℕ) → k < all → getD firsts k 0 + n ≤ variableLimit) → (R : ℕ → Slots) → ((v : ℕ) → flat (R v) ≡ variablesFrom v n)
       → Puts (words (allTies (variablesFrom f all) (map R (take all firsts)) (variablesFrom b n))) xs ys cur cur′
 
--- What the writers of parts put: the units of the variables' initial values, the step out of frame j whose first variable is v, the last clause.
-module _ (file : List ℕ) (xs ys : List ℤ) (cur cur′ : ℕ) where
-  abbrev pub ValuesPut : Type 0
-  ValuesPut =
-      (d : Design) (parts : Parts file d) → Puts (words (initialUnits (slotsFrom 2 (map (λ (x : Variable). width (x .kind)) (d .variables))) (map (λ (x : Variable). x .initial) (d .variables)))) xs ys cur cur′
+-- What the writer of the first part puts: the units of the variables' initial values.
+abbrev pub ValuesPut : List ℕ → List ℤ → List ℤ → ℕ → ℕ → Type 0
+ValuesPut file xs ys cur cur′ =
+    (d : Design) (parts : Parts file d) → Puts (words (initialUnits (slotsFrom 2 (map (λ (x : Variable). width (x .kind)) (d .variables))) (map (λ (x : Variable). x .initial) (d .variables)))) xs ys cur cur′
 
+-- What the writers of the other parts put: the step out of frame j whose first variable is v, and the last clause.
+module _ (file piece : List ℕ) (xs ys : List ℤ) (cur cur′ : ℕ) where
   abbrev pub StepPut : Instance → ℕ → Type 0
   StepPut z v =
-      (d : Design) (j : ℕ) → check file ≡ Checked.accepted d → z .sizes ≡ frameSizes d (propertyOf d (z .property)) → j < z .bound → v ≡ frame d (propertyOf d (z .property)) j
-      → Puts (words (stepClauses d (propertyOf d (z .property)) j)) xs ys cur cur′
+      (d : Design) (j : ℕ) → check file ≡ Checked.accepted d → z .sizes ≡ frameSizes d (propertyOf file piece d (z .property)) → j < z .bound → v ≡ frame d (propertyOf file piece d (z .property)) j
+      → Puts (words (stepClauses d (propertyOf file piece d (z .property)) j)) xs ys cur cur′
 
   abbrev pub LastPut : ℕ → ℕ → FrameSizes → Type 0
-  LastPut p k s = (d : Design) → check file ≡ Checked.accepted d → s ≡ frameSizes d (propertyOf d p) → Puts (words (lastClause d (propertyOf d p) k ∷ [])) xs ys cur cur′
+  LastPut p k s = (d : Design) → check file ≡ Checked.accepted d → s ≡ frameSizes d (propertyOf file piece d p) → Puts (words (lastClause d (propertyOf file piece d p) k ∷ [])) xs ys cur cur′
 
   -- a frame's part, any part, and all, of the formula that is written
   abbrev pub FramePut : Instance → ℕ → Type 0
-  FramePut z j = (d : Design) → check file ≡ Checked.accepted d → z .sizes ≡ frameSizes d (propertyOf d (z .property)) → Puts (words (framePart d (propertyOf d (z .property)) (z .bound) j)) xs ys cur cur′
+  FramePut z j = (d : Design) → check file ≡ Checked.accepted d → z .sizes ≡ frameSizes d (propertyOf file piece d (z .property)) → Puts (words (framePart d (propertyOf file piece d (z .property)) (z .bound) j)) xs ys cur cur′
 
   abbrev pub PartPut : Instance → ℕ → Type 0
-  PartPut z i = (d : Design) → check file ≡ Checked.accepted d → z .sizes ≡ frameSizes d (propertyOf d (z .property)) → Puts (words (part d (propertyOf d (z .property)) (z .bound) i)) xs ys cur cur′
+  PartPut z i = (d : Design) → check file ≡ Checked.accepted d → z .sizes ≡ frameSizes d (propertyOf file piece d (z .property)) → Puts (words (part d (propertyOf file piece d (z .property)) (z .bound) i)) xs ys cur cur′
 
   abbrev pub FormulaPut : Instance → Type 0
-  FormulaPut z = (d : Design) → check file ≡ Checked.accepted d → z .sizes ≡ frameSizes d (propertyOf d (z .property)) → Puts (words (formula d (propertyOf d (z .property)) (z .bound))) xs ys cur cur′
+  FormulaPut z = (d : Design) → check file ≡ Checked.accepted d → z .sizes ≡ frameSizes d (propertyOf file piece d (z .property)) → Puts (words (formula d (propertyOf file piece d (z .property)) (z .bound))) xs ys cur cur′
 
 -- a formula that may be written: its bound is not too high, and n is not, which the calls have tested (19)
 pub record SmallFormula (s : FrameSizes) (k : ℕ) : Type 0 where
@@ -132,28 +135,30 @@ pub record SmallFormula (s : FrameSizes) (k : ℕ) : Type 0 where
   pub numbers : variablesOf s k ≤ lastVariable
 
 -- what the writer of parts is given beside: both tables, that bytes are bytes, and that the formula may be written
-pub record FormulaReady (file events cells : List ℕ) (z : Instance) : Type 0 where
+pub record FormulaReady (file events : List ℕ) (z : Instance) : Type 0 where
   pub ready : Ready file events (z .shape)
   pub bytes : (i : ℕ) → getD file i 0 < 256
-  pub normals : CellsIndexed file cells (z .shape .normals)
+  pub normals : CellsIndexed file (z .cells) (z .shape .normals)
   pub small : SmallFormula (z .sizes) (z .bound)
   pub movers : z .sizes .movers ≡ z .shape .normals + z .shape .externals
 
 -- what a call about a formula has tested (`admit`), and the sizes of a frame
-pub record Admitted (file : List ℕ) (p k : ℕ) (s : FrameSizes) : Type 0 where
+pub record Admitted (file piece : List ℕ) (p k : ℕ) (s : FrameSizes) : Type 0 where
   pub accepted : Accepted file
   pub property : p ≤ lastProperty file
+  pub right : pieceRight file piece p ≡ true
   pub small : SmallFormula s k
-  pub sizes : (d : Design) → check file ≡ Checked.accepted d → s ≡ frameSizes d (propertyOf d p)
+  pub sizes : (d : Design) → check file ≡ Checked.accepted d → s ≡ frameSizes d (propertyOf file piece d p)
 
 -- What writing the whole formula for a bound asks for, and what it leaves: the words at the buffer's front, with the numbers of words and variables.
-pub record Writable (file : List ℕ) (p k : ℕ) (buffer : List ℤ) : Type 0 where
+pub record Writable (file piece : List ℕ) (p k : ℕ) (buffer : List ℤ) : Type 0 where
   pub design : Design
   pub accepted : check file ≡ Checked.accepted design
   pub property : p ≤ lastProperty file
+  pub right : pieceRight file piece p ≡ true
   pub bound : k ≤ maxBound
-  pub numbers : n design (propertyOf design p) k ≤ lastVariable
-  pub room : length (words (formula design (propertyOf design p) k)) ≤ length buffer
+  pub numbers : n design (propertyOf file piece design p) k ≤ lastVariable
+  pub room : length (words (formula design (propertyOf file piece design p) k)) ≤ length buffer
 
 pub record Written (d : Design) (q : Property) (k : ℕ) (before after : List ℤ) (count variables : ℕ) : Type 0 where
   pub counted : count ≡ length (words (formula d q k))

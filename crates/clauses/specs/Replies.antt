@@ -26,8 +26,8 @@ abbrev pub admissionReply : Answer FrameSizes → Admission
 admissionReply (refused number place) = admission.Refused number place
 admissionReply (answer s) = admission.Passed s
 
-abbrev pub admissionSizes : List ℕ → ℕ → ℕ → Admission
-admissionSizes file p k = admissionReply (admit file p k (λ d q. answer (frameSizes d q)))
+abbrev pub admissionSizes : List ℕ → List ℕ → ℕ → ℕ → Admission
+admissionSizes file piece p k = admissionReply (admit file piece p k (λ d q. answer (frameSizes d q)))
 
 -- "S, P, w, G, n and the whole formula's clauses and words"
 abbrev pub sevenOf : Sizes → FormulaSizes
@@ -58,8 +58,8 @@ pub record EncodeExit : Type 0 where
 abbrev pub encodeExit : AfterEncode → EncodeExit
 encodeExit e = record { reply = encodeReply (e .answer); buffer = e .buffer }
 
-abbrev pub ENCODE : List ℕ → ℕ → ℕ → ℕ → List ℤ → EncodeExit
-ENCODE file p k i buffer = encodeExit (encode file p k i buffer)
+abbrev pub ENCODE : List ℕ → List ℕ → ℕ → ℕ → ℕ → List ℤ → EncodeExit
+ENCODE file piece p k i buffer = encodeExit (encode file piece p k i buffer)
 
 abbrev pub decodeReply : Answer (Unit {0}) → DecodeReply
 decodeReply (refused number place) = decode-reply.Refused number place
@@ -73,5 +73,5 @@ pub record DecodeExit : Type 0 where
 abbrev pub decodeExit : AfterDecode → DecodeExit
 decodeExit d = record { reply = decodeReply (d .answer); choices = d .choices }
 
-abbrev pub DECODE : List ℕ → ℕ → ℕ → List ℕ → List ℕ → DecodeExit
-DECODE file p k values choices = decodeExit (decode file p k values choices)
+abbrev pub DECODE : List ℕ → List ℕ → ℕ → ℕ → List ℕ → List ℕ → DecodeExit
+DECODE file piece p k values choices = decodeExit (decode file piece p k values choices)

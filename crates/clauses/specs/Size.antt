@@ -30,8 +30,8 @@ sizesOf d q k = record {
   words = length (words (formula d q k));
 }
 
--- "SIZE: 13; 14 bound over 100." 13 is "property over 1", with a constraint over 2. "Places not named are 0." Then 19 (document 02, R-2).
-unfoldable pub size : List ℕ → ℕ → ℕ → Answer Sizes
-size file p k =
-    admit file p k λ d q.
+-- "SIZE: 13; 14 bound over 100." 13 is "property over 1", with a constraint over 2. "Places not named are 0." 8 and 19 (document 02, R-4 and R-2) stand in `admit`.
+unfoldable pub size : List ℕ → List ℕ → ℕ → ℕ → Answer Sizes
+size file piece p k =
+    admit file piece p k λ d q.
     answer (sizesOf d q k)

@@ -1,4 +1,4 @@
-// CHECK, 13, 14 and 19: what every call about a formula refuses first.
+// CHECK, 13, 8 of the piece, 14 and 19: what every call about a formula refuses first.
 ghost use mathlib.Core.Path.{_≡_};
 ghost use Rattle.clauses.specs.Replies.{admissionSizes};
 use super::frame::FrameSizes;
@@ -13,17 +13,17 @@ pub enum Admission {
 }
 
 // The refusal, or else the sizes of a frame.
-pub fn admit(file: &[u8], property: u64, bound: u64) -> Admission
-    ensures { λ r. ⌜ r ≡ admissionSizes (now (file .entry)) property bound ⌝ }
+pub fn admit<'a>(file: &'a [u8], piece: &'a [u8], property: u64, bound: u64) -> Admission
+    ensures { λ r. ⌜ r ≡ admissionSizes (now (file .entry)) (now (piece .entry)) property bound ⌝ }
 {
-    let refusal = gate(file, property, bound);
+    let refusal = gate(file, piece, property, bound);
     if refusal.number != 0 {
         return Admission::Refused {
             number: refusal.number,
             place: refusal.place,
         };
     }
-    let s = sizes(file, property);
+    let s = sizes(file, piece, property);
     if (LAST_VARIABLE as u64) < variables(s, bound) {
         return Admission::Refused {
             number: 19,

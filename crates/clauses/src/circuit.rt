@@ -5,7 +5,7 @@ ghost use Rattle.design.specs.Tree.{truth};
 ghost use Rattle.clauses.specs.Literal.{negate as negated, falseLiteral};
 ghost use Rattle.clauses.specs.Circuit.{shift as shifted, addend as addendOf, negateTop, sum!, difference!, less!, xors!, chain!, equal! };
 ghost use Rattle.clauses.specs.Writing.{fromCode, fromCodes, Emits};
-ghost use Rattle.clauses.specs.Piece.{sumBit! };
+ghost use Rattle.clauses.specs.Builders.{sumBit! };
 ghost use Rattle.clauses.specs.Encoders.{Sums, SumsBit};
 use super::gate::Out;
 use super::gate::emit_and;

@@ -143,16 +143,17 @@ pub fn decode_frames(s: FrameSizes, bound: u64, values: &[u8], choices: &mut [u8
 }
 
 // Writes the choices that an assignment stands for.
-pub fn decode(
-    file: &[u8],
+pub fn decode<'a>(
+    file: &'a [u8],
+    piece: &'a [u8],
     property: u64,
     bound: u64,
     values: &[u8],
     choices: &mut [u8],
 ) -> DecodeReply
-    ensures { λ r. ⌜ record { reply = r; choices = now (choices .exit) } ≡ DECODE (now (file .entry)) property bound (now (values .entry)) (now (choices .entry)) ⌝ }
+    ensures { λ r. ⌜ record { reply = r; choices = now (choices .exit) } ≡ DECODE (now (file .entry)) (now (piece .entry)) property bound (now (values .entry)) (now (choices .entry)) ⌝ }
 {
-    match admit(file, property, bound) {
+    match admit(file, piece, property, bound) {
         Admission::Refused { number, place } => DecodeReply::Refused { number, place },
         Admission::Passed(s) => decode_frames(s, bound, values, choices),
     }

@@ -33,16 +33,17 @@ pub struct Formula {
 }
 
 // ENCODE of a part that is there, once it is admitted; `s` has the sizes of a frame.
-pub fn encode_admitted(
-    file: &[u8],
+pub fn encode_admitted<'a>(
+    file: &'a [u8],
+    piece: &'a [u8],
     property: u64,
     bound: u64,
     part: u64,
     s: FrameSizes,
     buffer: &mut [i32],
 ) -> EncodeReply
-    requires { ⌜ Admitted (now file) property bound s × (part ≤ bound + 2) ⌝ }
-    ensures { λ r. ⌜ record { reply = r; buffer = now (buffer .exit) } ≡ ENCODE (now (file .entry)) property bound part (now (buffer .entry)) ⌝ }
+    requires { ⌜ Admitted (now file) (now piece) property bound s × (part ≤ bound + 2) ⌝ }
+    ensures { λ r. ⌜ record { reply = r; buffer = now (buffer .exit) } ≡ ENCODE (now (file .entry)) (now (piece .entry)) property bound part (now (buffer .entry)) ⌝ }
 {
     let words = part_words(s, bound, part);
     if (buffer.len() as u64) < words {
@@ -57,19 +58,27 @@ pub fn encode_admitted(
     let shape = shape(file, index_cells(file, &mut cells));
     let inst = Instance {
         shape: shape,
+        cells: cells,
         sizes: s,
         property: property,
         bound: bound,
     };
-    put_part(file, &events, &cells, inst, part, buffer, 0);
+    put_part(file, piece, &events, inst, part, buffer, 0);
     EncodeReply::Encoded(words)
 }
 
 // Writes the words of a part of the formula and answers their number.
-pub fn encode(file: &[u8], property: u64, bound: u64, part: u64, buffer: &mut [i32]) -> EncodeReply
-    ensures { λ r. ⌜ record { reply = r; buffer = now (buffer .exit) } ≡ ENCODE (now (file .entry)) property bound part (now (buffer .entry)) ⌝ }
+pub fn encode<'a>(
+    file: &'a [u8],
+    piece: &'a [u8],
+    property: u64,
+    bound: u64,
+    part: u64,
+    buffer: &mut [i32],
+) -> EncodeReply
+    ensures { λ r. ⌜ record { reply = r; buffer = now (buffer .exit) } ≡ ENCODE (now (file .entry)) (now (piece .entry)) property bound part (now (buffer .entry)) ⌝ }
 {
-    match admit(file, property, bound) {
+    match admit(file, piece, property, bound) {
         Admission::Refused { number, place } => EncodeReply::Refused { number, place },
         Admission::Passed(s) => {
             if bound + 2 < part {
@@ -78,28 +87,35 @@ pub fn encode(file: &[u8], property: u64, bound: u64, part: u64, buffer: &mut [i
                     place: 0,
                 };
             }
-            encode_admitted(file, property, bound, part, s, buffer)
+            encode_admitted(file, piece, property, bound, part, s, buffer)
         }
     }
 }
 
 // Writes the whole formula to the buffer's front.
-pub fn write_formula(file: &[u8], property: u64, bound: u64, clauses: &mut [i32]) -> Formula
-    requires { ⌜ Writable (now file) property bound (now clauses) ⌝ }
-    ensures { λ r. ⌜ ((d : Design) → check (now (file .entry)) ≡ accepted d → Written d (propertyOf d property) bound (now (clauses .entry)) (now (clauses .exit)) (r .words) (r .variables)) ⌝ }
+pub fn write_formula<'a>(
+    file: &'a [u8],
+    piece: &'a [u8],
+    property: u64,
+    bound: u64,
+    clauses: &mut [i32],
+) -> Formula
+    requires { ⌜ Writable (now file) (now piece) property bound (now clauses) ⌝ }
+    ensures { λ r. ⌜ ((d : Design) → check (now (file .entry)) ≡ accepted d → Written d (propertyOf (now (file .entry)) (now (piece .entry)) d property) bound (now (clauses .entry)) (now (clauses .exit)) (r .words) (r .variables)) ⌝ }
 {
-    let s = sizes(file, property);
+    let s = sizes(file, piece, property);
     let mut events = [0u16; EVENT_PLACES];
     index_events(file, &mut events);
     let mut cells = [0u16; MAX_MOVERS];
     let shape = shape(file, index_cells(file, &mut cells));
     let inst = Instance {
         shape: shape,
+        cells: cells,
         sizes: s,
         property: property,
         bound: bound,
     };
-    let words = put_parts(file, &events, &cells, inst, clauses);
+    let words = put_parts(file, piece, &events, inst, clauses);
     Formula {
         words: words,
         variables: variables(s, bound) as usize,

@@ -15,7 +15,7 @@ ghost use Rattle.clauses.specs.Circuit.{product! };
 ghost use Rattle.clauses.specs.Expression.{constantBits, pad, integerAt, booleanAt};
 ghost use Rattle.clauses.specs.Formula.{total};
 ghost use Rattle.clauses.specs.Writing.{fromCode, fromCodes};
-ghost use Rattle.clauses.specs.Piece.{arithmetic!, logic!, compare! };
+ghost use Rattle.clauses.specs.Builders.{arithmetic!, logic!, compare! };
 ghost use Rattle.clauses.specs.FlatState.{readSlots, Slotted};
 ghost use Rattle.clauses.specs.Encoders.{Writes, IntHere, BoolHere, IntEncoded, BoolEncoded};
 use super::circuit::addend;

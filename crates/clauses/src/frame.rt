@@ -1,12 +1,15 @@
-// The sizes of a frame, computed once from an accepted file, and the sizes of the formula's parts, which are arithmetic on them.
+// The sizes of a frame, computed once from an accepted file and a right piece, and the sizes of the formula's parts, which are arithmetic on them.
 ghost use mathlib.Core.Path.{_≡_};
-ghost use Prim.Native.Nat.{_*_, _≤_};
+ghost use mathlib.Core.Bool.{true};
+ghost use mathlib.Core.List.{List};
+ghost use Prim.Native.Nat.{ℕ, _*_, _≤_};
 ghost use Rattle.design.specs.Tree.{Design};
 ghost use Rattle.design.specs.Limits.{maxMovers};
 ghost use Rattle.design.specs.Check.{check, accepted};
 ghost use Rattle.design.specs.Places.{Accepted};
 ghost use Rattle.design.specs.Sections.{Parts};
 ghost use Rattle.step.specs.Limits.{maxBound};
+ghost use Rattle.step.specs.Piece.{pieceRight};
 ghost use Rattle.step.specs.Property.{propertyOf};
 ghost use Rattle.clauses.specs.Limits.{mostGates, frameLimit, mostVariables, countLimit, sizeLimit};
 ghost use Rattle.clauses.specs.Cost.{pairCount, propertyCost, stepPropertyCost};
@@ -20,12 +23,12 @@ use design::index::constraint;
 use design::index::has_constraint;
 use design::index::index_cells;
 use design::index::index_events;
-use design::index::invariant;
 use design::index::shape;
 use design::limits::EVENT_PLACES;
 use design::limits::MAX_MOVERS;
 use design::shape::Shape;
 use step::limits::CONSTRAINT;
+use step::piece::expression;
 
 // Gates by kind; `wides` are xors and muxes.
 pub struct Gates {
@@ -54,18 +57,19 @@ pub struct FormulaSizes {
 }
 
 // The gates of the property.
-pub fn size_property(
-    file: &[u8],
+pub fn size_property<'a>(
+    file: &'a [u8],
+    piece: &'a [u8],
     events: &[u16; EVENT_PLACES],
     shape: Shape,
     property: u64,
 ) -> GatesAt
-    requires { ⌜ Ready (now file) (now events) shape ⌝ }
-    ensures { λ r. ⌜ FewGates mostGates r × ((d : Design) → Parts (now (file .entry)) d → HasGates r (propertyCost d (propertyOf d property))) ⌝ }
+    requires { ⌜ Ready (now file) (now events) shape × (pieceRight (now file) (now piece) property ≡ true) ⌝ }
+    ensures { λ r. ⌜ FewGates mostGates r × ((d : Design) → Parts (now (file .entry)) d → HasGates r (propertyCost d (propertyOf (now (file .entry)) (now (piece .entry)) d property))) ⌝ }
 {
     if property == 0 {
-        let stands = invariant(file);
-        return size_bool(file, stands.at, stands.end, shape);
+        let text = expression(file, piece);
+        return size_bool(text, 0, text.len(), shape);
     }
     if property == 1 {
         return size_cells(file, events, shape, true);
@@ -73,10 +77,10 @@ pub fn size_property(
     no_gates(0)
 }
 
-// The gates of property 2 among those of the step; other properties have none there.
+// The gates of property 2 among those of the step; other properties have none there. No piece is read.
 pub fn size_step_property(file: &[u8], shape: Shape, property: u64) -> GatesAt
     requires { ⌜ ShapedFile (now file) shape ⌝ }
-    ensures { λ r. ⌜ FewGates mostGates r × ((d : Design) → Parts (now (file .entry)) d → HasGates r (stepPropertyCost (propertyOf d property))) ⌝ }
+    ensures { λ r. ⌜ FewGates mostGates r × ((d : Design) → Parts (now (file .entry)) d → (piece : List ℕ) → HasGates r (stepPropertyCost (propertyOf (now (file .entry)) piece d property))) ⌝ }
 {
     if property < CONSTRAINT {
         return no_gates(0);
@@ -88,16 +92,16 @@ pub fn size_step_property(file: &[u8], shape: Shape, property: u64) -> GatesAt
     size_bool(file, stands.at, stands.end, shape)
 }
 
-// The sizes of a frame of an accepted file.
-pub fn sizes(file: &[u8], property: u64) -> FrameSizes
-    requires { ⌜ Accepted (now file) ⌝ }
-    ensures { λ r. ⌜ SmallFrame r × ((d : Design) → check (now (file .entry)) ≡ accepted d → r ≡ frameSizes d (propertyOf d property)) ⌝ }
+// The sizes of a frame of an accepted file, with a right piece.
+pub fn sizes<'a>(file: &'a [u8], piece: &'a [u8], property: u64) -> FrameSizes
+    requires { ⌜ Accepted (now file) × (pieceRight (now file) (now piece) property ≡ true) ⌝ }
+    ensures { λ r. ⌜ SmallFrame r × ((d : Design) → check (now (file .entry)) ≡ accepted d → r ≡ frameSizes d (propertyOf (now (file .entry)) (now (piece .entry)) d property)) ⌝ }
 {
     let mut events = [0u16; EVENT_PLACES];
     index_events(file, &mut events);
     let mut cells = [0u16; MAX_MOVERS];
     let shape = shape(file, index_cells(file, &mut cells));
-    let p = size_property(file, &events, shape, property);
+    let p = size_property(file, piece, &events, shape, property);
     let s = size_cells(file, &events, shape, false);
     let c = size_step_property(file, shape, property);
     let bits = shape.bits as u64;

@@ -1,6 +1,9 @@
 // Part k + 2: the clause of the negated property of all frames; of property 2, of all steps.
 ghost use mathlib.Core.Path.{_≡_};
-ghost use Prim.Native.Nat.{_+_, _-_, _≤_, _<_};
+ghost use mathlib.Core.Bool.{true};
+ghost use mathlib.Core.List.{List};
+ghost use Prim.Native.Nat.{ℕ, _+_, _-_, _≤_, _<_};
+ghost use Rattle.step.specs.Piece.{pieceRight};
 ghost use Rattle.step.specs.Property.{propertyOf};
 ghost use Rattle.design.specs.Tree.{Design};
 ghost use Rattle.design.specs.Check.{check, accepted};
@@ -23,24 +26,26 @@ use design::shape::Shape;
 use step::limits::CONSTRAINT;
 
 // The property's literal at the frame whose state is the variables from v on; its gates go nowhere.
-pub fn state_literal(
-    file: &[u8],
+pub fn state_literal<'a>(
+    file: &'a [u8],
+    piece: &'a [u8],
     events: &[u16; EVENT_PLACES],
-    shape: Shape,
-    property: u64,
+    inst: Instance,
     v: u32,
 ) -> u32
-    requires { ⌜ Ready (now file) (now events) shape × (v ≤ variableLimit) ⌝ }
-    ensures { λ r. ⌜ ((d : Design) (parts : Parts (now (file .entry)) d) → v + shape .bits + P d (propertyOf d property) ≤ variableLimit
-        → fromCode r ≡ (propertyAt d (propertyOf d property) v) .out) ⌝ }
+    requires { ⌜ Ready (now file) (now events) (inst .shape) × (pieceRight (now file) (now piece) (inst .property) ≡ true) × (v ≤ variableLimit) ⌝ }
+    ensures { λ r. ⌜ ((d : Design) (parts : Parts (now (file .entry)) d)
+        → v + inst .shape .bits + P d (propertyOf (now (file .entry)) (now (piece .entry)) d (inst .property)) ≤ variableLimit
+        → fromCode r ≡ (propertyAt d (propertyOf (now (file .entry)) (now (piece .entry)) d (inst .property)) v) .out) ⌝ }
 {
+    let shape = inst.shape;
     let bits = variables(v, shape.bits);
     let mut none = [0i32; 1];
     let pen = Cursor {
         cur: 0,
         var: v + shape.bits as u32,
     };
-    let x = encode_property(file, events, shape, property, &bits, &mut none, pen);
+    let x = encode_property(file, piece, events, inst, &bits, &mut none, pen);
     x.lit
 }
 
@@ -57,8 +62,8 @@ pub fn less_by(a: u32, b: u64) -> u32
 // Property 2's literal in the step out of the frame at v, the next frame being at `after`; its gates go nowhere. They are the last before the next frame.
 pub fn step_literal(file: &[u8], shape: Shape, property: u64, v: u32, after: u32) -> u32
     requires { ⌜ ShapedFile (now file) shape ⌝ }
-    ensures { λ r. ⌜ ((d : Design) → check (now (file .entry)) ≡ accepted d → after ≡ v + F d (propertyOf d property) → after + S d ≤ variableLimit
-        → fromCode r ≡ (stepPropertyAt d (propertyOf d property) v (stateAt d after)) .out) ⌝ }
+    ensures { λ r. ⌜ ((d : Design) → check (now (file .entry)) ≡ accepted d → (piece : List ℕ) → after ≡ v + F d (propertyOf (now (file .entry)) piece d property) → after + S d ≤ variableLimit
+        → fromCode r ≡ (stepPropertyAt d (propertyOf (now (file .entry)) piece d property) v (stateAt d after)) .out) ⌝ }
 {
     let gates = size_step_property(file, shape, property);
     let mut none = [0i32; 1];
@@ -71,36 +76,36 @@ pub fn step_literal(file: &[u8], shape: Shape, property: u64, v: u32, after: u32
 }
 
 // The property's literal in the frame at v, where frames are `stride` apart.
-pub fn property_literal(
-    file: &[u8],
+pub fn property_literal<'a>(
+    file: &'a [u8],
+    piece: &'a [u8],
     events: &[u16; EVENT_PLACES],
-    shape: Shape,
-    property: u64,
+    inst: Instance,
     v: u32,
     stride: u32,
 ) -> u32
-    requires { ⌜ Ready (now file) (now events) shape × (v ≤ variableLimit) × (stride < variableLimit) ⌝ }
-    ensures { λ r. ⌜ ((d : Design) → check (now (file .entry)) ≡ accepted d → stride ≡ F d (propertyOf d property) → PropertyLiteralFits d (propertyOf d property) v
-        → fromCode r ≡ propertyLiteralAt d (propertyOf d property) v) ⌝ }
+    requires { ⌜ Ready (now file) (now events) (inst .shape) × (pieceRight (now file) (now piece) (inst .property) ≡ true) × (v ≤ variableLimit) × (stride < variableLimit) ⌝ }
+    ensures { λ r. ⌜ ((d : Design) → check (now (file .entry)) ≡ accepted d → stride ≡ F d (propertyOf (now (file .entry)) (now (piece .entry)) d (inst .property))
+        → PropertyLiteralFits d (propertyOf (now (file .entry)) (now (piece .entry)) d (inst .property)) v
+        → fromCode r ≡ propertyLiteralAt d (propertyOf (now (file .entry)) (now (piece .entry)) d (inst .property)) v) ⌝ }
 {
-    if property < CONSTRAINT {
-        return state_literal(file, events, shape, property, v);
+    if inst.property < CONSTRAINT {
+        return state_literal(file, piece, events, inst, v);
     }
-    step_literal(file, shape, property, v, v + stride)
+    step_literal(file, inst.shape, inst.property, v, v + stride)
 }
 
-pub fn put_last(
-    file: &[u8],
+pub fn put_last<'a>(
+    file: &'a [u8],
+    piece: &'a [u8],
     events: &[u16; EVENT_PLACES],
     inst: Instance,
     buf: &mut [i32],
     cur: usize,
 ) -> usize
-    requires { ⌜ Ready (now file) (now events) (inst .shape) × SmallFormula (inst .sizes) (inst .bound) ⌝ }
-    ensures { λ r. ⌜ LastPut (now (file .entry)) (now (buf .entry)) (now (buf .exit)) cur r (inst .property) (inst .bound) (inst .sizes) ⌝ }
+    requires { ⌜ Ready (now file) (now events) (inst .shape) × (pieceRight (now file) (now piece) (inst .property) ≡ true) × SmallFormula (inst .sizes) (inst .bound) ⌝ }
+    ensures { λ r. ⌜ LastPut (now (file .entry)) (now (piece .entry)) (now (buf .entry)) (now (buf .exit)) cur r (inst .property) (inst .bound) (inst .sizes) ⌝ }
 {
-    let shape = inst.shape;
-    let property = inst.property;
     let sizes = inst.sizes;
     let frames = inst.bound + sizes.last;
     let stride = frame_length(sizes) as u32;
@@ -108,7 +113,7 @@ pub fn put_last(
     let mut x: u32 = 2;
     let mut j: u64 = 0;
     while j < frames {
-        let l = property_literal(file, events, shape, property, x, stride);
+        let l = property_literal(file, piece, events, inst, x, stride);
         at = put_literal(buf, at, negate(l));
         x = x + stride;
         j = j + 1;

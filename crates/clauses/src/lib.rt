@@ -15,7 +15,7 @@ mod part; // a frame's part, any part, all parts
 mod cost; // numbers of gates, of expressions and statements
 mod cells; // the same, of cells
 pub mod frame; // the sizes of a frame and of the formula
-mod admission; // CHECK, 13, 14 and 19
+mod admission; // CHECK, 13, 8, 14 and 19
 pub mod size; // SIZE
 pub mod encode; // ENCODE
 pub mod decode; // DECODE

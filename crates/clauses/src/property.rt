@@ -1,10 +1,15 @@
-// The gates of a property: the invariant, the chain over the invalid cells, or the constraint.
+// The gates of a property: property 0's expression, the chain over the invalid cells, or the constraint.
 ghost use mathlib.Core.Path.{_≡_};
+ghost use mathlib.Core.Bool.{true};
+ghost use mathlib.Core.List.{List};
+ghost use Prim.Native.Nat.{ℕ};
 ghost use lib.ListN.{length};
 ghost use Rattle.design.specs.Limits.{maxBits};
 ghost use Rattle.design.specs.Tree.{Design};
 ghost use Rattle.design.specs.Check.{eventIn};
 ghost use Rattle.design.specs.Sections.{Parts, CellFields};
+ghost use Rattle.step.specs.Piece.{pieceRight};
+ghost use Rattle.step.specs.Property.{propertyOf};
 ghost use Rattle.clauses.specs.Literal.{trueLiteral};
 ghost use Rattle.clauses.specs.Writing.{fromCode};
 ghost use Rattle.clauses.specs.Ready.{ShapedFile, Ready, LinkGates, InvalidGates, PropertyGates, StepPropertyGates};
@@ -13,6 +18,7 @@ use super::expression::encode_bool;
 use super::gate::Cursor;
 use super::gate::Out;
 use super::gate::emit_and;
+use super::instance::Instance;
 use super::literal::TRUE;
 use super::literal::negate;
 use super::mover::status_and_event;
@@ -22,12 +28,12 @@ use design::index::CELLS;
 use design::index::CELLS_AT;
 use design::index::constraint;
 use design::index::has_constraint;
-use design::index::invariant;
 use design::index::trailer_word;
 use design::limits::EVENT_PLACES;
 use design::limits::MAX_BITS;
 use design::shape::Shape;
 use step::limits::CONSTRAINT;
+use step::piece::expression;
 
 // The chain's gate for the cell at p, after those so far; a normal cell adds nothing.
 pub fn encode_link(
@@ -94,21 +100,25 @@ pub fn encode_invalid(
     }
 }
 
-pub fn encode_property(
-    file: &[u8],
+// The property in the frame whose state has the literals `bits`.
+pub fn encode_property<'a>(
+    file: &'a [u8],
+    piece: &'a [u8],
     events: &[u16; EVENT_PLACES],
-    shape: Shape,
-    property: u64,
+    inst: Instance,
     bits: &[u32; MAX_BITS],
     buf: &mut [i32],
     pen: Cursor,
 ) -> Out
-    requires { ⌜ Ready (now file) (now events) shape × (length (now bits) ≡ maxBits) ⌝ }
-    ensures { λ r. ⌜ ((d : Design) (parts : Parts (now (file .entry)) d) → PropertyGates (now (file .entry)) shape (now (bits .entry)) d property pen (now (buf .entry)) (now (buf .exit)) r) ⌝ }
+    requires { ⌜ Ready (now file) (now events) (inst .shape) × (pieceRight (now file) (now piece) (inst .property) ≡ true) × (length (now bits) ≡ maxBits) ⌝ }
+    ensures { λ r. ⌜ ((d : Design) (parts : Parts (now (file .entry)) d)
+        → PropertyGates (now (file .entry)) (inst .shape) (now (bits .entry)) d (propertyOf (now (file .entry)) (now (piece .entry)) d (inst .property)) pen (now (buf .entry)) (now (buf .exit)) r) ⌝ }
 {
+    let shape = inst.shape;
+    let property = inst.property;
     if property == 0 {
-        let stands = invariant(file);
-        let x = encode_bool(file, file, stands.at, shape, bits, buf, pen);
+        let text = expression(file, piece);
+        let x = encode_bool(text, file, 0, shape, bits, buf, pen);
         return Out {
             lit: x.lit,
             cur: x.pen.cur,
@@ -132,7 +142,7 @@ pub fn no_property(pen: Cursor) -> Out
     }
 }
 
-// Property 2 in the step out of the state whose first variable is v; the next state's is `after`. Other properties have no gates there.
+// Property 2 in the step out of the state whose first variable is v; the next state's is `after`. Other properties have no gates there. No piece is read.
 pub fn encode_step_property(
     file: &[u8],
     shape: Shape,
@@ -143,7 +153,8 @@ pub fn encode_step_property(
     pen: Cursor,
 ) -> Out
     requires { ⌜ ShapedFile (now file) shape ⌝ }
-    ensures { λ r. ⌜ ((d : Design) (parts : Parts (now (file .entry)) d) → StepPropertyGates d property v after pen (now (buf .entry)) (now (buf .exit)) r) ⌝ }
+    ensures { λ r. ⌜ ((d : Design) (parts : Parts (now (file .entry)) d) (piece : List ℕ)
+        → StepPropertyGates d (propertyOf (now (file .entry)) piece d property) v after pen (now (buf .entry)) (now (buf .exit)) r) ⌝ }
 {
     if property < CONSTRAINT {
         return no_property(pen);

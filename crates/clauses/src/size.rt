@@ -12,11 +12,11 @@ pub enum SizeReply {
     Sized(FormulaSizes),
 }
 
-// The numbers of the formula of a design for a property and a bound.
-pub fn size(file: &[u8], property: u64, bound: u64) -> SizeReply
-    ensures { λ r. ⌜ r ≡ sizeReply (sizeOf (now (file .entry)) property bound) ⌝ }
+// The numbers of the formula of a design for a property, with its piece, and a bound.
+pub fn size<'a>(file: &'a [u8], piece: &'a [u8], property: u64, bound: u64) -> SizeReply
+    ensures { λ r. ⌜ r ≡ sizeReply (sizeOf (now (file .entry)) (now (piece .entry)) property bound) ⌝ }
 {
-    match admit(file, property, bound) {
+    match admit(file, piece, property, bound) {
         Admission::Refused { number, place } => SizeReply::Refused { number, place },
         Admission::Passed(s) => SizeReply::Sized(formula(s, bound)),
     }

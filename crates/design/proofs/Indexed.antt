@@ -19,7 +19,7 @@ use Rattle.design.specs.Sections.{Parts, EventRead, NormalRead, CellFiel
 use Rattle.design.specs.declared.shape.Shape.{Shape}
 use Rattle.design.proofs.Sections.{filling-inv, item-same, whole}
 use Rattle.design.proofs.Items.{variable-ends}
-use Rattle.design.proofs.Positions.{variable-stands, invariant-stands, constraint-stands}
+use Rattle.design.proofs.Positions.{variable-stands, constraint-stands}
 use Rattle.design.proofs.Places.{Read as Tree, read, event-stands, cell-fields}
 use Rattle.design.proofs.Tables.{few-events}
 use Rattle.design.proofs.Externals.{mover-count}
@@ -145,17 +145,7 @@ module _ (file table : List ℕ) (h : Shape) (i : Indexed file table h) where
 named : (file : List ℕ) (h : Shape) (later : Bool) (at at′ end : ℕ) (x : BoolExpr) → namesOf file h ≡ names file → at ≡ at′ → boolExpr file (withLater later (names file)) end maxDepth at′ ≡ got x end → boolExpr file (withLater later (namesOf file h)) end maxDepth at ≡ got x end
 named file h later at at′ end x n p r = ap (λ (y : Names). boolExpr file (withLater later y) end maxDepth at) n ∙ ap (boolExpr file (withLater later (names file)) end maxDepth) p ∙ r
 
--- the invariant, of which some tree stands there
-module _ (file : List ℕ) (a : Accepted file) (h : Shape) (s : Shaped file h) (at end : ℕ) (p : at ≡ invariantOffset file) (e : end ≡ constraintOffset file) where
-  pub invariant-got : (d : Design) (w : Parts file d) → boolExpr file (namesOf file h) end maxDepth at ≡ got (d .invariant) end
-  invariant-got d w =
-      named file h false at (invariantOffset file) end (d .invariant) (names-here file a h s) p
-      (subst (λ (j : ℕ). boolExpr file (names file) j maxDepth (invariantOffset file) ≡ got (d .invariant) j) (sym e) (invariant-stands file d w))
-
-  pub invariant-some : (x : BoolExpr) × (boolExpr file (namesOf file h) end maxDepth at ≡ got x end)
-  invariant-some = let t = read file a in (t .tree .invariant, invariant-got (t .tree) (t .all .parts))
-
--- the constraint, likewise
+-- the constraint, of which some tree stands there
 module _ (file : List ℕ) (a : Accepted file) (h : Shape) (s : Shaped file h) (at end : ℕ) (p : at ≡ constraintOffset file) (e : end ≡ itemsEnd file) where
   pub constraint-got : (d : Design) (w : Parts file d) → hasConstraint file ≡ true → boolExpr file (withLater true (namesOf file h)) end maxDepth at ≡ got (d .constraint) end
   constraint-got d w c =

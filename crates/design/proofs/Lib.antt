@@ -1,7 +1,8 @@
--- Laws of the definitions, in the order of reading. The layers above cite Forward, Positions, WellFormed, Widths, Externals and Indexed.
+-- Laws of the definitions, in the order of reading. The layers above cite Forward, Moved, Positions, WellFormed, Widths, Externals and Indexed.
 -- readers of expressions and actions
 pub mod Readers
 pub mod Forward
+pub mod Moved
 -- the sections and items of a file, and CHECK's walk over them
 pub mod Sections
 pub mod Positions

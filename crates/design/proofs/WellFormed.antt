@@ -12,7 +12,7 @@ use borrow.Author.Tests.{ltb-true, leb-true, eqb-true}
 use Rattle.design.specs.Tree.{BoolExpr, constantB, Stmts, Kind, boolean, integer, external, Variable, Cell, Design, Mover, cell, raise, ifExternal, externals, movers}
 use Rattle.design.specs.State.{layout, statusSlot, statusWidth, start, width, widths}
 use Rattle.design.specs.Limits.{maxDepth, maxNest, maxStatuses, maxEvents, maxMovers}
-use Rattle.design.specs.Reading.{Read}
+use Rattle.design.specs.Reading.{got, Read}
 use Rattle.design.specs.Expression.{Names, withLater, boolExpr}
 use Rattle.design.specs.DesignFile.{item, need, filling, Matrix, Entry, normal, invalid, kind, variableAt, matrixAt, eventAt, events, statuses, cellAt, c-past, fields, ending, ordered, guard, action, entry}
 use Rattle.design.specs.Check.{accepted, normals, invalids, hasConstraint, itemsEnd, constraintOffset, variableCount, matricesOffset, matrixCount, eventsOffset, invariantOffset, names, check, eventIn}
@@ -323,6 +323,10 @@ module _ (file : List ℕ) (bytes : (i : ℕ) → getD file i 0 < 256) (d : Desi
       go external q r =
           let bits = ap (λ (j : ℕ). getD (widths d) j 0) (let z : v ≡ v + 0 = omega arith in z) ∙ h 0 (omega arith) ∙ ap width q in
           (record { inside = omega arith; width = bits }, r)
+
+  -- an expression of one state, in whatever text it stands
+  pub expression-ok : (text : List ℕ) → ((i : ℕ) → getD text i 0 < 256) → (end depth at : ℕ) (x : BoolExpr) (n : ℕ) → boolExpr text N end depth at ≡ got x n → BoolOk (widths d) (layout d) x
+  expression-ok text all end depth at x n e = bool-ok text N (widths d) (layout d) all names-ok end depth at .of x n e
 
   invariant-ok : BoolOk (widths d) (layout d) (d .invariant)
   invariant-ok =

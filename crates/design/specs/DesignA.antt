@@ -39,6 +39,10 @@ designA = record {
   constraint = constantB true;
 }
 
+-- a piece for it (document 02, R-4): not (0 < c)
+unfoldable pub pieceA : List ℕ
+pieceA = 0x12 ∷ 0x16 ∷ 0x01 ∷ 0x00 ∷ 0x00 ∷ 0x02 ∷ 0x01 ∷ []
+
 pub length-A : length bytesA ≡ 73
 unfolding bytesA
 length-A = refl

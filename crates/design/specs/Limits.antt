@@ -3,7 +3,7 @@ use Prim.Native.Nat.{ℕ, _+_, _*_}
 use mathlib.Core.Bool.{Bool, cond, _&&_}
 use lib.Dec.{leb, eqb}
 
--- bytes of a file, and of its trailer
+-- bytes of a file, and of a piece (document 02, R-4); of a trailer
 abbrev pub maxBytes : ℕ
 maxBytes = 16384
 

@@ -28,8 +28,8 @@ abbrev pub sizeReturn : SizeReply → List ℕ → SizeReturn
 sizeReturn (size-reply.Refused number place) answer = record { code = code number place; answer = answer }
 sizeReturn (Sized s) answer = record { code = 0; answer = sizeWords s }
 
-unfoldable pub sizeEntry : List ℕ → ℕ → ℕ → List ℕ → SizeReturn
-sizeEntry file p k answer = sizeReturn (sizeReply (size file p k)) answer
+unfoldable pub sizeEntry : List ℕ → List ℕ → ℕ → ℕ → List ℕ → SizeReturn
+sizeEntry file piece p k answer = sizeReturn (sizeReply (size file piece p k)) answer
 
 -- ENCODE tells the number of words, and leaves the buffer
 abbrev pub encodeCode : EncodeReply → ℕ
@@ -45,9 +45,9 @@ pub record EncodeReturn : Type 0 where
   pub clauses : List ℤ
   pub answer : List ℕ
 
-unfoldable pub encodeEntry : List ℕ → ℕ → ℕ → ℕ → List ℤ → List ℕ → EncodeReturn
-encodeEntry file p k part clauses answer =
-    let after = ENCODE file p k part clauses in
+unfoldable pub encodeEntry : List ℕ → List ℕ → ℕ → ℕ → ℕ → List ℤ → List ℕ → EncodeReturn
+encodeEntry file piece p k part clauses answer =
+    let after = ENCODE file piece p k part clauses in
     record { code = encodeCode (after .reply); clauses = after .buffer; answer = encodeWords (after .reply) answer }
 
 -- DECODE leaves the choices
@@ -59,7 +59,7 @@ pub record DecodeReturn : Type 0 where
   pub code : ℕ
   pub choices : List ℕ
 
-unfoldable pub decodeEntry : List ℕ → ℕ → ℕ → List ℕ → List ℕ → DecodeReturn
-decodeEntry file p k values choices =
-    let after = DECODE file p k values choices in
+unfoldable pub decodeEntry : List ℕ → List ℕ → ℕ → ℕ → List ℕ → List ℕ → DecodeReturn
+decodeEntry file piece p k values choices =
+    let after = DECODE file piece p k values choices in
     record { code = decodeCode (after .reply); choices = after .choices }

@@ -60,5 +60,5 @@ pub record ReplayReturn : Type 0 where
 abbrev pub replayReturn : Replayed → List ℕ → ReplayReturn
 replayReturn r answer = answered (r .refusal) (record { code = 0; answer = bit (r .broken) ∷ r .step ∷ r .events ∷ r .guards ∷ [] }) (λ (k : ℕ). record { code = k; answer = answer })
 
-unfoldable pub replayEntry : List ℕ → ℕ → List ℕ → List ℕ → ReplayReturn
-replayEntry file p choices answer = replayReturn (REPLAY file p choices) answer
+unfoldable pub replayEntry : List ℕ → List ℕ → ℕ → List ℕ → List ℕ → ReplayReturn
+replayEntry file piece p choices answer = replayReturn (REPLAY file piece p choices) answer

@@ -35,7 +35,7 @@ pub record VerdictReturn : Type 0 where
   pub memory : Memory
   pub answer : List ℕ
 
-unfoldable pub verdictEntry : List ℕ → ℕ → ℕ → ℕ → Memory → List ℕ → VerdictReturn
-verdictEntry file p k budget lent answer =
-    let after = exit (verdict file p k budget lent) in
+unfoldable pub verdictEntry : List ℕ → List ℕ → ℕ → ℕ → ℕ → Memory → List ℕ → VerdictReturn
+verdictEntry file piece p k budget lent answer =
+    let after = exit (verdict file piece p k budget lent) in
     record { code = verdictCode (after .reply); memory = after .memory; answer = verdictWords (after .reply) answer }

@@ -10,10 +10,16 @@ use clauses::size::SizeReply;
 use clauses::size::size;
 
 #[no_mangle]
-pub extern "C" fn stm_size(file: &[u8], property: u64, bound: u64, answer: &mut [u64; 7]) -> u64
-    ensures { λ r. ⌜ record { code = r; answer = now (answer .exit) } ≡ sizeEntry (now (file .entry)) property bound (now (answer .entry)) ⌝ }
+pub extern "C" fn stm_size<'a>(
+    file: &'a [u8],
+    piece: &'a [u8],
+    property: u64,
+    bound: u64,
+    answer: &mut [u64; 7],
+) -> u64
+    ensures { λ r. ⌜ record { code = r; answer = now (answer .exit) } ≡ sizeEntry (now (file .entry)) (now (piece .entry)) property bound (now (answer .entry)) ⌝ }
 {
-    match size(file, property, bound) {
+    match size(file, piece, property, bound) {
         SizeReply::Refused { number, place } => code_of(number, place),
         SizeReply::Sized(s) => {
             *answer = [
@@ -31,8 +37,9 @@ pub extern "C" fn stm_size(file: &[u8], property: u64, bound: u64, answer: &mut 
 }
 
 #[no_mangle]
-pub extern "C" fn stm_encode(
-    file: &[u8],
+pub extern "C" fn stm_encode<'a>(
+    file: &'a [u8],
+    piece: &'a [u8],
     property: u64,
     bound: u64,
     part: u64,
@@ -40,9 +47,9 @@ pub extern "C" fn stm_encode(
     answer: &mut [u64; 1],
 ) -> u64
     ensures { λ r. ⌜ record { code = r; clauses = now (clauses .exit); answer = now (answer .exit) }
-        ≡ encodeEntry (now (file .entry)) property bound part (now (clauses .entry)) (now (answer .entry)) ⌝ }
+        ≡ encodeEntry (now (file .entry)) (now (piece .entry)) property bound part (now (clauses .entry)) (now (answer .entry)) ⌝ }
 {
-    match encode(file, property, bound, part, clauses) {
+    match encode(file, piece, property, bound, part, clauses) {
         EncodeReply::Refused { number, place } => code_of(number, place),
         EncodeReply::Encoded(words) => {
             *answer = [words];
@@ -52,16 +59,17 @@ pub extern "C" fn stm_encode(
 }
 
 #[no_mangle]
-pub extern "C" fn stm_decode(
-    file: &[u8],
+pub extern "C" fn stm_decode<'a>(
+    file: &'a [u8],
+    piece: &'a [u8],
     property: u64,
     bound: u64,
     values: &[u8],
     choices: &mut [u8],
 ) -> u64
-    ensures { λ r. ⌜ record { code = r; choices = now (choices .exit) } ≡ decodeEntry (now (file .entry)) property bound (now (values .entry)) (now (choices .entry)) ⌝ }
+    ensures { λ r. ⌜ record { code = r; choices = now (choices .exit) } ≡ decodeEntry (now (file .entry)) (now (piece .entry)) property bound (now (values .entry)) (now (choices .entry)) ⌝ }
 {
-    match decode(file, property, bound, values, choices) {
+    match decode(file, piece, property, bound, values, choices) {
         DecodeReply::Refused { number, place } => code_of(number, place),
         DecodeReply::Done => 0,
     }

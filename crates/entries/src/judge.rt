@@ -27,8 +27,9 @@ fn verdict_step(v: Verdict) -> u64
 }
 
 #[no_mangle]
-pub extern "C" fn stm_verdict(
-    file: &[u8],
+pub extern "C" fn stm_verdict<'a>(
+    file: &'a [u8],
+    piece: &'a [u8],
     property: u64,
     bound: u64,
     budget: u64,
@@ -43,11 +44,12 @@ pub extern "C" fn stm_verdict(
       memory = record { clauses = now (clauses .exit); values = now (values .exit); trail = now (trail .exit); choices = now (choices .exit) };
       answer = now (answer .exit);
     }
-        ≡ verdictEntry (now (file .entry)) property bound budget
+        ≡ verdictEntry (now (file .entry)) (now (piece .entry)) property bound budget
         (record { clauses = now (clauses .entry); values = now (values .entry); trail = now (trail .entry); choices = now (choices .entry) }) (now (answer .entry)) ⌝ }
 {
     match verdict(
         file,
+        piece,
         property,
         bound,
         budget,

@@ -84,15 +84,16 @@ pub extern "C" fn stm_holds(
 }
 
 #[no_mangle]
-pub extern "C" fn stm_replay(
-    file: &[u8],
+pub extern "C" fn stm_replay<'a>(
+    file: &'a [u8],
+    piece: &'a [u8],
     property: u64,
     choices: &[u8],
     answer: &mut [u64; 4],
 ) -> u64
-    ensures { λ r. ⌜ record { code = r; answer = now (answer .exit) } ≡ replayEntry (now (file .entry)) property (now (choices .entry)) (now (answer .entry)) ⌝ }
+    ensures { λ r. ⌜ record { code = r; answer = now (answer .exit) } ≡ replayEntry (now (file .entry)) (now (piece .entry)) property (now (choices .entry)) (now (answer .entry)) ⌝ }
 {
-    let told = step::replay(file, property, choices);
+    let told = step::replay(file, piece, property, choices);
     let refusal = told.refusal;
     if refusal.number != 0 {
         return code_of(refusal.number, refusal.place);

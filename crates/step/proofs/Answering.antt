@@ -17,6 +17,7 @@ use Rattle.design.specs.declared.Refusal.{Refusal}
 use Rattle.design.proofs.Places.{read}
 use Rattle.step.specs.declared.Replayed.{Replayed}
 use Rattle.step.specs.Limits.{lastProperty, maxBound}
+use Rattle.step.specs.Piece.{pieceRight}
 use Rattle.step.specs.Property.{propertyOf}
 use Rattle.step.specs.Interface.{firstWrong}
 use Rattle.step.specs.Gate.{gateRefusal}
@@ -41,12 +42,12 @@ all-below cs w over e l i h =
     let n = belows-length cs w in
     ltb-true (getD cs i 0) w (sym (List·getD-map (λ (x : ℕ). ltb x w) cs i 0) ∙ right-before (belows cs w) (omega arith) i (omega arith) (ltb 0 w))
 
-module _ (file : List ℕ) (p : ℕ) (cs : List ℕ) where
-  pub replay-refused : (r : Refusal) → r ≡ gateRefusal file p (length cs) → (r .number ≡ 0 → ⊥) → replayed (refused (r .number) (r .place)) ≡ REPLAY file p cs
+module _ (file piece : List ℕ) (p : ℕ) (cs : List ℕ) where
+  pub replay-refused : (r : Refusal) → r ≡ gateRefusal file piece p (length cs) → (r .number ≡ 0 → ⊥) → replayed (refused (r .number) (r .place)) ≡ REPLAY file piece p cs
   unfolding REPLAY
-  replay-refused r e z = sym (ap replayed (gate-refuses file p (length cs) _ r e z))
+  replay-refused r e z = sym (ap replayed (gate-refuses file piece p (length cs) _ r e z))
 
-  module _ (h : Accepted file) (a : p ≤ lastProperty file) (b : length cs ≤ maxBound) (w over : ℕ) (m : (d : Design) → check file ≡ accepted d → w ≡ length (movers d)) (o : over ≡ firstWrong (belows cs w)) where
+  module _ (h : Accepted file) (a : p ≤ lastProperty file) (t : pieceRight file piece p ≡ true) (b : length cs ≤ maxBound) (w over : ℕ) (m : (d : Design) → check file ≡ accepted d → w ≡ length (movers d)) (o : over ≡ firstWrong (belows cs w)) where
     abbrev d : Design
     d = read file h .tree
 
@@ -54,11 +55,11 @@ module _ (file : List ℕ) (p : ℕ) (cs : List ℕ) where
     ts = choicesRight d cs
 
     abbrev last : Answer (Option ℕ × ℕ × ℕ)
-    last = answer (runTold d (propertyOf d p) (start d) cs)
+    last = answer (runTold d (propertyOf file piece d p) (start d) cs)
 
-    here : replayed (need (allRight ts) 12 (firstWrong ts) last) ≡ REPLAY file p cs
+    here : replayed (need (allRight ts) 12 (firstWrong ts) last) ≡ REPLAY file piece p cs
     unfolding REPLAY
-    here = sym (ap replayed (in-range file p (length cs) _ h a b))
+    here = sym (ap replayed (in-range file piece p (length cs) _ h a t b))
 
     same : over ≡ firstWrong ts
     same = o ∙ ap (λ (j : ℕ). firstWrong (belows cs j)) (m d (read file h .is))
@@ -66,12 +67,12 @@ module _ (file : List ℕ) (p : ℕ) (cs : List ℕ) where
     long : length ts ≡ length cs
     long = belows-length cs (length (movers d))
 
-    pub replay-over : over < length cs → replayed (refused 12 over) ≡ REPLAY file p cs
+    pub replay-over : over < length cs → replayed (refused 12 over) ≡ REPLAY file piece p cs
     replay-over k =
         ap (λ (j : ℕ). replayed (refused 12 j)) same
         ∙ sym (ap replayed (need-no (allRight ts) 12 (firstWrong ts) last (ne-eqb (firstWrong ts) (length ts) (λ q. omega (arith, long, same))))) ∙ here
 
-    pub replay-answer : length cs ≤ over → (r : Replayed) → ((d : Design) → check file ≡ accepted d → r ≡ replayed (answer (runTold d (propertyOf d p) (start d) cs))) → r ≡ REPLAY file p cs
+    pub replay-answer : length cs ≤ over → (r : Replayed) → ((d : Design) → check file ≡ accepted d → r ≡ replayed (answer (runTold d (propertyOf file piece d p) (start d) cs))) → r ≡ REPLAY file piece p cs
     replay-answer k r f =
         f d (read file h .is)
         ∙ sym (ap replayed (need-yes (allRight ts) 12 (firstWrong ts) last (eq-eqb (firstWrong ts) (length ts) (omega (arith, wrong-most ts, long, same))))) ∙ here

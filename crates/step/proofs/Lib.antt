@@ -9,6 +9,7 @@ pub mod Runs
 -- cells, choices and properties
 pub mod Cells
 pub mod Scanning
+pub mod Pieces
 pub mod Pairs
 pub mod Choices
 pub mod Properties

@@ -115,36 +115,36 @@ module _ (n : ℕ) (pair : State) (long : length pair ≡ n + n) (keep : Bool) (
       )
 
 -- properties 0 and 1 do not look at the state before
-pub state-true : (d : Design) (p : ℕ) → p ≤ lastStateProperty → (before : Option State) (s : State) → holds d (propertyOf d p) s ≡ trueAt d (propertyOf d p) before s
+pub state-true : (file piece : List ℕ) (d : Design) (p : ℕ) → p ≤ lastStateProperty → (before : Option State) (s : State) → holds d (propertyOf file piece d p) s ≡ trueAt d (propertyOf file piece d p) before s
 unfolding trueAt propertyOf
-state-true d zero l before s = refl
-state-true d (suc zero) l before s = refl
-state-true d (suc (suc p)) l before s = absurd (omega arith)
+state-true file piece d zero l before s = refl
+state-true file piece d (suc zero) l before s = refl
+state-true file piece d (suc (suc p)) l before s = absurd (omega arith)
 
 -- so the state before need be kept only for the others
-pub kept-true : (d : Design) (p n : ℕ) (pair : State) (keep : Bool) → keep ≡ ltb lastStateProperty p → (s : State)
-    → trueAt d (propertyOf d p) (some (keptIn keep n pair)) s ≡ trueAt d (propertyOf d p) (some (drop n pair)) s
-kept-true d p n pair true e s = refl
-kept-true d p n pair false e s =
+pub kept-true : (file piece : List ℕ) (d : Design) (p n : ℕ) (pair : State) (keep : Bool) → keep ≡ ltb lastStateProperty p → (s : State)
+    → trueAt d (propertyOf file piece d p) (some (keptIn keep n pair)) s ≡ trueAt d (propertyOf file piece d p) (some (drop n pair)) s
+kept-true file piece d p n pair true e s = refl
+kept-true file piece d p n pair false e s =
     let l : p ≤ lastStateProperty = ltb-false lastStateProperty p (sym e) in
-    sym (state-true d p l (some (take n pair)) s) ∙ state-true d p l (some (drop n pair)) s
+    sym (state-true file piece d p l (some (take n pair)) s) ∙ state-true file piece d p l (some (drop n pair)) s
 
 -- property 2 is true in the first state, and then as the constraint is of both states
-module _ (d : Design) (n : ℕ) (pair : State) where
-  pub first-true : (p : ℕ) → lastStateProperty < p → (first : Bool) → first ≡ true → true ≡ trueAt d (propertyOf d p) (beforeIn first n pair) (drop n pair)
+module _ (file piece : List ℕ) (d : Design) (n : ℕ) (pair : State) where
+  pub first-true : (p : ℕ) → lastStateProperty < p → (first : Bool) → first ≡ true → true ≡ trueAt d (propertyOf file piece d p) (beforeIn first n pair) (drop n pair)
   unfolding trueAt propertyOf
   first-true zero l first e = absurd (omega arith)
   first-true (suc zero) l first e = absurd (omega arith)
   first-true (suc (suc p)) l true e = refl
   first-true (suc (suc p)) l false e = absurd (false≢true e)
 
-  pub pair-true : (file : List ℕ) (w : Parts file d) (h : Shape) → Shaped file h → (p : ℕ) → lastStateProperty < p → (first : Bool) → first ≡ false
-      → (r : Bool) → r ≡ evalBool (layoutOf h) pair (d .constraint) → r ≡ trueAt d (propertyOf d p) (beforeIn first n pair) (drop n pair)
+  pub pair-true : (w : Parts file d) (h : Shape) → Shaped file h → (p : ℕ) → lastStateProperty < p → (first : Bool) → first ≡ false
+      → (r : Bool) → r ≡ evalBool (layoutOf h) pair (d .constraint) → r ≡ trueAt d (propertyOf file piece d p) (beforeIn first n pair) (drop n pair)
   unfolding trueAt propertyOf
-  pair-true file w h q zero l first e r k = absurd (omega arith)
-  pair-true file w h q (suc zero) l first e r k = absurd (omega arith)
-  pair-true file w h q (suc (suc p)) l true e r k = absurd (false≢true (sym e))
-  pair-true file w h q (suc (suc p)) l false e r k =
+  pair-true w h q zero l first e r k = absurd (omega arith)
+  pair-true w h q (suc zero) l first e r k = absurd (omega arith)
+  pair-true w h q (suc (suc p)) l true e r k = absurd (false≢true (sym e))
+  pair-true w h q (suc (suc p)) l false e r k =
       k ∙ ap₂ (λ (y : Layout) (s : State). evalBool y s (d .constraint)) (same-layout file d w h q) (sym (take-append-drop n pair))
 
 -- the constraint, which two states are read by

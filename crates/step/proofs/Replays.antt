@@ -27,6 +27,7 @@ use Rattle.step.specs.StatusEventGuard.{eventReadBy, guardReadBy, countF
 use Rattle.step.specs.Operations.{firstBreak, runTold, replayTold, replayed}
 use Rattle.step.specs.Ready.{ReadyState, ReadyPair, beforeIn, keptIn, Replayable, testedBy}
 use Rattle.step.specs.declared.mover.Tested.{Tested}
+use Rattle.step.specs.declared.replaying.Query.{Query}
 use Rattle.design.specs.declared.shape.Shape.{Shape}
 use Rattle.design.proofs.Indexed.{variables-inside}
 use Rattle.design.proofs.Widths.{matrix-count}
@@ -100,8 +101,8 @@ ready-same file events h s s′ e r = record { indexed = r .indexed; size = e �
 pub pair-same : (file events : List ℕ) (h : Shape) (s s′ : State) → length s′ ≡ length s → ReadyPair file events h s → ReadyPair file events h s′
 pair-same file events h s s′ e r = record { indexed = r .indexed; size = e ∙ r .size }
 
-pub replayable-same : (file events cells : List ℕ) (h : Shape) (s s′ : State) (cs : List ℕ) → length s′ ≡ length s → Replayable file events cells h s cs → Replayable file events cells h s′ cs
-replayable-same file events cells h s s′ cs e r = record { ready = pair-same file events h s s′ e (r .ready); movers = r .movers; few = r .few; named = r .named }
+pub replayable-same : (file piece events cells : List ℕ) (q : Query) (s s′ : State) (cs : List ℕ) → length s′ ≡ length s → Replayable file piece events cells q s cs → Replayable file piece events cells q s′ cs
+replayable-same file piece events cells q s s′ cs e r = record { ready = pair-same file events (q .shape) s s′ e (r .ready); right = r .right; movers = r .movers; few = r .few; named = r .named }
 
 -- A count by step i of the run from s₀ is k, and the whole is k and what the choices from i on count.
 pub record Counted (d : Design) (test : State → ℕ → Bool) (s₀ : State) (cs : List ℕ) (now : State) (i k : ℕ) : Type 0 where
@@ -178,48 +179,48 @@ module _ (d : Design) (q : Property) (s₀ : State) (cs : List ℕ) (before : Op
       (counted-end d (eventReadBy d) s₀ cs now i events (g .events) l) (counted-end d (guardReadBy d) s₀ cs now i guards (g .guards) l)
 
 -- the loop: `pair` has the state before and the state now, of n slots each
-pub record Replaying (file : List ℕ) (p n : ℕ) (cs : List ℕ) (pair₀ : State) (i : ℕ) (pair : State) (broken : Bool) (at events guards : ℕ) : Type 0 where
+pub record Replaying (file piece : List ℕ) (p n : ℕ) (cs : List ℕ) (pair₀ : State) (i : ℕ) (pair : State) (broken : Bool) (at events guards : ℕ) : Type 0 where
   pub inside : i ≤ length cs
   pub size : length pair ≡ length pair₀
-  pub so-far : (d : Design) → check file ≡ accepted d → SoFar d (propertyOf d p) (drop n pair₀) cs (beforeIn (eqb i 0) n pair) (drop n pair) i broken at events guards
+  pub so-far : (d : Design) → check file ≡ accepted d → SoFar d (propertyOf file piece d p) (drop n pair₀) cs (beforeIn (eqb i 0) n pair) (drop n pair) i broken at events guards
 
-pub replaying-start : (file : List ℕ) (p n : ℕ) (cs : List ℕ) (pair : State) → Replaying file p n cs pair 0 pair false 0 0 0
-replaying-start file p n cs pair = record {
+pub replaying-start : (file piece : List ℕ) (p n : ℕ) (cs : List ℕ) (pair : State) → Replaying file piece p n cs pair 0 pair false 0 0 0
+replaying-start file piece p n cs pair = record {
   inside = omega arith;
   size = refl;
   so-far = λ d e. record { breaks = refl; unbroken = λ u. refl; events = record { same = omega arith; few = omega arith }; guards = record { same = omega arith; few = omega arith } };
 }
 
 -- the counts stay below the bound while choices are left
-pub replaying-few : (file : List ℕ) (p n : ℕ) (cs : List ℕ) (pair₀ : State) (i : ℕ) (pair : State) (broken : Bool) (at events guards : ℕ) → Replaying file p n cs pair₀ i pair broken at events guards
+pub replaying-few : (file piece : List ℕ) (p n : ℕ) (cs : List ℕ) (pair₀ : State) (i : ℕ) (pair : State) (broken : Bool) (at events guards : ℕ) → Replaying file piece p n cs pair₀ i pair broken at events guards
     → Accepted file → i < length cs → length cs ≤ maxBound → (events < maxBound) × (guards < maxBound)
-replaying-few file p n cs pair₀ i pair broken at events guards g a l b =
+replaying-few file piece p n cs pair₀ i pair broken at events guards g a l b =
     let t = read file a in
     let w = g .so-far (t .tree) (t .is) in
     (omega (arith, w .events .few), omega (arith, w .guards .few))
 
 -- `broken` and `at′` are the walk's first two variables with step i judged
-module _ (file : List ℕ) (p n : ℕ) (cs : List ℕ) (pair₀ : State) (i : ℕ) (pair : State) (was : Bool) (at events guards : ℕ) (g : Replaying file p n cs pair₀ i pair was at events guards)
-    (broken : Bool) (at′ : ℕ) (h : (d : Design) (w : Parts file d) → broken ≡ (was || not (trueAt d (propertyOf d p) (beforeIn (eqb i 0) n pair) (drop n pair)))) (f : at′ ≡ cond was at (cond broken i at)) where
+module _ (file piece : List ℕ) (p n : ℕ) (cs : List ℕ) (pair₀ : State) (i : ℕ) (pair : State) (was : Bool) (at events guards : ℕ) (g : Replaying file piece p n cs pair₀ i pair was at events guards)
+    (broken : Bool) (at′ : ℕ) (h : (d : Design) (w : Parts file d) → broken ≡ (was || not (trueAt d (propertyOf file piece d p) (beforeIn (eqb i 0) n pair) (drop n pair)))) (f : at′ ≡ cond was at (cond broken i at)) where
   abbrev now : State
   now = drop n pair
 
   kept-break : (d : Design) (keep : Bool) → keep ≡ ltb lastStateProperty p → (s : State) (xs : List ℕ) (j : ℕ)
-      → firstBreak d (propertyOf d p) (some now) s xs j ≡ firstBreak d (propertyOf d p) (some (keptIn keep n pair)) s xs j
+      → firstBreak d (propertyOf file piece d p) (some now) s xs j ≡ firstBreak d (propertyOf file piece d p) (some (keptIn keep n pair)) s xs j
   unfolding firstBreak
-  kept-break d keep e s [] j = sym (ap (λ (t : Bool). cond t none (some j)) (kept-true d p n pair keep e s))
-  kept-break d keep e s (c ∷ xs) j = sym (ap (λ (t : Bool). cond t (firstBreak d (propertyOf d p) (some s) (step d s c) xs (suc j)) (some j)) (kept-true d p n pair keep e s))
+  kept-break d keep e s [] j = sym (ap (λ (t : Bool). cond t none (some j)) (kept-true file piece d p n pair keep e s))
+  kept-break d keep e s (c ∷ xs) j = sym (ap (λ (t : Bool). cond t (firstBreak d (propertyOf file piece d p) (some s) (step d s c) xs (suc j)) (some j)) (kept-true file piece d p n pair keep e s))
 
   -- a choice: the state now is kept as the one before, where the property is judged on both, and the step out of it stands behind it
   pub replaying-on : i < length cs → length pair₀ ≡ n + n → (c : ℕ) → c ≡ getD cs i 0 → (keep : Bool) → keep ≡ ltb lastStateProperty p
       → (pair′ : State) (t : Tested) → length pair′ ≡ length pair
       → ((d : Design) → check file ≡ accepted d → (pair′ ≡ keptIn keep n pair ++ step d now c) × (t ≡ testedBy d now c))
-      → (e k : ℕ) → e ≡ events + bit (t .event) → k ≡ guards + bit (t .guard) → Replaying file p n cs pair₀ (i + 1) pair′ broken at′ e k
+      → (e k : ℕ) → e ≡ events + bit (t .event) → k ≡ guards + bit (t .guard) → Replaying file piece p n cs pair₀ (i + 1) pair′ broken at′ e k
   replaying-on l long c q keep kp pair′ t m next e k u v = rw (add-one i) (record {
     inside = omega arith;
     size = m ∙ g .size;
     so-far = λ d a.
-        let q′ = propertyOf d p in
+        let q′ = propertyOf file piece d p in
         let s₀ = drop n pair₀ in
         let front : length (keptIn keep n pair) ≡ n = front-long n pair (g .size ∙ long) keep in
         let r = next d a in
@@ -239,9 +240,9 @@ module _ (file : List ℕ) (p n : ℕ) (cs : List ℕ) (pair₀ : State) (i : �
         }))));
   })
 
-  pub replaying-end : length cs ≤ i → (d : Design) → check file ≡ accepted d → replayTold broken at′ events guards ≡ replayed (answer (runTold d (propertyOf d p) (drop n pair₀) cs))
+  pub replaying-end : length cs ≤ i → (d : Design) → check file ≡ accepted d → replayTold broken at′ events guards ≡ replayed (answer (runTold d (propertyOf file piece d p) (drop n pair₀) cs))
   replaying-end l d e =
-      so-far-end d (propertyOf d p) (drop n pair₀) cs (beforeIn (eqb i 0) n pair) now i was at events guards (g .so-far d e) broken at′ (h d (whole file d e .parts)) f l
+      so-far-end d (propertyOf file piece d p) (drop n pair₀) cs (beforeIn (eqb i 0) n pair) now i was at events guards (g .so-far d e) broken at′ (h d (whole file d e .parts)) f l
 
 -- a step is broken because one before it was, or because the property is false there
 pub broken-before : (was now : Bool) → was ≡ true → true ≡ (was || now)

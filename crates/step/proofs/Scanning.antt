@@ -1,4 +1,4 @@
--- The loop over the cells that looks at the invalid ones, and the invariant. Assumes nothing.
+-- The loop over the cells that looks at the invalid ones, and the properties of one state by what the code finds. Assumes nothing.
 use mathlib.Core.Path.{_≡_, refl, sym, ap, subst, _∙_}
 use mathlib.Core.Bool.{Bool, true, false, not, _&&_}
 use mathlib.Core.List.{List, _∷_}
@@ -8,22 +8,19 @@ use native.Mathlib.Numerals.{add-one}
 use lib.ListN.{getD, length, drop}
 use lib.Seq.{drop-cons, drop-length}
 use Rattle.design.specs.Tree.{BoolExpr, constantB, Design}
-use Rattle.design.specs.Limits.{maxDepth}
 use Rattle.design.specs.State.{State, Layout, layout, layoutOf}
-use Rattle.design.specs.Expression.{Names, boolExpr}
+use Rattle.design.specs.Expression.{Names}
 use Rattle.design.specs.DesignFile.{Entry, normal, invalid, c-matrix, c-status, c-event, c-kind, c-past}
-use Rattle.design.specs.Check.{invalids, namesOf, names, itemsEnd, constraintOffset, matricesOffset, cellsOffset, cellCount, invariantOffset, eventIn}
+use Rattle.design.specs.Check.{invalids, namesOf, names, itemsEnd, matricesOffset, cellsOffset, cellCount, invariantOffset, eventIn}
 use Rattle.design.specs.Places.{pastCells, Shaped}
 use Rattle.design.specs.Sections.{Parts, EntryRead, Standing, CellFields}
 use Rattle.design.proofs.Places.{Read as Tree, read, cell-stands, cell-fields}
 use Rattle.step.specs.Evaluation.{evalBool}
 use Rattle.step.specs.Limits.{lastStateProperty}
+use Rattle.step.specs.Piece.{expressionOf}
 use Rattle.step.specs.Property.{propertyOf}
 use Rattle.step.specs.OneStep.{statusAndEvent, noInvalid, trueAt, holds}
-use Rattle.step.specs.Accepted.{isRead, boolValue}
 use Rattle.design.specs.declared.shape.Shape.{Shape}
-use Rattle.design.proofs.Positions.{expressions-order}
-use Rattle.design.proofs.Indexed.{invariant-got, invariant-some}
 use Rattle.design.proofs.Widths.{layout-is}
 use Rattle.step.specs.Ready.{ReadyState}
 use Rattle.step.proofs.Cells.{BothAre}
@@ -32,15 +29,15 @@ use Rattle.step.proofs.Cells.{BothAre}
 pub same-layout : (file : List ℕ) (d : Design) (w : Parts file d) (h : Shape) → Shaped file h → layoutOf h ≡ layout d
 same-layout file d w h s = layout-is file d w (h .variables) (h .matrices) (s .variables) (s .matrices)
 
-pub invariant-property : (file : List ℕ) (d : Design) (w : Parts file d) (h : Shape) → Shaped file h → (p : ℕ) → p ≡ 0 → (s : State) (r : Bool) → r ≡ evalBool (layoutOf h) s (d .invariant) → r ≡ holds d (propertyOf d p) s
+pub expression-property : (file piece : List ℕ) (d : Design) (w : Parts file d) (h : Shape) → Shaped file h → (p : ℕ) → p ≡ 0 → (s : State) (r : Bool) → r ≡ evalBool (layoutOf h) s (expressionOf file piece d) → r ≡ holds d (propertyOf file piece d p) s
 unfolding trueAt propertyOf
-invariant-property file d w h q p z s r k = k ∙ ap (λ (l : Layout). evalBool l s (d .invariant)) (same-layout file d w h q) ∙ ap (λ (j : ℕ). holds d (propertyOf d j) s) (sym z)
+expression-property file piece d w h q p z s r k = k ∙ ap (λ (l : Layout). evalBool l s (expressionOf file piece d)) (same-layout file d w h q) ∙ ap (λ (j : ℕ). holds d (propertyOf file piece d j) s) (sym z)
 
-pub invalid-property : (file : List ℕ) (d : Design) (w : Parts file d) (h : Shape) → Shaped file h → (p : ℕ) → (p ≡ 0 → ⊥) → p ≤ lastStateProperty → (s : State) (r : Bool) → r ≡ noInvalid (layoutOf h) s (d .invalid) → r ≡ holds d (propertyOf d p) s
+pub invalid-property : (file piece : List ℕ) (d : Design) (w : Parts file d) (h : Shape) → Shaped file h → (p : ℕ) → (p ≡ 0 → ⊥) → p ≤ lastStateProperty → (s : State) (r : Bool) → r ≡ noInvalid (layoutOf h) s (d .invalid) → r ≡ holds d (propertyOf file piece d p) s
 unfolding trueAt propertyOf
-invalid-property file d w h q zero z l s r k = absurd (z refl)
-invalid-property file d w h q (suc (suc p)) z l s r k = absurd (omega arith)
-invalid-property file d w h q (suc zero) z l s r k = k ∙ ap (λ (l : Layout). noInvalid l s (d .invalid)) (same-layout file d w h q)
+invalid-property file piece d w h q zero z l s r k = absurd (z refl)
+invalid-property file piece d w h q (suc (suc p)) z l s r k = absurd (omega arith)
+invalid-property file piece d w h q (suc zero) z l s r k = k ∙ ap (λ (l : Layout). noInvalid l s (d .invalid)) (same-layout file d w h q)
 
 -- what is left to look at decides as the whole does
 pub record Scanning (file : List ℕ) (h : Shape) (slots : State) (p i : ℕ) : Type 0 where
@@ -58,16 +55,6 @@ module _ (file events′ : List ℕ) (h : Shape) (slots : State) (ready : ReadyS
 
   tree : Tree file
   tree = read file (ready .indexed .accepted)
-
-  -- where the invariant ends
-  pub invariant-ends : constraintOffset file ≤ length file
-  invariant-ends = let e = expressions-order file (tree .tree) (tree .all .parts) .1 in omega arith
-
-  pub invariant-reads : (at end : ℕ) → at ≡ invariantOffset file → end ≡ constraintOffset file → isRead (boolExpr file N end maxDepth at) ≡ true
-  invariant-reads at end a e = ap isRead (invariant-some file (ready .indexed .accepted) h (ready .indexed .shaped) at end a e .1)
-
-  pub invariant-value : (at end : ℕ) → at ≡ invariantOffset file → end ≡ constraintOffset file → (r : Bool) → r ≡ boolValue (layoutOf h) slots (boolExpr file N end maxDepth at) → (d : Design) (w : Parts file d) → r ≡ evalBool (layoutOf h) slots (d .invariant)
-  invariant-value at end a e r v d w = v ∙ ap (boolValue (layoutOf h) slots) (invariant-got file (ready .indexed .accepted) h (ready .indexed .shaped) at end a e d w)
 
   abbrev l : Layout
   l = layoutOf h

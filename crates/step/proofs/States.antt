@@ -21,6 +21,7 @@ use Rattle.design.proofs.Places.{read}
 use Rattle.design.proofs.Widths.{matrix-count}
 use Rattle.step.specs.Pattern.{signed, wrap}
 use Rattle.step.specs.Limits.{lastStateProperty}
+use Rattle.step.specs.Piece.{noPiece}
 use Rattle.step.specs.Property.{propertyOf}
 use Rattle.step.specs.OneStep.{step, holds}
 use Rattle.step.specs.Interface.{valuesRight, statusesRight, firstWrong, entriesRight, slotsGiven, valuesOf, statusesOf, StateEntries}
@@ -160,7 +161,7 @@ module _ (file : List ℕ) (values : List ℤ) (ss : List ℕ) (p : ℕ) where
     c′ = read file x .is
 
     abbrev ends′ : Answer Bool
-    ends′ = need (leb p lastStateProperty) 13 0 (answer (holds d′ (propertyOf d′ p) (slotsGiven d′ values ss)))
+    ends′ = need (leb p lastStateProperty) 13 0 (answer (holds d′ (propertyOf file noPiece d′ p) (slotsGiven d′ values ss)))
 
     answers′ : held (need (allRight (entriesRight d′ values ss)) 11 (firstWrong (entriesRight d′ values ss)) ends′) ≡ HOLDS file values ss p
     unfolding HOLDS d′
@@ -178,8 +179,8 @@ module _ (file : List ℕ) (values : List ℤ) (ss : List ℕ) (p : ℕ) where
       pub holds-13 : lastStateProperty < p → held (refused 13 0) ≡ HOLDS file values ss p
       holds-13 o = sym (ap held (need-no (leb p lastStateProperty) 13 0 _ (lt-leb p lastStateProperty o))) ∙ then-11
 
-      pub holds-done : p ≤ lastStateProperty → (nv nm : ℕ) → nv ≡ variableCount file → nm ≡ matrixCount file → (r : Bool) → ((d : Design) (w : Parts file d) → r ≡ holds d (propertyOf d p) (take nv ps ++ take nm ss)) → _≡_ {A = Held} (record { refusal = refusedAt 0 0; holds = r }) (HOLDS file values ss p)
+      pub holds-done : p ≤ lastStateProperty → (nv nm : ℕ) → nv ≡ variableCount file → nm ≡ matrixCount file → (r : Bool) → ((d : Design) (w : Parts file d) → r ≡ holds d (propertyOf file noPiece d p) (take nv ps ++ take nm ss)) → _≡_ {A = Held} (record { refusal = refusedAt 0 0; holds = r }) (HOLDS file values ss p)
       holds-done o nv nm e q r f =
           ap (λ (y : Bool). held (answer y)) (f d′ (whole file d′ c′ .parts))
-          ∙ ap (λ (s : State). held (answer (holds d′ (propertyOf d′ p) s))) (slots-are file d′ c′ nv nm e q values ps ss _ a refl)
-          ∙ sym (ap held (need-yes (leb p lastStateProperty) 13 0 (answer (holds d′ (propertyOf d′ p) (slotsGiven d′ values ss))) (le-leb p lastStateProperty o))) ∙ then-11
+          ∙ ap (λ (s : State). held (answer (holds d′ (propertyOf file noPiece d′ p) s))) (slots-are file d′ c′ nv nm e q values ps ss _ a refl)
+          ∙ sym (ap held (need-yes (leb p lastStateProperty) 13 0 (answer (holds d′ (propertyOf file noPiece d′ p) (slotsGiven d′ values ss))) (le-leb p lastStateProperty o))) ∙ then-11

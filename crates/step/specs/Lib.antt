@@ -1,8 +1,9 @@
 -- What must be believed, in the order of reading; then what inner functions are given and promise.
--- the step rule (document 01, "One step")
+-- the step rule (document 01, "One step"), with a property kept outside the design (document 02, R-4)
 pub mod Limits
 pub mod Pattern
 pub mod Evaluation
+pub mod Piece
 pub mod Property
 pub mod OneStep
 -- the order of a cell's tests, and REPLAY's counts (document 02, R-3)

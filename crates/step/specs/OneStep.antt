@@ -8,6 +8,7 @@ use lib.ListN.{length, getD, set, take, getElem?}
 use Rattle.design.specs.Tree.{BoolExpr, Stmt, Stmts, assign, assignB, ifElse, done, then, InvalidCell, Design, Mover, cell, raise, movers, truth, bit}
 use Rattle.design.specs.State.{State, Layout, layout, statusSlot, start}
 use Rattle.step.specs.Evaluation.{evalInt, evalBool}
+use Rattle.step.specs.Piece.{expressionOf}
 use Rattle.step.specs.Property.{Property, invariant, noInvalidCell, constraint, propertyOf}
 
 -- "its statements run in order, each reading what earlier ones left"
@@ -101,5 +102,5 @@ module _ (d : Design) where
 
 -- Not part of the step rule: to unfold this is to unfold all of it, for facts about given designs.
 unfoldable pub stepping : ℕ
-unfolding evalInt evalBool execute executeAll enabled effect move step idle run propertyOf trueAt stateBefore breaksAt breaksFrom breaks movers layout start
+unfolding evalInt evalBool execute executeAll enabled effect move step idle run expressionOf propertyOf trueAt stateBefore breaksAt breaksFrom breaks movers layout start
 stepping = 0

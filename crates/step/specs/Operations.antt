@@ -13,6 +13,7 @@ use Rattle.design.specs.Limits.{maxVariables, maxMatrices}
 use Rattle.design.specs.Answer.{Answer, refused, answer, need, onDesign}
 use Rattle.design.specs.declared.Refusal.{Refusal}
 use Rattle.step.specs.Limits.{lastStateProperty}
+use Rattle.step.specs.Piece.{noPiece}
 use Rattle.step.specs.Property.{Property, propertyOf}
 use Rattle.step.specs.OneStep.{step, idle, trueAt, holds}
 use Rattle.step.specs.StatusEventGuard.{eventsRead, guardsRead}
@@ -61,13 +62,13 @@ stepped (answer (e, i)) = record { refusal = refusedAt 0 0; values = e .values; 
 unfoldable pub STEP : List ℕ → List ℤ → List ℕ → ℕ → Stepped
 STEP file values statuses choice = stepped (stepAnswer file values statuses choice)
 
--- HOLDS "(a state and a property: 11; 13) answers whether the property is true there". Property 2 is about two states, and gets 13 here.
+-- HOLDS "(a state and a property: 11; 13) answers whether the property is true there". Property 2 is about two states, and gets 13 here. HOLDS takes no piece (document 02, R-4).
 abbrev pub holdsAnswer : List ℕ → List ℤ → List ℕ → ℕ → Answer Bool
 holdsAnswer file values statuses p =
     onDesign file λ d.
     need (allRight (entriesRight d values statuses)) 11 (firstWrong (entriesRight d values statuses))
     (need (leb p lastStateProperty) 13 0
-    (answer (holds d (propertyOf d p) (slotsGiven d values statuses))))
+    (answer (holds d (propertyOf file noPiece d p) (slotsGiven d values statuses))))
 
 abbrev pub held : Answer Bool → Held
 held (refused number place) = record { refusal = refusedAt number place; holds = false }
@@ -90,10 +91,10 @@ choicesRight d cs = map (λ (c : ℕ). ltb c (length (movers d))) cs
 abbrev pub runTold : Design → Property → State → List ℕ → Option ℕ × ℕ × ℕ
 runTold d q s cs = (firstBreak d q none s cs 0, eventsRead d s cs, guardsRead d s cs)
 
--- REPLAY: "13 property over 1; 14 over 100 choices; 12 (place: first such)."
-abbrev pub replayAnswer : List ℕ → ℕ → List ℕ → Answer (Option ℕ × ℕ × ℕ)
-replayAnswer file p cs =
-    gate file p (length cs) λ d q.
+-- REPLAY: "13 property over 1; 14 over 100 choices; 12 (place: first such)." 8, of the piece, is between 13 and 14 (document 02, R-4).
+abbrev pub replayAnswer : List ℕ → List ℕ → ℕ → List ℕ → Answer (Option ℕ × ℕ × ℕ)
+replayAnswer file piece p cs =
+    gate file piece p (length cs) λ d q.
     need (allRight (choicesRight d cs)) 12 (firstWrong (choicesRight d cs))
     (answer (runTold d q (start d) cs))
 
@@ -106,5 +107,6 @@ replayed (refused number place) = record { refusal = refusedAt number place; bro
 replayed (answer (none, events, guards)) = replayTold false 0 events guards
 replayed (answer (some i, events, guards)) = replayTold true i events guards
 
-unfoldable pub REPLAY : List ℕ → ℕ → List ℕ → Replayed
-REPLAY file p cs = replayed (replayAnswer file p cs)
+-- of the file, the piece, the property and the choices
+unfoldable pub REPLAY : List ℕ → List ℕ → ℕ → List ℕ → Replayed
+REPLAY file piece p cs = replayed (replayAnswer file piece p cs)

@@ -11,6 +11,7 @@ ghost use Rattle.design.specs.Check.{check, accepted};
 ghost use Rattle.design.specs.Answer.{refused, answer};
 ghost use Rattle.design.specs.Places.{Accepted, Shaped, MoversIndexed};
 ghost use Rattle.design.specs.Sections.{Parts};
+ghost use Rattle.step.specs.Piece.{noPiece};
 ghost use Rattle.step.specs.Property.{propertyOf};
 ghost use Rattle.step.specs.OneStep.{holds as holdsIn};
 ghost use Rattle.step.specs.Operations.{started, START, next, stepped, STEP, held, HOLDS};
@@ -179,10 +180,10 @@ pub fn holds_slots(
     slots: &mut [u16],
 ) -> bool
     requires { ⌜ ReadyState (now file) (now events) shape (now slots) × (property ≤ lastStateProperty) ⌝ }
-    ensures { λ r. ⌜ ((d : Design) (parts : Parts (now (file .entry)) d) → r ≡ holdsIn d (propertyOf d property) (take (shape .variables) ps ++ take (shape .matrices) ss)) ⌝ }
+    ensures { λ r. ⌜ ((d : Design) (parts : Parts (now (file .entry)) d) → r ≡ holdsIn d (propertyOf (now (file .entry)) noPiece d property) (take (shape .variables) ps ++ take (shape .matrices) ss)) ⌝ }
 {
     load_entries(shape, ps, ss, slots);
-    property_true(file, events, shape, property, slots)
+    property_true(file, b"", events, shape, property, slots)
 }
 
 // Whether the property is true in the state that right entries give.
@@ -194,7 +195,7 @@ pub fn holds_right(
     ss: [u16; MAX_MATRICES],
 ) -> bool
     requires { ⌜ Accepted (now file) × Shaped (now file) shape × (property ≤ lastStateProperty) ⌝ }
-    ensures { λ r. ⌜ ((d : Design) (parts : Parts (now (file .entry)) d) → r ≡ holdsIn d (propertyOf d property) (take (shape .variables) ps ++ take (shape .matrices) ss)) ⌝ }
+    ensures { λ r. ⌜ ((d : Design) (parts : Parts (now (file .entry)) d) → r ≡ holdsIn d (propertyOf (now (file .entry)) noPiece d property) (take (shape .variables) ps ++ take (shape .matrices) ss)) ⌝ }
 {
     let mut events = [0u16; EVENT_PLACES];
     index_events(file, &mut events);

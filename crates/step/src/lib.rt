@@ -7,6 +7,7 @@ mod interface;
 pub mod limits;
 pub mod mover;
 mod number;
+pub mod piece;
 pub mod property;
 pub mod replaying;
 
@@ -97,12 +98,12 @@ pub fn holds(
 }
 
 // REPLAY
-pub fn replay(file: &[u8], property: u64, choices: &[u8]) -> Replayed
-    ensures { λ r. ⌜ r ≡ REPLAY (now (file .entry)) property (now (choices .entry)) ⌝ }
+pub fn replay<'a>(file: &'a [u8], piece: &'a [u8], property: u64, choices: &[u8]) -> Replayed
+    ensures { λ r. ⌜ r ≡ REPLAY (now (file .entry)) (now (piece .entry)) property (now (choices .entry)) ⌝ }
 {
-    let refusal = gate(file, property, choices.len() as u64);
+    let refusal = gate(file, piece, property, choices.len() as u64);
     if refusal.number != 0 {
         return refuse_replay(refusal.number, refusal.place);
     }
-    replay_accepted(file, property, choices)
+    replay_accepted(file, piece, property, choices)
 }

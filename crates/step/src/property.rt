@@ -1,5 +1,6 @@
-// The properties. Parameters are those of movers.
+// The properties. Parameters are those of movers, and the piece.
 ghost use mathlib.Core.Path.{_≡_};
+ghost use mathlib.Core.Bool.{true};
 ghost use mathlib.Core.List.{List};
 ghost use Prim.Native.Nat.{ℕ, _≤_};
 ghost use lib.Dec.{ltb};
@@ -8,6 +9,7 @@ ghost use Rattle.design.specs.Tree.{Design};
 ghost use Rattle.design.specs.State.{layoutOf, slotCount};
 ghost use Rattle.design.specs.Sections.{Parts};
 ghost use Rattle.step.specs.Evaluation.{evalBool};
+ghost use Rattle.step.specs.Piece.{pieceRight, expressionOf};
 ghost use Rattle.step.specs.Property.{propertyOf};
 ghost use Rattle.step.specs.Limits.{lastStateProperty};
 ghost use Rattle.step.specs.OneStep.{noInvalid, trueAt, holds};
@@ -15,25 +17,25 @@ ghost use Rattle.step.specs.Ready.{ReadyState, ReadyPair, beforeIn};
 use super::evaluate::eval_bool;
 use super::limits::LAST_STATE_PROPERTY;
 use super::mover::status_and_event;
+use super::piece::expression;
 use design::bytes::wide;
 use design::bytes::word;
 use design::index::CELLS;
 use design::index::CELLS_AT;
 use design::index::constraint;
 use design::index::has_constraint;
-use design::index::invariant;
 use design::index::trailer_word;
 use design::limits::EVENT_PLACES;
 use design::shape::Shape;
 use design::shape::slot_count;
 
-// Whether the invariant is true.
-pub fn invariant_true(file: &[u8], shape: Shape, slots: &[u16]) -> bool
-    requires { ⌜ ((table : List ℕ) × ReadyState (now file) table shape (now slots)) ⌝ }
-    ensures { λ r. ⌜ ((d : Design) (parts : Parts (now (file .entry)) d) → r ≡ evalBool (layoutOf shape) (now (slots .entry)) (d .invariant)) ⌝ }
+// Whether property 0's expression is true: the piece's, or the file's invariant.
+pub fn expression_true<'a>(file: &'a [u8], piece: &'a [u8], shape: Shape, slots: &[u16]) -> bool
+    requires { ⌜ ((table : List ℕ) × ReadyState (now file) table shape (now slots)) × (pieceRight (now file) (now piece) 0 ≡ true) ⌝ }
+    ensures { λ r. ⌜ ((d : Design) (parts : Parts (now (file .entry)) d) → r ≡ evalBool (layoutOf shape) (now (slots .entry)) (expressionOf (now (file .entry)) (now (piece .entry)) d)) ⌝ }
 {
-    let stands = invariant(file);
-    let x = eval_bool(file, stands.at, stands.end, shape, slots);
+    let text = expression(file, piece);
+    let x = eval_bool(text, 0, text.len(), shape, slots);
     x.value
 }
 
@@ -57,19 +59,20 @@ pub fn no_invalid(file: &[u8], events: &[u16; EVENT_PLACES], shape: Shape, slots
     true
 }
 
-// Property 0 is the invariant, property 1 is about invalid cells: both are true or false of one state.
-pub fn property_true(
-    file: &[u8],
+// Property 0 is an expression, property 1 is about invalid cells: both are true or false of one state.
+pub fn property_true<'a>(
+    file: &'a [u8],
+    piece: &'a [u8],
     events: &[u16; EVENT_PLACES],
     shape: Shape,
     property: u64,
     slots: &[u16],
 ) -> bool
-    requires { ⌜ ReadyState (now file) (now events) shape (now slots) × (property ≤ lastStateProperty) ⌝ }
-    ensures { λ r. ⌜ ((d : Design) (parts : Parts (now (file .entry)) d) → r ≡ holds d (propertyOf d property) (now (slots .entry))) ⌝ }
+    requires { ⌜ ReadyState (now file) (now events) shape (now slots) × (pieceRight (now file) (now piece) property ≡ true) × (property ≤ lastStateProperty) ⌝ }
+    ensures { λ r. ⌜ ((d : Design) (parts : Parts (now (file .entry)) d) → r ≡ holds d (propertyOf (now (file .entry)) (now (piece .entry)) d property) (now (slots .entry))) ⌝ }
 {
     if property == 0 {
-        invariant_true(file, shape, slots)
+        expression_true(file, piece, shape, slots)
     } else {
         no_invalid(file, events, shape, slots)
     }
@@ -97,21 +100,22 @@ pub fn constraint_true(file: &[u8], shape: Shape, pair: &[u16]) -> bool
 
 // Whether the property is true in the second state of a pair, the first being the state before it. The first state of a run has none before it: there `first` holds,
 // and the constraint is true.
-pub fn true_at(
-    file: &[u8],
+pub fn true_at<'a>(
+    file: &'a [u8],
+    piece: &'a [u8],
     events: &[u16; EVENT_PLACES],
     shape: Shape,
     property: u64,
     first: bool,
     pair: &[u16],
 ) -> bool
-    requires { ⌜ ReadyPair (now file) (now events) shape (now pair) ⌝ }
+    requires { ⌜ ReadyPair (now file) (now events) shape (now pair) × (pieceRight (now file) (now piece) property ≡ true) ⌝ }
     ensures { λ r. ⌜ ((d : Design) (parts : Parts (now (file .entry)) d)
-        → r ≡ trueAt d (propertyOf d property) (beforeIn first (slotCount shape) (now (pair .entry))) (drop (slotCount shape) (now (pair .entry)))) ⌝ }
+        → r ≡ trueAt d (propertyOf (now (file .entry)) (now (piece .entry)) d property) (beforeIn first (slotCount shape) (now (pair .entry))) (drop (slotCount shape) (now (pair .entry)))) ⌝ }
 {
     if property <= LAST_STATE_PROPERTY {
         let n = slot_count(shape);
-        return property_true(file, events, shape, property, &pair[n..]);
+        return property_true(file, piece, events, shape, property, &pair[n..]);
     }
     if first {
         return true;

@@ -1,6 +1,6 @@
 // A list of choices, run from the first state.
 ghost use mathlib.Core.Path.{_≡_};
-ghost use mathlib.Core.Bool.{not, _||_, cond};
+ghost use mathlib.Core.Bool.{true, not, _||_, cond};
 ghost use mathlib.Core.List.{map};
 ghost use Prim.Native.Nat.{ℕ, _+_, _≤_, _<_};
 ghost use lib.ListN.{length, drop, replicate};
@@ -13,6 +13,7 @@ ghost use Rattle.design.specs.Places.{Accepted, Shaped};
 ghost use Rattle.design.specs.Sections.{Parts};
 ghost use Rattle.step.specs.Limits.{lastProperty, maxBound};
 ghost use Rattle.step.specs.Interface.{firstWrong};
+ghost use Rattle.step.specs.Piece.{pieceRight};
 ghost use Rattle.step.specs.Property.{propertyOf};
 ghost use Rattle.step.specs.OneStep.{trueAt};
 ghost use Rattle.step.specs.Operations.{runTold, replayed, REPLAY};
@@ -60,24 +61,38 @@ pub fn load_start(file: &[u8], shape: Shape, slots: &mut [u16])
     }
 }
 
+// What is asked of a run: a property, by its number, of a design of this shape.
+pub struct Query {
+    pub shape: Shape,
+    pub property: u64,
+}
+
 // Whether the property is false at step i or was before. Past the first break it is not judged.
-pub fn broken_at(
+pub fn broken_at<'a>(
     broken: bool,
-    file: &[u8],
+    file: &'a [u8],
+    piece: &'a [u8],
     events: &[u16; EVENT_PLACES],
-    shape: Shape,
-    property: u64,
+    query: Query,
     i: usize,
     pair: &[u16],
 ) -> bool
-    requires { ⌜ ReadyPair (now file) (now events) shape (now pair) ⌝ }
+    requires { ⌜ ReadyPair (now file) (now events) (query .shape) (now pair) × (pieceRight (now file) (now piece) (query .property) ≡ true) ⌝ }
     ensures { λ r. ⌜ ((d : Design) (parts : Parts (now (file .entry)) d)
-        → r ≡ (broken || not (trueAt d (propertyOf d property) (beforeIn (eqb i 0) (slotCount shape) (now (pair .entry))) (drop (slotCount shape) (now (pair .entry)))))) ⌝ }
+        → r ≡ (broken || not (trueAt d (propertyOf (now (file .entry)) (now (piece .entry)) d (query .property)) (beforeIn (eqb i 0) (slotCount (query .shape)) (now (pair .entry))) (drop (slotCount (query .shape)) (now (pair .entry)))))) ⌝ }
 {
     if broken {
         return true;
     }
-    !true_at(file, events, shape, property, i == 0, pair)
+    !true_at(
+        file,
+        piece,
+        events,
+        query.shape,
+        query.property,
+        i == 0,
+        pair,
+    )
 }
 
 // The first step that broke: i, if the first break is now.
@@ -105,18 +120,18 @@ pub fn count_if(n: usize, counted: bool) -> usize
 }
 
 // The run from the second state of `pair`: the first step at which the property is false, and the counts of all choices. Each choice acts on the pair in place.
-pub fn replay_choices(
-    file: &[u8],
+pub fn replay_choices<'a>(
+    file: &'a [u8],
+    piece: &'a [u8],
     events: &[u16; EVENT_PLACES],
     cells: &[u16; MAX_MOVERS],
-    shape: Shape,
-    property: u64,
+    query: Query,
     choices: &[u8],
     pair: &mut [u16],
 ) -> Replayed
-    requires { ⌜ Replayable (now file) (now events) (now cells) shape (now pair) (now choices) ⌝ }
+    requires { ⌜ Replayable (now file) (now piece) (now events) (now cells) query (now pair) (now choices) ⌝ }
     ensures { λ r. ⌜ ((d : Design) → check (now (file .entry)) ≡ accepted d
-        → r ≡ replayed (answer (runTold d (propertyOf d property) (drop (slotCount shape) (now (pair .entry))) (now (choices .entry))))) ⌝ }
+        → r ≡ replayed (answer (runTold d (propertyOf (now (file .entry)) (now (piece .entry)) d (query .property)) (drop (slotCount (query .shape)) (now (pair .entry))) (now (choices .entry))))) ⌝ }
 {
     let mut broken = false;
     let mut step = 0;
@@ -124,23 +139,23 @@ pub fn replay_choices(
     let mut guards = 0;
     let mut i = 0;
     while i < choices.len() {
-        let now = broken_at(broken, file, events, shape, property, i, pair);
+        let now = broken_at(broken, file, piece, events, query, i, pair);
         step = first_step(broken, now, step, i);
         broken = now;
         let tested = step_pair(
             file,
             events,
             cells,
-            shape,
+            query.shape,
             wide(choices[i]),
-            judges_steps(property),
+            judges_steps(query.property),
             pair,
         );
         read = count_if(read, tested.event);
         guards = count_if(guards, tested.guard);
         i = i + 1;
     }
-    let now = broken_at(broken, file, events, shape, property, i, pair);
+    let now = broken_at(broken, file, piece, events, query, i, pair);
     Replayed {
         refusal: Refusal {
             number: 0,
@@ -154,21 +169,23 @@ pub fn replay_choices(
 }
 
 // The same from the first state, in slots that are 0.
-pub fn replay_slots(
-    file: &[u8],
+pub fn replay_slots<'a>(
+    file: &'a [u8],
+    piece: &'a [u8],
     events: &[u16; EVENT_PLACES],
     cells: &[u16; MAX_MOVERS],
-    shape: Shape,
-    property: u64,
+    query: Query,
     choices: &[u8],
     pair: &mut [u16],
 ) -> Replayed
-    requires { ⌜ Replayable (now file) (now events) (now cells) shape (now pair) (now choices) × (now pair ≡ replicate (slotCount shape + slotCount shape) 0) ⌝ }
-    ensures { λ r. ⌜ ((d : Design) → check (now (file .entry)) ≡ accepted d → r ≡ replayed (answer (runTold d (propertyOf d property) (start d) (now (choices .entry))))) ⌝ }
+    requires { ⌜ Replayable (now file) (now piece) (now events) (now cells) query (now pair) (now choices) × (now pair ≡ replicate (slotCount (query .shape) + slotCount (query .shape)) 0) ⌝ }
+    ensures { λ r. ⌜ ((d : Design) → check (now (file .entry)) ≡ accepted d
+        → r ≡ replayed (answer (runTold d (propertyOf (now (file .entry)) (now (piece .entry)) d (query .property)) (start d) (now (choices .entry))))) ⌝ }
 {
+    let shape = query.shape;
     let n = slot_count(shape);
     load_start(file, shape, &mut pair[n..]);
-    replay_choices(file, events, cells, shape, property, choices, pair)
+    replay_choices(file, piece, events, cells, query, choices, pair)
 }
 
 pub fn refuse_replay(number: u8, place: usize) -> Replayed
@@ -183,10 +200,15 @@ pub fn refuse_replay(number: u8, place: usize) -> Replayed
     }
 }
 
-// On an accepted file, with a right property and few choices: the tables are filled once, for all steps.
-pub fn replay_accepted(file: &[u8], property: u64, choices: &[u8]) -> Replayed
-    requires { ⌜ Accepted (now file) × (property ≤ lastProperty (now file)) × (length (now choices) ≤ maxBound) ⌝ }
-    ensures { λ r. ⌜ r ≡ REPLAY (now (file .entry)) property (now (choices .entry)) ⌝ }
+// On an accepted file, with a right property and piece and few choices: the tables are filled once, for all steps.
+pub fn replay_accepted<'a>(
+    file: &'a [u8],
+    piece: &'a [u8],
+    property: u64,
+    choices: &[u8],
+) -> Replayed
+    requires { ⌜ Accepted (now file) × (property ≤ lastProperty (now file)) × (pieceRight (now file) (now piece) property ≡ true) × (length (now choices) ≤ maxBound) ⌝ }
+    ensures { λ r. ⌜ r ≡ REPLAY (now (file .entry)) (now (piece .entry)) property (now (choices .entry)) ⌝ }
 {
     let mut cells = [0u16; MAX_MOVERS];
     let normals = index_cells(file, &mut cells);
@@ -202,10 +224,10 @@ pub fn replay_accepted(file: &[u8], property: u64, choices: &[u8]) -> Replayed
     let end = n + n;
     replay_slots(
         file,
+        piece,
         &events,
         &cells,
-        shape,
-        property,
+        Query { shape, property },
         choices,
         &mut all[..end],
     )

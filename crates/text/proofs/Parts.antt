@@ -12,8 +12,10 @@ use lib.Seq.{drop-cons, take-at, length-take-le}
 use borrow.Author.Tests.{le-leb, lt-leb, leb-true, leb-false}
 use Rattle.design.specs.Tree.{Design}
 use Rattle.design.specs.Check.{Checked, check}
+use Rattle.step.specs.Piece.{noPiece}
 use Rattle.step.specs.Property.{propertyOf}
 use Rattle.step.proofs.Gates.{need-yes}
+use Rattle.step.proofs.Pieces.{no-piece-right}
 use Rattle.clauses.proofs.Admissions.{admit-in, admit-answers, admit-both}
 use Rattle.clauses.specs.Limits.{lastVariable}
 use Rattle.step.specs.Operations.{refusedAt}
@@ -101,26 +103,26 @@ told-encoded (answer ws) before after n e =
       size = length-take-le n after room;
     }
 
-module _ (file : List ℕ) (p k i : ℕ) (before after : List ℤ) (r : EncodeReply) (says : exit r after ≡ ENCODE file p k i before) where
-  pub is-refused : (n q : ℕ) → r ≡ Refused n q → wordsToWrite file p k i (length before) ≡ refused n q
+module _ (file : List ℕ) (p k i : ℕ) (before after : List ℤ) (r : EncodeReply) (says : exit r after ≡ ENCODE file noPiece p k i before) where
+  pub is-refused : (n q : ℕ) → r ≡ Refused n q → wordsToWrite file noPiece p k i (length before) ≡ refused n q
   unfolding encode
-  is-refused n q e = told-refused (wordsToWrite file p k i (length before)) before after n q (ap (λ (x : EncodeReply). exit x after) (sym e) ∙ says)
+  is-refused n q e = told-refused (wordsToWrite file noPiece p k i (length before)) before after n q (ap (λ (x : EncodeReply). exit x after) (sym e) ∙ says)
 
-  pub is-encoded : (n : ℕ) → r ≡ Encoded n → Told (wordsToWrite file p k i (length before)) after n
+  pub is-encoded : (n : ℕ) → r ≡ Encoded n → Told (wordsToWrite file noPiece p k i (length before)) after n
   unfolding encode
-  is-encoded n e = told-encoded (wordsToWrite file p k i (length before)) before after n (ap (λ (x : EncodeReply). exit x after) (sym e) ∙ says)
+  is-encoded n e = told-encoded (wordsToWrite file noPiece p k i (length before)) before after n (ap (λ (x : EncodeReply). exit x after) (sym e) ∙ says)
 
-  pub refused-yes : (n q : ℕ) → r ≡ Refused n q → true ≡ isRefused (wordsToWrite file p k i (length before))
+  pub refused-yes : (n q : ℕ) → r ≡ Refused n q → true ≡ isRefused (wordsToWrite file noPiece p k i (length before))
   refused-yes n q e = sym (ap isRefused (is-refused n q e))
 
-  pub refused-no : (n : ℕ) → r ≡ Encoded n → false ≡ isRefused (wordsToWrite file p k i (length before))
+  pub refused-no : (n : ℕ) → r ≡ Encoded n → false ≡ isRefused (wordsToWrite file noPiece p k i (length before))
   refused-no n e = sym (ap isRefused (is-encoded n e .words))
 
   module _ (size : length before ≡ maxWords) {xs ys : List ℕ} {at past : ℕ} where
-    part-as : (x : Answer (List ℤ)) → wordsToWrite file p k i (length before) ≡ x → TextWritten (printed x) xs ys at past → TextWritten (partText file p k i) xs ys at past
+    part-as : (x : Answer (List ℤ)) → wordsToWrite file noPiece p k i (length before) ≡ x → TextWritten (printed x) xs ys at past → TextWritten (partText file p k i) xs ys at past
     unfolding partText
     part-as x e w =
-        subst (λ (m : ℕ). TextWritten (printed (wordsToWrite file p k i m)) xs ys at past) size
+        subst (λ (m : ℕ). TextWritten (printed (wordsToWrite file noPiece p k i m)) xs ys at past) size
         (subst (λ (y : Answer (List ℤ)). TextWritten (printed y) xs ys at past) (sym e) w)
 
     pub part-refused : (n q : ℕ) → r ≡ Refused n q → TextWritten (refusalText (refusedAt n q)) xs ys at past → TextWritten (partText file p k i) xs ys at past
@@ -142,18 +144,18 @@ joined-same f g h (suc m) i = ap₂ (λ (a b : List ℕ). a ++ b) (h i) (joined-
 -- all parts
 module _ (file : List ℕ) (p k : ℕ) where
   abbrev partWords : Design → ℕ → List ℤ
-  partWords d i = words (part d (propertyOf d p) k i)
+  partWords d i = words (part d (propertyOf file noPiece d p) k i)
 
   abbrev fits : Design → ℕ → Bool
   fits d i = leb (length (partWords d i)) maxWords
 
   -- one part over is enough
-  one-over : (d : Design) (i m j : ℕ) → j ≤ i → i < j + m → fits d i ≡ false → noneOver d (propertyOf d p) k m j ≡ false
+  one-over : (d : Design) (i m j : ℕ) → j ≤ i → i < j + m → fits d i ≡ false → noneOver d (propertyOf file noPiece d p) k m j ≡ false
   unfolding noneOver
   one-over d i zero j a b e = absurd (omega arith)
   one-over d i (suc m) j a b e = go (fits d j) refl (λ l. one-over d i m (suc j) l (omega arith) e)
     where
-      go : (t : Bool) → fits d j ≡ t → (j < i → noneOver d (propertyOf d p) k m (suc j) ≡ false) → t && noneOver d (propertyOf d p) k m (suc j) ≡ false
+      go : (t : Bool) → fits d j ≡ t → (j < i → noneOver d (propertyOf file noPiece d p) k m (suc j) ≡ false) → t && noneOver d (propertyOf file noPiece d p) k m (suc j) ≡ false
       go false q f = refl
       go true q f = let other : i ≡ j → ⊥ = λ y. (let o : _≡_ {A = ℕ} 0 1 = cc in omega arith) in f (omega arith)
 
@@ -169,38 +171,38 @@ module _ (file : List ℕ) (p k : ℕ) where
   not-15 : (i : ℕ) (r : Answer (List ℤ)) → i < k + 3 → need (leb i (k + 2)) 15 0 r ≡ r
   not-15 i r l = need-yes (leb i (k + 2)) 15 0 r (le-leb i (k + 2) (omega arith))
 
-  all-refused : (i n q : ℕ) → i < k + 3 → wordsToWrite file p k i maxWords ≡ refused n q → wordsToPrint file p k ≡ refused n q
+  all-refused : (i n q : ℕ) → i < k + 3 → wordsToWrite file noPiece p k i maxWords ≡ refused n q → wordsToPrint file p k ≡ refused n q
   unfolding wordsToWrite wordsToPrint
-  all-refused i n q l = admit-both file p k _ _ n q λ d e.
-      refused-so n q (partWords d i) (words (formula d (propertyOf d p) k)) (fits d i) (noneOver d (propertyOf d p) k (k + 3) 0) (one-over d i (k + 3) 0 (omega arith) (omega arith))
+  all-refused i n q l = admit-both file noPiece p k _ _ n q λ d e.
+      refused-so n q (partWords d i) (words (formula d (propertyOf file noPiece d p) k)) (fits d i) (noneOver d (propertyOf file noPiece d p) k (k + 3) 0) (one-over d i (k + 3) 0 (omega arith) (omega arith))
       (sym (not-15 i _ l) ∙ e)
 
-  module _ (d : Design) (e : check file ≡ Checked.accepted d) (low : p ≤ lastProperty file) (few : k ≤ maxBound) (numbers : n d (propertyOf d p) k ≤ lastVariable) (h : (i : ℕ) → i < k + 3 → isRefused (wordsToWrite file p k i maxWords) ≡ false) where
-    part-in : (i : ℕ) → i < k + 3 → wordsToWrite file p k i maxWords ≡ need (fits d i) 16 0 (answer (partWords d i))
+  module _ (d : Design) (e : check file ≡ Checked.accepted d) (low : p ≤ lastProperty file) (few : k ≤ maxBound) (numbers : n d (propertyOf file noPiece d p) k ≤ lastVariable) (h : (i : ℕ) → i < k + 3 → isRefused (wordsToWrite file noPiece p k i maxWords) ≡ false) where
+    part-in : (i : ℕ) → i < k + 3 → wordsToWrite file noPiece p k i maxWords ≡ need (fits d i) 16 0 (answer (partWords d i))
     unfolding wordsToWrite
-    part-in i l = admit-in file p k _ d e low few numbers ∙ not-15 i _ l
+    part-in i l = admit-in file noPiece p k _ d e low (no-piece-right file p) few numbers ∙ not-15 i _ l
 
     fit : (i : ℕ) → i < k + 3 → fits d i ≡ true
     fit i l = none-refused (partWords d i) (fits d i) (ap isRefused (sym (part-in i l)) ∙ h i l)
 
-    none-over : (m j : ℕ) → j + m ≤ k + 3 → noneOver d (propertyOf d p) k m j ≡ true
+    none-over : (m j : ℕ) → j + m ≤ k + 3 → noneOver d (propertyOf file noPiece d p) k m j ≡ true
     unfolding noneOver
     none-over zero j l = refl
     none-over (suc m) j l = ap₂ (λ (a b : Bool). a && b) (fit j (omega arith)) (none-over m (suc j) (omega arith))
 
-    part-is : (i : ℕ) → i < k + 3 → wordsToWrite file p k i maxWords ≡ answer (partWords d i)
+    part-is : (i : ℕ) → i < k + 3 → wordsToWrite file noPiece p k i maxWords ≡ answer (partWords d i)
     part-is i l = part-in i l ∙ rw (fit i l)
 
-    all-is : wordsToPrint file p k ≡ answer (words (formula d (propertyOf d p) k))
+    all-is : wordsToPrint file p k ≡ answer (words (formula d (propertyOf file noPiece d p) k))
     unfolding wordsToPrint
-    all-is = admit-in file p k _ d e low few numbers ∙ rw (none-over (k + 3) 0 (omega arith))
+    all-is = admit-in file noPiece p k _ d e low (no-piece-right file p) few numbers ∙ rw (none-over (k + 3) 0 (omega arith))
 
-    parts-joined : (m i : ℕ) → i + m ≤ k + 3 → wordsText (words (partsFrom d (propertyOf d p) k m i)) ≡ joined (partText file p k) m i
+    parts-joined : (m i : ℕ) → i + m ≤ k + 3 → wordsText (words (partsFrom d (propertyOf file noPiece d p) k m i)) ≡ joined (partText file p k) m i
     unfolding wordsText partsFrom joined partText
     parts-joined zero i l = refl
     parts-joined (suc m) i l =
-        ap wordsText (words-join (part d (propertyOf d p) k i) (partsFrom d (propertyOf d p) k m (suc i)))
-        ∙ words-append (partWords d i) (words (partsFrom d (propertyOf d p) k m (suc i)))
+        ap wordsText (words-join (part d (propertyOf file noPiece d p) k i) (partsFrom d (propertyOf file noPiece d p) k m (suc i)))
+        ∙ words-append (partWords d i) (words (partsFrom d (propertyOf file noPiece d p) k m (suc i)))
         ∙ ap₂ (λ (a b : List ℕ). a ++ b) (sym (ap printed (part-is i (omega arith)))) (parts-joined m (suc i) (omega arith))
 
     all-printed : printed (wordsToPrint file p k) ≡ joined (partText file p k) (k + 3) 0
@@ -210,40 +212,40 @@ module _ (file : List ℕ) (p k : ℕ) where
 -- the parts so far are not refused
 pub record Fine (file : List ℕ) (p k i : ℕ) : Type 0 where
   pub inside : i ≤ k + 3
-  pub fine : (j : ℕ) → j < i → isRefused (wordsToWrite file p k j maxWords) ≡ false
+  pub fine : (j : ℕ) → j < i → isRefused (wordsToWrite file noPiece p k j maxWords) ≡ false
 
 module _ (file : List ℕ) (p k : ℕ) where
   pub fine-start : Fine file p k 0
   fine-start = record { inside = omega arith; fine = λ j l. absurd (omega arith) }
 
-  pub fine-on : (i room : ℕ) → Fine file p k i → i < k + 3 → room ≡ maxWords → false ≡ isRefused (wordsToWrite file p k i room) → Fine file p k (i + 1)
+  pub fine-on : (i room : ℕ) → Fine file p k i → i < k + 3 → room ≡ maxWords → false ≡ isRefused (wordsToWrite file noPiece p k i room) → Fine file p k (i + 1)
   fine-on i room f l q e = record { inside = omega arith; fine = λ j m. go j (leb i j) refl m }
     where
-      here : isRefused (wordsToWrite file p k i maxWords) ≡ false
-      here = sym (subst (λ (n : ℕ). false ≡ isRefused (wordsToWrite file p k i n)) q e)
+      here : isRefused (wordsToWrite file noPiece p k i maxWords) ≡ false
+      here = sym (subst (λ (n : ℕ). false ≡ isRefused (wordsToWrite file noPiece p k i n)) q e)
 
-      go : (j : ℕ) (t : Bool) → leb i j ≡ t → j < i + 1 → isRefused (wordsToWrite file p k j maxWords) ≡ false
-      go j true z m = let s : i ≡ j = omega (arith, leb-true i j z) in subst (λ (n : ℕ). isRefused (wordsToWrite file p k n maxWords) ≡ false) s here
+      go : (j : ℕ) (t : Bool) → leb i j ≡ t → j < i + 1 → isRefused (wordsToWrite file noPiece p k j maxWords) ≡ false
+      go j true z m = let s : i ≡ j = omega (arith, leb-true i j z) in subst (λ (n : ℕ). isRefused (wordsToWrite file noPiece p k n maxWords) ≡ false) s here
       go j false z m = f .fine j (omega (arith, leb-false i j z))
 
-  pub parts-refused : (i room : ℕ) → i < k + 3 → room ≡ maxWords → true ≡ isRefused (wordsToWrite file p k i room) → printed (wordsToPrint file p k) ≡ joined (partText file p k) (i + 1 - i) i
+  pub parts-refused : (i room : ℕ) → i < k + 3 → room ≡ maxWords → true ≡ isRefused (wordsToWrite file noPiece p k i room) → printed (wordsToPrint file p k) ≡ joined (partText file p k) (i + 1 - i) i
   unfolding partText
   parts-refused i room l q e =
-      go (wordsToWrite file p k i maxWords) refl (subst (λ (n : ℕ). true ≡ isRefused (wordsToWrite file p k i n)) q e)
+      go (wordsToWrite file noPiece p k i maxWords) refl (subst (λ (n : ℕ). true ≡ isRefused (wordsToWrite file noPiece p k i n)) q e)
       ∙ sym (ap (λ (m : ℕ). joined (partText file p k) m i) (let z : i + 1 - i ≡ 1 = omega arith in z) ∙ joined-one (partText file p k) i)
     where
-      go : (x : Answer (List ℤ)) → wordsToWrite file p k i maxWords ≡ x → true ≡ isRefused x → printed (wordsToPrint file p k) ≡ partText file p k i
+      go : (x : Answer (List ℤ)) → wordsToWrite file noPiece p k i maxWords ≡ x → true ≡ isRefused x → printed (wordsToPrint file p k) ≡ partText file p k i
       go (refused n r) s t = ap printed (all-refused file p k i n r l s) ∙ sym (ap printed s)
       go (answer ws) s t = let o : _≡_ {A = ℕ} 0 1 = cc in absurd (omega arith)
 
   pub parts-printed : (i : ℕ) → Fine file p k i → k + 3 ≤ i → printed (wordsToPrint file p k) ≡ joined (partText file p k) (k + 3 - 0) 0
   unfolding wordsToWrite
-  parts-printed i f l = go (wordsToWrite file p k 0 maxWords) refl (f .fine 0 (omega arith))
+  parts-printed i f l = go (wordsToWrite file noPiece p k 0 maxWords) refl (f .fine 0 (omega arith))
     where
-      go : (x : Answer (List ℤ)) → wordsToWrite file p k 0 maxWords ≡ x → isRefused x ≡ false → printed (wordsToPrint file p k) ≡ joined (partText file p k) (k + 3 - 0) 0
+      go : (x : Answer (List ℤ)) → wordsToWrite file noPiece p k 0 maxWords ≡ x → isRefused x ≡ false → printed (wordsToPrint file p k) ≡ joined (partText file p k) (k + 3 - 0) 0
       go (refused n r) s t = let o : _≡_ {A = ℕ} 0 1 = cc in absurd (omega arith)
       go (answer ws) s t =
-          let g = admit-answers file p k _ ws s in
+          let g = admit-answers file noPiece p k _ ws s in
           all-printed file p k (g .design) (g .accepted) (g .property) (g .bound) (g .numbers) (λ j m. f .fine j (omega arith))
           ∙ ap (λ (m : ℕ). joined (partText file p k) m 0) (let z : k + 3 ≡ k + 3 - 0 = omega arith in z)
 

@@ -20,6 +20,7 @@ use Rattle.design.specs.Places.{Shaped, MoversIndexed}
 use Rattle.design.specs.Sections.{Parts}
 use Rattle.design.proofs.Sections.{whole}
 use Rattle.design.proofs.Places.{read}
+use Rattle.step.specs.Piece.{noPiece}
 use Rattle.step.specs.Property.{Property, propertyOf}
 use Rattle.design.proofs.Widths.{layout-is}
 use Rattle.step.specs.Gate.{gate, refusalOf}
@@ -69,11 +70,11 @@ pub record Printing (file : List ℕ) (p n : ℕ) (cs : List ℕ) (pair₀ : Sta
   pub state : length pair ≡ length pair₀
   pub near : q ≤ at + maxLine * i
   pub size : length ys ≡ length xs
-  pub rest : (d : Design) → check file ≡ accepted d → Rest (nextLines d (propertyOf d p) i (drop n pair) (drop i cs)) (nextLines d (propertyOf d p) 0 (drop n pair₀) cs) xs ys at q
+  pub rest : (d : Design) → check file ≡ accepted d → Rest (nextLines d (propertyOf file noPiece d p) i (drop n pair) (drop i cs)) (nextLines d (propertyOf file noPiece d p) 0 (drop n pair₀) cs) xs ys at q
 
 pub printing-start : (file : List ℕ) (p n : ℕ) (cs : List ℕ) (pair : State) (xs : List ℕ) (at : ℕ) → Printing file p n cs pair xs at 0 pair xs at
 printing-start file p n cs pair xs at =
-    record { inside = omega arith; state = refl; near = omega arith; size = refl; rest = λ d e. rest-start (nextLines d (propertyOf d p) 0 (drop n pair) cs) xs at }
+    record { inside = omega arith; state = refl; near = omega arith; size = refl; rest = λ d e. rest-start (nextLines d (propertyOf file noPiece d p) 0 (drop n pair) cs) xs at }
 
 module _ (file : List ℕ) (p n : ℕ) (cs : List ℕ) (pair₀ : State) (xs : List ℕ) (at i : ℕ) (pair : State) (ys : List ℕ) (q : ℕ) (g : Printing file p n cs pair₀ xs at i pair ys q) where
   abbrev now : State
@@ -81,16 +82,16 @@ module _ (file : List ℕ) (p n : ℕ) (cs : List ℕ) (pair₀ : State) (xs : L
 
   -- the state before a line's state matters only where the property is judged on it
   kept-line : (d : Design) (keep : Bool) → keep ≡ ltb lastStateProperty p → (j c : ℕ) (u : Bool) (s : State)
-      → stateLine d (propertyOf d p) j c u (some now) s ≡ stateLine d (propertyOf d p) j c u (some (keptIn keep n pair)) s
+      → stateLine d (propertyOf file noPiece d p) j c u (some now) s ≡ stateLine d (propertyOf file noPiece d p) j c u (some (keptIn keep n pair)) s
   unfolding stateLine
   kept-line d keep e j c u s =
-      ap (λ (t : Bool). line j c u t (take (length (d .variables)) (map signed s)) (map pos (statusesIn (layout d) s))) (sym (kept-true d p n pair keep e s))
+      ap (λ (t : Bool). line j c u t (take (length (d .variables)) (map signed s)) (map pos (statusesIn (layout d) s))) (sym (kept-true file noPiece d p n pair keep e s))
 
   -- the state now is kept as the one before, where the property is judged on both, and the step out of it stands behind it
   next-lines : (d : Design) (c : ℕ) (keep : Bool) → keep ≡ ltb lastStateProperty p → (pair′ : State) (u : Bool) → length pair₀ ≡ n + n → i < length cs → c ≡ getD cs i 0
       → (pair′ ≡ keptIn keep n pair ++ step d now c) × (u ≡ idle d now c)
-      → nextLines d (propertyOf d p) i now (drop i cs)
-      ≡ stateLine d (propertyOf d p) (suc i) c u (beforeIn (eqb (suc i) 0) n pair′) (drop n pair′) ++ nextLines d (propertyOf d p) (suc i) (drop n pair′) (drop (suc i) cs)
+      → nextLines d (propertyOf file noPiece d p) i now (drop i cs)
+      ≡ stateLine d (propertyOf file noPiece d p) (suc i) c u (beforeIn (eqb (suc i) 0) n pair′) (drop n pair′) ++ nextLines d (propertyOf file noPiece d p) (suc i) (drop n pair′) (drop (suc i) cs)
   unfolding nextLines
   next-lines d c keep kp pair′ u z l e k =
       let front = keptIn keep n pair in
@@ -99,14 +100,14 @@ module _ (file : List ℕ) (p n : ℕ) (cs : List ℕ) (pair₀ : State) (xs : L
       let kept : take n pair′ ≡ front = ap (take n) (k .0) ∙ take-at front x n long in
       let moved : drop n pair′ ≡ x = ap (drop n) (k .0) ∙ drop-at front x n long in
       let first : beforeIn (eqb (suc i) 0) n pair′ ≡ some front = ap (λ (b : Bool). beforeIn b n pair′) (ne-eqb (suc i) 0 (λ o. omega arith)) ∙ ap some kept in
-      ap (nextLines d (propertyOf d p) i now) (drop-cons cs i 0 l ∙ ap (λ (y : ℕ). y ∷ drop (suc i) cs) (sym e))
-      ∙ ap (λ (b : Bool). stateLine d (propertyOf d p) (suc i) c b (some now) x ++ nextLines d (propertyOf d p) (suc i) x (drop (suc i) cs)) (sym (k .1))
-      ∙ ap (λ (y : List ℕ). y ++ nextLines d (propertyOf d p) (suc i) x (drop (suc i) cs)) (kept-line d keep kp (suc i) c u x)
-      ∙ ap₂ (λ (a : Option State) (y : State). stateLine d (propertyOf d p) (suc i) c u a y ++ nextLines d (propertyOf d p) (suc i) y (drop (suc i) cs)) (sym first) (sym moved)
+      ap (nextLines d (propertyOf file noPiece d p) i now) (drop-cons cs i 0 l ∙ ap (λ (y : ℕ). y ∷ drop (suc i) cs) (sym e))
+      ∙ ap (λ (b : Bool). stateLine d (propertyOf file noPiece d p) (suc i) c b (some now) x ++ nextLines d (propertyOf file noPiece d p) (suc i) x (drop (suc i) cs)) (sym (k .1))
+      ∙ ap (λ (y : List ℕ). y ++ nextLines d (propertyOf file noPiece d p) (suc i) x (drop (suc i) cs)) (kept-line d keep kp (suc i) c u x)
+      ∙ ap₂ (λ (a : Option State) (y : State). stateLine d (propertyOf file noPiece d p) (suc i) c u a y ++ nextLines d (propertyOf file noPiece d p) (suc i) y (drop (suc i) cs)) (sym first) (sym moved)
 
   pub printing-on : length pair₀ ≡ n + n → i < length cs → (c : ℕ) → c ≡ getD cs i 0 → (keep : Bool) → keep ≡ ltb lastStateProperty p → (pair′ : State) (u : Tested) → length pair′ ≡ length pair
       → ((d : Design) → check file ≡ accepted d → (pair′ ≡ keptIn keep n pair ++ step d now c) × (u ≡ testedBy d now c)) → (zs : List ℕ) (r : ℕ)
-      → ((d : Design) (w : Parts file d) → TextWritten (stateLine d (propertyOf d p) (i + 1) c (u .idle) (beforeIn (eqb (i + 1) 0) n pair′) (drop n pair′)) ys zs q r)
+      → ((d : Design) (w : Parts file d) → TextWritten (stateLine d (propertyOf file noPiece d p) (i + 1) c (u .idle) (beforeIn (eqb (i + 1) 0) n pair′) (drop n pair′)) ys zs q r)
       → r ≤ q + maxLine → length zs ≡ length ys → Printing file p n cs pair₀ xs at (i + 1) pair′ zs r
   printing-on y l c e keep kp pair′ u m k zs r h b z = rw (add-one i) (record {
     inside = omega arith;
@@ -114,14 +115,14 @@ module _ (file : List ℕ) (p n : ℕ) (cs : List ℕ) (pair₀ : State) (xs : L
     near = omega (arith, g .near);
     size = z ∙ g .size;
     rest = λ d t.
-        rest-next (stateLine d (propertyOf d p) (suc i) c (u .idle) (beforeIn (eqb (suc i) 0) n pair′) (drop n pair′)) (nextLines d (propertyOf d p) (suc i) (drop n pair′) (drop (suc i) cs))
+        rest-next (stateLine d (propertyOf file noPiece d p) (suc i) c (u .idle) (beforeIn (eqb (suc i) 0) n pair′) (drop n pair′)) (nextLines d (propertyOf file noPiece d p) (suc i) (drop n pair′) (drop (suc i) cs))
         (next-lines d c keep kp pair′ (u .idle) y l e (k d t .0, ap (λ (x : Tested). x .idle) (k d t .1))) (g .rest d t)
-        (subst (λ (j : ℕ). TextWritten (stateLine d (propertyOf d p) j c (u .idle) (beforeIn (eqb j 0) n pair′) (drop n pair′)) ys zs q r) (add-one i) (h d (whole file d t .parts)));
+        (subst (λ (j : ℕ). TextWritten (stateLine d (propertyOf file noPiece d p) j c (u .idle) (beforeIn (eqb j 0) n pair′) (drop n pair′)) ys zs q r) (add-one i) (h d (whole file d t .parts)));
   })
 
-  pub printing-end : length cs ≤ i → (d : Design) → check file ≡ accepted d → TextWritten (nextLines d (propertyOf d p) 0 (drop n pair₀) cs) xs ys at q
+  pub printing-end : length cs ≤ i → (d : Design) → check file ≡ accepted d → TextWritten (nextLines d (propertyOf file noPiece d p) 0 (drop n pair₀) cs) xs ys at q
   unfolding nextLines
-  printing-end l d e = rest-end (ap (nextLines d (propertyOf d p) i now) (drop-of-length-le cs l)) (g .rest d e)
+  printing-end l d e = rest-end (ap (nextLines d (propertyOf file noPiece d p) i now) (drop-of-length-le cs l)) (g .rest d e)
 
 -- the first state's line and the others
 pub states-written : (d : Design) (p : Property) (cs : List ℕ) (s : State) {xs ys zs : List ℕ} {m r : ℕ} → s ≡ start d
@@ -159,16 +160,16 @@ module _ (file : List ℕ) (p : ℕ) (cs : List ℕ) where
       let n : length (choicesRight d cs) ≡ length cs = length-map cs (λ (x : ℕ). ltb x (length (movers d))) in
       omega arith)
 
-  module _ (told : Replayed) (says : told ≡ REPLAY file p cs) where
-    gated : told .refusal .number ≡ 0 → refusalOf (gate file p (length cs) asked) .number ≡ 0
+  module _ (told : Replayed) (says : told ≡ REPLAY file noPiece p cs) where
+    gated : told .refusal .number ≡ 0 → refusalOf (gate file noPiece p (length cs) asked) .number ≡ 0
     unfolding REPLAY
-    gated z = sym (ap (λ (r : Refusal). r .number) (ap (λ (x : Replayed). x .refusal) says ∙ same-refusal (gate file p (length cs) asked))) ∙ z
+    gated z = sym (ap (λ (r : Refusal). r .number) (ap (λ (x : Replayed). x .refusal) says ∙ same-refusal (gate file noPiece p (length cs) asked))) ∙ z
 
     pub replayable : told .refusal .number ≡ 0 → ReplayInput file cs
     replayable z =
-        let g = zero-passed file p (length cs) asked (gated z) in
+        let g = zero-passed file noPiece p (length cs) asked (gated z) in
         let t = read file (g .accepted) in
-        let q = sym (ap (λ (a : Answer (Option ℕ × ℕ × ℕ)). refusalOf a .number) (in-range file p (length cs) asked (g .accepted) (g .property) (g .bound))) ∙ gated z in
+        let q = sym (ap (λ (a : Answer (Option ℕ × ℕ × ℕ)). refusalOf a .number) (in-range file noPiece p (length cs) asked (g .accepted) (g .property) (g .right) (g .bound))) ∙ gated z in
         let r = need-zero (allRight (choicesRight (t .tree) cs)) 12 (firstWrong (choicesRight (t .tree) cs)) _ (λ y. omega arith) q in
         record {
           design = g .accepted;
@@ -176,21 +177,21 @@ module _ (file : List ℕ) (p : ℕ) (cs : List ℕ) where
           below = λ d e. let same : t .tree ≡ d = cc (t .is, e) in below-all d (subst (λ (x : Design). allRight (choicesRight x cs) ≡ true) same r);
         }
 
-    refusal-traced : (x : Checked) → (told .refusal .number ≡ 0 → ⊥) → refusalText (told .refusal) ≡ traced x told p cs
+    refusal-traced : (x : Checked) → (told .refusal .number ≡ 0 → ⊥) → refusalText (told .refusal) ≡ traced file x told p cs
     refusal-traced (refused n k) z = refl
-    refusal-traced (accepted d) z = sym (ap (λ (t : Bool). cond t (stateLines d (propertyOf d p) cs ++ resultText (told .broken) (told .step)) (refusalText (told .refusal))) (ne-eqb (told .refusal .number) 0 z))
+    refusal-traced (accepted d) z = sym (ap (λ (t : Bool). cond t (stateLines d (propertyOf file noPiece d p) cs ++ resultText (told .broken) (told .step)) (refusalText (told .refusal))) (ne-eqb (told .refusal .number) 0 z))
 
     pub trace-refused : {xs ys : List ℕ} {at r : ℕ} → (told .refusal .number ≡ 0 → ⊥) → TextWritten (refusalText (told .refusal)) xs ys at r → TextWritten (trace file p cs) xs ys at r
     unfolding trace
-    trace-refused {xs} {ys} {at} {r} z w = subst (λ (us : List ℕ). TextWritten us xs ys at r) (refusal-traced (check file) z ∙ ap (λ (x : Replayed). traced (check file) x p cs) says) w
+    trace-refused {xs} {ys} {at} {r} z w = subst (λ (us : List ℕ). TextWritten us xs ys at r) (refusal-traced (check file) z ∙ ap (λ (x : Replayed). traced file (check file) x p cs) says) w
 
-    done-traced : (d : Design) → check file ≡ accepted d → told .refusal .number ≡ 0 → stateLines d (propertyOf d p) cs ++ resultText (told .broken) (told .step) ≡ trace file p cs
+    done-traced : (d : Design) → check file ≡ accepted d → told .refusal .number ≡ 0 → stateLines d (propertyOf file noPiece d p) cs ++ resultText (told .broken) (told .step) ≡ trace file p cs
     unfolding trace
     done-traced d e z =
-        sym (ap (λ (t : Bool). cond t (stateLines d (propertyOf d p) cs ++ resultText (told .broken) (told .step)) (refusalText (told .refusal))) (eq-eqb (told .refusal .number) 0 z))
-        ∙ ap₂ (λ (c : Checked) (x : Replayed). traced c x p cs) (sym e) says
+        sym (ap (λ (t : Bool). cond t (stateLines d (propertyOf file noPiece d p) cs ++ resultText (told .broken) (told .step)) (refusalText (told .refusal))) (eq-eqb (told .refusal .number) 0 z))
+        ∙ ap₂ (λ (c : Checked) (x : Replayed). traced file c x p cs) (sym e) says
 
-    pub trace-done : {xs ys zs : List ℕ} {at m r : ℕ} → told .refusal .number ≡ 0 → ((d : Design) → check file ≡ accepted d → TextWritten (stateLines d (propertyOf d p) cs) xs ys at m) → TextWritten (resultText (told .broken) (told .step)) ys zs m r → TextWritten (trace file p cs) xs zs at r
+    pub trace-done : {xs ys zs : List ℕ} {at m r : ℕ} → told .refusal .number ≡ 0 → ((d : Design) → check file ≡ accepted d → TextWritten (stateLines d (propertyOf file noPiece d p) cs) xs ys at m) → TextWritten (resultText (told .broken) (told .step)) ys zs m r → TextWritten (trace file p cs) xs zs at r
     trace-done {xs} {ys} {zs} {at} {m} {r} z g h =
         let t = read file (replayable z .design) in
         subst (λ (us : List ℕ). TextWritten us xs zs at r) (done-traced (t .tree) (t .is) z) (written-then (g (t .tree) (t .is)) h)

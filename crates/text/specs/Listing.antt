@@ -7,6 +7,7 @@ use lib.Dec.{leb}
 use lib.IntN.{ℤ, pos, negsuc}
 use lib.ListN.{length, getD, take, drop}
 use Rattle.design.specs.Tree.{Design}
+use Rattle.step.specs.Piece.{noPiece}
 use Rattle.step.specs.Property.{Property}
 use Rattle.step.specs.Operations.{refusedAt}
 use Rattle.clauses.specs.Words.{words, isEnd}
@@ -45,9 +46,10 @@ noneOver d q k (suc m) i = leb (length (words (part d q k i))) maxWords && noneO
 
 -- the words that are printed: all parts, 0 to k + 2, which joined are the formula
 -- "It refuses likewise; a part over 16,384 words gives `refused 16 at 0` and nothing else." 19 is ENCODE's, before 16 (document 02, R-2).
+-- The program takes no piece.
 unfoldable pub wordsToPrint : List ℕ → ℕ → ℕ → Answer (List ℤ)
 wordsToPrint file p k =
-    admit file p k λ d q.
+    admit file noPiece p k λ d q.
     need (noneOver d q k (k + 3) 0) 16 0
     (answer (words (formula d q k)))
 
@@ -63,9 +65,9 @@ ofInput input text = cond (leb 2 (length input)) (text (take maxRead (drop 2 inp
 unfoldable pub clausesText : List ℕ → List ℕ
 clausesText input = ofInput input λ file p k. printed (wordsToPrint file p k)
 
--- The program prints part by part. The text of a part, by the words that ENCODE has for a buffer of 16,384, or its refusal:
+-- The program prints part by part. The text of a part, by the words that ENCODE has, without a piece, for a buffer of 16,384, or its refusal:
 unfoldable pub partText : List ℕ → ℕ → ℕ → ℕ → List ℕ
-partText file p k i = printed (wordsToWrite file p k i maxWords)
+partText file p k i = printed (wordsToWrite file noPiece p k i maxWords)
 
 unfoldable pub partOfInput : List ℕ → ℕ → List ℕ
 partOfInput input i = ofInput input λ file p k. partText file p k i

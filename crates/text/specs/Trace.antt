@@ -14,6 +14,7 @@ use Rattle.design.specs.Check.{Checked, refused, accepted, check, checking}
 use Rattle.design.specs.Answer.{onDesign}
 use Rattle.design.specs.DesignA.{bytesA}
 use Rattle.design.specs.declared.Refusal.{Refusal}
+use Rattle.step.specs.Piece.{noPiece, pieceRight}
 use Rattle.step.specs.Property.{Property, propertyOf}
 use Rattle.step.specs.Gate.{gate}
 use Rattle.step.specs.Pattern.{signed}
@@ -45,13 +46,13 @@ resultText false i = 104 ∷ 111 ∷ 108 ∷ 100 ∷ 115 ∷ 10 ∷ []
 unfoldable pub refusalText : Refusal → List ℕ
 refusalText r = (114 ∷ 101 ∷ 102 ∷ 117 ∷ 115 ∷ 101 ∷ 100 ∷ 32 ∷ []) ++ (decimal (r .number) ++ ((32 ∷ 97 ∷ 116 ∷ 32 ∷ []) ++ (decimal (r .place) ++ (10 ∷ []))))
 
--- by CHECK's answer and REPLAY's: a refusal is printed alone
-abbrev pub traced : Checked → Replayed → ℕ → List ℕ → List ℕ
-traced (refused number place) r p cs = refusalText (r .refusal)
-traced (accepted d) r p cs = cond (eqb (r .refusal .number) 0) (stateLines d (propertyOf d p) cs ++ resultText (r .broken) (r .step)) (refusalText (r .refusal))
+-- of a file, by CHECK's answer and REPLAY's: a refusal is printed alone; the program takes no piece
+abbrev pub traced : List ℕ → Checked → Replayed → ℕ → List ℕ → List ℕ
+traced file (refused number place) r p cs = refusalText (r .refusal)
+traced file (accepted d) r p cs = cond (eqb (r .refusal .number) 0) (stateLines d (propertyOf file noPiece d p) cs ++ resultText (r .broken) (r .step)) (refusalText (r .refusal))
 
 unfoldable pub trace : List ℕ → ℕ → List ℕ → List ℕ
-trace file p cs = traced (check file) (REPLAY file p cs) p cs
+trace file p cs = traced file (check file) (REPLAY file noPiece p cs) p cs
 
 -- "Design bytes past the first 16,385 are not read."
 abbrev pub maxRead : ℕ
@@ -73,5 +74,5 @@ replay-A : replayText (0 ∷ 3 ∷ 2 ∷ 0 ∷ 1 ∷ bytesA) ≡
     50 ∷ 32 ∷ 48 ∷ 32 ∷ 48 ∷ 32 ∷ 49 ∷ 32 ∷ 49 ∷ 32 ∷ 49 ∷ 32 ∷ 124 ∷ 32 ∷ 49 ∷ 10 ∷
     51 ∷ 32 ∷ 49 ∷ 32 ∷ 48 ∷ 32 ∷ 48 ∷ 32 ∷ 49 ∷ 32 ∷ 50 ∷ 32 ∷ 124 ∷ 32 ∷ 48 ∷ 10 ∷
     98 ∷ 114 ∷ 111 ∷ 107 ∷ 101 ∷ 110 ∷ 32 ∷ 97 ∷ 116 ∷ 32 ∷ 51 ∷ 10 ∷ []
-unfolding replayText trace stateLine nextLines stateLines resultText line head tail spaced digits signed REPLAY gate onDesign firstBreak stepping checking bytesA
+unfolding replayText trace stateLine nextLines stateLines resultText line head tail spaced digits signed REPLAY pieceRight gate onDesign firstBreak stepping checking bytesA
 replay-A = refl

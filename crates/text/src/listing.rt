@@ -3,6 +3,7 @@ ghost use mathlib.Core.Path.{_≡_};
 ghost use Prim.Native.Nat.{_+_, _-_, _*_, _≤_, _<_};
 ghost use lib.IntN.{pos};
 ghost use lib.ListN.{length, getD};
+ghost use Rattle.step.specs.Piece.{noPiece};
 ghost use Rattle.clauses.specs.Encode.{wordsToWrite};
 ghost use Rattle.text.specs.Text.{TextWritten};
 ghost use Rattle.text.specs.Listing.{maxWords, maxPartText, wordText, wordsText, wordsToPrint, printed, isRefused, clausesText, partText, partOfInput, joined};
@@ -64,7 +65,7 @@ fn put_part(
     requires { ⌜ (length (now words) ≡ maxWords) × (maxPartText ≤ length (now out)) ⌝ }
     ensures { λ r. ⌜ TextWritten (partText (now (file .entry)) property bound part) (now (out .entry)) (now (out .exit)) 0 r × (r ≤ maxPartText) ⌝ }
 {
-    match encode(file, property as u64, bound as u64, part, words) {
+    match encode(file, b"", property as u64, bound as u64, part, words) {
         EncodeReply::Refused { number, place } => put_refusal(out, number, place),
         EncodeReply::Encoded(count) => {
             let n = count as usize;
@@ -75,9 +76,9 @@ fn put_part(
 
 // Whether ENCODE refuses a part.
 fn refuses(file: &[u8], property: u8, bound: u8, part: u64, words: &mut [i32]) -> bool
-    ensures { λ r. ⌜ r ≡ isRefused (wordsToWrite (now (file .entry)) property bound part (length (now (words .entry)))) ⌝ }
+    ensures { λ r. ⌜ r ≡ isRefused (wordsToWrite (now (file .entry)) noPiece property bound part (length (now (words .entry)))) ⌝ }
 {
-    match encode(file, property as u64, bound as u64, part, words) {
+    match encode(file, b"", property as u64, bound as u64, part, words) {
         EncodeReply::Refused {
             number: _,
             place: _,

@@ -8,6 +8,7 @@ ghost use Rattle.design.specs.Check.{check, accepted};
 ghost use Rattle.design.specs.Places.{MoversIndexed};
 ghost use Rattle.design.specs.State.{slotCount};
 ghost use Rattle.design.specs.Sections.{Parts};
+ghost use Rattle.step.specs.Piece.{noPiece};
 ghost use Rattle.step.specs.Property.{propertyOf};
 ghost use Rattle.step.specs.Operations.{refusedAt};
 ghost use Rattle.step.specs.Ready.{ReadyPair, beforeIn};
@@ -74,11 +75,11 @@ pub fn put_state(
 ) -> usize
     requires { ⌜ ReadyPair (now file) (now events) shape (now pair) × (at + maxLine ≤ length (now out)) ⌝ }
     ensures { λ r. ⌜ ((d : Design) (parts : Parts (now (file .entry)) d)
-        → TextWritten (stateLine d (propertyOf d property) step mover idle (beforeIn (eqb step 0) (slotCount shape) (now (pair .entry)))
+        → TextWritten (stateLine d (propertyOf (now (file .entry)) noPiece d property) step mover idle (beforeIn (eqb step 0) (slotCount shape) (now (pair .entry)))
         (drop (slotCount shape) (now (pair .entry)))) (now (out .entry)) (now (out .exit)) at r)
         × (r ≤ at + maxLine) × (length (now (out .exit)) ≡ length (now (out .entry))) ⌝ }
 {
-    let holds = true_at(file, events, shape, property, step == 0, pair);
+    let holds = true_at(file, b"", events, shape, property, step == 0, pair);
     let a = put_head(out, at, step, mover, idle, holds);
     let n = slot_count(shape);
     put_tail(out, a, shape.variables, shape.matrices, &pair[n..])
@@ -100,7 +101,7 @@ pub fn put_next(
         × (at + maxLine * length (now choices) ≤ length (now out)) × ((i : ℕ) → i < length (now choices)
         → getD (now choices) i 0 < shape .normals + shape .externals) ⌝ }
     ensures { λ r. ⌜ ((d : Design) → check (now (file .entry)) ≡ accepted d
-        → TextWritten (nextLines d (propertyOf d property) 0 (drop (slotCount shape) (now (pair .entry))) (now (choices .entry))) (now (out .entry)) (now (out .exit)) at r)
+        → TextWritten (nextLines d (propertyOf (now (file .entry)) noPiece d property) 0 (drop (slotCount shape) (now (pair .entry))) (now (choices .entry))) (now (out .entry)) (now (out .exit)) at r)
         × (r ≤ at + maxLine * length (now (choices .entry))) × (length (now (out .exit)) ≡ length (now (out .entry))) ⌝ }
 {
     let mut p = at;
@@ -140,7 +141,7 @@ pub fn put_states(
         × (maxLine + maxLine * length (now choices) ≤ length (now out)) × ((i : ℕ) → i < length (now choices)
         → getD (now choices) i 0 < shape .normals + shape .externals) × (now pair ≡ replicate (slotCount shape + slotCount shape) 0) ⌝ }
     ensures { λ r. ⌜ ((d : Design) → check (now (file .entry)) ≡ accepted d
-        → TextWritten (stateLines d (propertyOf d property) (now (choices .entry))) (now (out .entry)) (now (out .exit)) 0 r)
+        → TextWritten (stateLines d (propertyOf (now (file .entry)) noPiece d property) (now (choices .entry))) (now (out .entry)) (now (out .exit)) 0 r)
         × (r ≤ maxLine + maxLine * length (now (choices .entry))) × (length (now (out .exit)) ≡ length (now (out .entry))) ⌝ }
 {
     let n = slot_count(shape);
@@ -153,7 +154,7 @@ pub fn put_states(
 pub fn put_run(file: &[u8], property: u64, choices: &[u8], out: &mut [u8]) -> usize
     requires { ⌜ ReplayInput (now file) (now choices) × (maxLine + maxLine * length (now choices) ≤ length (now out)) ⌝ }
     ensures { λ r. ⌜ ((d : Design) → check (now (file .entry)) ≡ accepted d
-        → TextWritten (stateLines d (propertyOf d property) (now (choices .entry))) (now (out .entry)) (now (out .exit)) 0 r)
+        → TextWritten (stateLines d (propertyOf (now (file .entry)) noPiece d property) (now (choices .entry))) (now (out .entry)) (now (out .exit)) 0 r)
         × (r ≤ maxLine + maxLine * length (now (choices .entry))) × (length (now (out .exit)) ≡ length (now (out .entry))) ⌝ }
 {
     let mut cells = [0u16; MAX_MOVERS];
@@ -181,7 +182,7 @@ pub fn put_trace(file: &[u8], property: u8, choices: &[u8], out: &mut [u8]) -> u
     requires { ⌜ maxText ≤ length (now out) ⌝ }
     ensures { λ r. ⌜ TextWritten (trace (now (file .entry)) property (now (choices .entry))) (now (out .entry)) (now (out .exit)) 0 r × (r ≤ maxText) ⌝ }
 {
-    let told = step::replay(file, property as u64, choices);
+    let told = step::replay(file, b"", property as u64, choices);
     let refusal = told.refusal;
     if refusal.number != 0 {
         return put_refusal(out, refusal.number, refusal.place);

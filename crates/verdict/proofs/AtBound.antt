@@ -29,86 +29,86 @@ use Rattle.clauses.proofs.Within.{n-up}
 use Rattle.verdict.proofs.Searching.{fresh-bound, tried}
 use Rattle.verdict.proofs.Loop.{judging-start, words-fit, values-fit, trail-fit, tries-fit, judging-next, lengths-kept, ends-sat, ends-spent, ends-clean}
 
-module _ {file : List ℕ} {p k : ℕ} {lent : Memory} (r : ReadyMemory file p k lent) where
+module _ {file piece : List ℕ} {p k : ℕ} {lent : Memory} (r : ReadyMemory file piece p k lent) where
   abbrev d : Design
   d = r .design
 
   wf : WellFormed d
   wf = well-formed file (r .bytes) d (r .accepted)
 
-  theorem : (i : ℕ) → Theorem d (propertyOf d p) i
-  theorem = theorem-of-file file (r .bytes) d (r .accepted) p
+  theorem : (i : ℕ) → Theorem d (propertyOf file piece d p) i
+  theorem = theorem-of-file file piece (r .bytes) (r .piece-bytes) d (r .accepted) p
 
-  room : Room d (propertyOf d p) k lent
-  room = room-for d (propertyOf d p) k lent (r .room)
+  room : Room d (propertyOf file piece d p) k lent
+  room = room-for d (propertyOf file piece d p) k lent (r .room)
 
-pub standing-start : {file : List ℕ} {p k : ℕ} {lent : Memory} (budget : ℕ) → ReadyMemory file p k lent → AtBound file p k budget lent 0 0 (lent .clauses) (lent .values) (lent .trail) (lent .choices)
-standing-start {p = p} {k = k} {lent = lent} budget r = record { ready = r; judging = judging-start (r .design) (wf r) p k budget lent (room r); choices-kept = refl }
+pub standing-start : {file piece : List ℕ} {p k : ℕ} {lent : Memory} (budget : ℕ) → ReadyMemory file piece p k lent → AtBound file piece p k budget lent 0 0 (lent .clauses) (lent .values) (lent .trail) (lent .choices)
+standing-start {file = file} {piece = piece} {p = p} {k = k} {lent = lent} budget r = record { ready = r; judging = judging-start file piece (r .design) (wf r) p k budget lent (room r); choices-kept = refl }
 
 module _
-    {file : List ℕ} {p k budget : ℕ} {lent : Memory} {i t : ℕ} {clauses : List ℤ} {values trail choices : List ℕ}
-    (s : AtBound file p k budget lent i t clauses values trail choices)
+    {file piece : List ℕ} {p k budget : ℕ} {lent : Memory} {i t : ℕ} {clauses : List ℤ} {values trail choices : List ℕ}
+    (s : AtBound file piece p k budget lent i t clauses values trail choices)
   where
     -- the formula for bound i may be written
     pub bound-low : i ≤ k
     bound-low = s .judging .low
 
-    pub bound-numbers : n (s .ready .design) (propertyOf (s .ready .design) p) i ≤ lastVariable
-    bound-numbers = omega (arith, n-up (s .ready .design) (propertyOf (s .ready .design) p) i k bound-low, s .ready .numbers)
+    pub bound-numbers : n (s .ready .design) (propertyOf file piece (s .ready .design) p) i ≤ lastVariable
+    bound-numbers = omega (arith, n-up (s .ready .design) (propertyOf file piece (s .ready .design) p) i k bound-low, s .ready .numbers)
 
-    pub bound-room : length (words (formula (s .ready .design) (propertyOf (s .ready .design) p) i)) ≤ length clauses
-    bound-room = words-fit (s .ready .design) (wf (s .ready)) p k budget lent (room (s .ready)) (s .judging)
+    pub bound-room : length (words (formula (s .ready .design) (propertyOf file piece (s .ready .design) p) i)) ≤ length clauses
+    bound-room = words-fit file piece (s .ready .design) (wf (s .ready)) p k budget lent (room (s .ready)) (s .judging)
 
-    module _ {clauses′ : List ℤ} {m v : ℕ} (w : Written (s .ready .design) (propertyOf (s .ready .design) p) i clauses clauses′ m v) where
+    module _ {clauses′ : List ℤ} {m v : ℕ} (w : Written (s .ready .design) (propertyOf file piece (s .ready .design) p) i clauses clauses′ m v) where
       pub words-in : length clauses′ ≡ length clauses → m ≤ length clauses′
       words-in e = omega (arith, bound-room, w .counted)
 
       pub values-in : v ≤ length values
-      values-in = omega (arith, values-fit (s .ready .design) (wf (s .ready)) p k budget lent (room (s .ready)) (s .judging), w .numbered)
+      values-in = omega (arith, values-fit file piece (s .ready .design) (wf (s .ready)) p k budget lent (room (s .ready)) (s .judging), w .numbered)
 
       pub trail-in : v ≤ length trail
-      trail-in = omega (arith, trail-fit (s .ready .design) (wf (s .ready)) p k budget lent (room (s .ready)) (s .judging), w .numbered)
+      trail-in = omega (arith, trail-fit file piece (s .ready .design) (wf (s .ready)) p k budget lent (room (s .ready)) (s .judging), w .numbered)
 
       pub search-may : Fresh (take m clauses′) (take v values) (take v trail)
       search-may =
-          let small : n (s .ready .design) (propertyOf (s .ready .design) p) i < 2 ^ 31 = omega (arith, bound-numbers) in
-          fresh-bound (s .ready .design) (propertyOf (s .ready .design) p) k budget lent i t (theorem (s .ready) i) clauses clauses′ values trail m v (w .counted) (w .numbered) (w .written)
-          (values-fit (s .ready .design) (wf (s .ready)) p k budget lent (room (s .ready)) (s .judging)) small
-          (trail-fit (s .ready .design) (wf (s .ready)) p k budget lent (room (s .ready)) (s .judging))
+          let small : n (s .ready .design) (propertyOf file piece (s .ready .design) p) i < 2 ^ 31 = omega (arith, bound-numbers) in
+          fresh-bound (s .ready .design) (propertyOf file piece (s .ready .design) p) k budget lent i t (theorem (s .ready) i) clauses clauses′ values trail m v (w .counted) (w .numbered) (w .written)
+          (values-fit file piece (s .ready .design) (wf (s .ready)) p k budget lent (room (s .ready)) (s .judging)) small
+          (trail-fit file piece (s .ready .design) (wf (s .ready)) p k budget lent (room (s .ready)) (s .judging))
 
       module _ {r : Solved} {vs₂ tr₂ : List ℕ} (h : Leaves (outcome (take v values) (take m clauses′) (budget - t)) (length (take v values)) r vs₂ tr₂) where
-        x : Tried (s .ready .design) (propertyOf (s .ready .design) p) k budget lent i t clauses values trail r clauses′ (vs₂ ++ drop v values) (tr₂ ++ drop v trail)
+        x : Tried (s .ready .design) (propertyOf file piece (s .ready .design) p) k budget lent i t clauses values trail r clauses′ (vs₂ ++ drop v values) (tr₂ ++ drop v trail)
         x =
-            tried (s .ready .design) (propertyOf (s .ready .design) p) k budget lent i t (theorem (s .ready) i) clauses clauses′ values trail m v (w .counted) (w .numbered) (w .written)
-            (values-fit (s .ready .design) (wf (s .ready)) p k budget lent (room (s .ready)) (s .judging)) h
+            tried (s .ready .design) (propertyOf file piece (s .ready .design) p) k budget lent i t (theorem (s .ready) i) clauses clauses′ values trail m v (w .counted) (w .numbered) (w .written)
+            (values-fit file piece (s .ready .design) (wf (s .ready)) p k budget lent (room (s .ready)) (s .judging)) h
 
         pub tries-in : t + r .tries ≤ budget
-        tries-in = tries-fit (s .ready .design) (wf (s .ready)) p k budget lent (room (s .ready)) (s .judging) x
+        tries-in = tries-fit file piece (s .ready .design) (wf (s .ready)) p k budget lent (room (s .ready)) (s .judging) x
 
         pub kept : (length clauses′ ≡ length (lent .clauses)) × (length (vs₂ ++ drop v values) ≡ length (lent .values)) × (length (tr₂ ++ drop v trail) ≡ length (lent .trail))
-        kept = lengths-kept (s .ready .design) (wf (s .ready)) p k budget lent (room (s .ready)) (s .judging) x
+        kept = lengths-kept file piece (s .ready .design) (wf (s .ready)) p k budget lent (room (s .ready)) (s .judging) x
 
-        pub standing-next : r .answer ≡ Unsat → (i ≡ k → ⊥) → AtBound file p k budget lent (i + 1) (t + r .tries) clauses′ (vs₂ ++ drop v values) (tr₂ ++ drop v trail) choices
-        standing-next q ne = record { ready = s .ready; choices-kept = s .choices-kept; judging = judging-next (s .ready .design) (wf (s .ready)) p k budget lent (room (s .ready)) (s .judging) x q ne }
+        pub standing-next : r .answer ≡ Unsat → (i ≡ k → ⊥) → AtBound file piece p k budget lent (i + 1) (t + r .tries) clauses′ (vs₂ ++ drop v values) (tr₂ ++ drop v trail) choices
+        standing-next q ne = record { ready = s .ready; choices-kept = s .choices-kept; judging = judging-next file piece (s .ready .design) (wf (s .ready)) p k budget lent (room (s .ready)) (s .judging) x q ne }
 
         -- what the call answers and leaves
-        pub standing-sat : {choices′ : List ℕ} → r .answer ≡ Sat → choices′ ≡ (decode file p i (vs₂ ++ drop v values) choices) .choices
+        pub standing-sat : {choices′ : List ℕ} → r .answer ≡ Sat → choices′ ≡ (decode file piece p i (vs₂ ++ drop v values) choices) .choices
             → record { reply = Done (record { verdict = Violated i; tries = t + r .tries }); memory = record { clauses = clauses′; values = vs₂ ++ drop v values; trail = tr₂ ++ drop v trail; choices = choices′ } }
-            ≡ exit (verdict file p k budget lent)
+            ≡ exit (verdict file piece p k budget lent)
         standing-sat q c =
-            ends-sat (s .ready .design) (wf (s .ready)) p k budget lent (room (s .ready)) (s .judging) x file (s .ready .accepted) (s .ready .property) (s .ready .bound) (s .ready .numbers) q
-            (c ∙ ap (λ (y : List ℕ). (decode file p i (vs₂ ++ drop v values) y) .choices) (s .choices-kept))
+            ends-sat file piece (s .ready .design) (wf (s .ready)) p k budget lent (room (s .ready)) (s .judging) x (s .ready .accepted) (s .ready .property) (s .ready .right) (s .ready .bound) (s .ready .numbers) q
+            (c ∙ ap (λ (y : List ℕ). (decode file piece p i (vs₂ ++ drop v values) y) .choices) (s .choices-kept))
 
         pub standing-spent : r .answer ≡ Spent
             → record { reply = Done (record { verdict = SpentAt i; tries = t + r .tries }); memory = record { clauses = clauses′; values = vs₂ ++ drop v values; trail = tr₂ ++ drop v trail; choices = choices } }
-            ≡ exit (verdict file p k budget lent)
+            ≡ exit (verdict file piece p k budget lent)
         standing-spent q =
             rw (s .choices-kept)
-            (ends-spent (s .ready .design) (wf (s .ready)) p k budget lent (room (s .ready)) (s .judging) x file (s .ready .accepted) (s .ready .property) (s .ready .bound) (s .ready .numbers) q)
+            (ends-spent file piece (s .ready .design) (wf (s .ready)) p k budget lent (room (s .ready)) (s .judging) x (s .ready .accepted) (s .ready .property) (s .ready .right) (s .ready .bound) (s .ready .numbers) q)
 
         pub standing-clean : r .answer ≡ Unsat → i ≡ k
             → record { reply = Done (record { verdict = Clean; tries = t + r .tries }); memory = record { clauses = clauses′; values = vs₂ ++ drop v values; trail = tr₂ ++ drop v trail; choices = choices } }
-            ≡ exit (verdict file p k budget lent)
+            ≡ exit (verdict file piece p k budget lent)
         standing-clean q e =
             rw (s .choices-kept)
-            (ends-clean (s .ready .design) (wf (s .ready)) p k budget lent (room (s .ready)) (s .judging) x file (s .ready .accepted) (s .ready .property) (s .ready .bound) (s .ready .numbers) q e)
+            (ends-clean file piece (s .ready .design) (wf (s .ready)) p k budget lent (room (s .ready)) (s .judging) x (s .ready .accepted) (s .ready .property) (s .ready .right) (s .ready .bound) (s .ready .numbers) q e)

@@ -1,5 +1,6 @@
 -- The loop over the bounds: how it starts, goes on and ends.
 use mathlib.Core.Path.{_≡_, refl, sym, ap, _∙_}
+use mathlib.Core.Bool.{true}
 use mathlib.Core.List.{List, [], _++_}
 use Prim.Native.Nat.{ℕ, zero, suc, _+_, _-_, _<_, _≤_}
 use native.Mathlib.Omega.{arith}
@@ -10,6 +11,7 @@ use lib.Seq.{drop-append-add, drop-drop}
 use Rattle.design.specs.Tree.{Design}
 use Rattle.design.specs.Check.{Checked, check}
 use Rattle.design.specs.WellFormed.{WellFormed}
+use Rattle.step.specs.Piece.{pieceRight}
 use Rattle.step.specs.Property.{Property, propertyOf}
 use Rattle.clauses.specs.Words.{words}
 use Rattle.clauses.specs.Formula.{n, formula}
@@ -48,9 +50,9 @@ left-long m (SAT ss) = length-from ss 1 m
 left-long m UNSAT = length-replicate m 0
 left-long m SPENT = length-replicate m 0
 
-module _ (d : Design) (wf : WellFormed d) (number k budget : ℕ) (lent : Memory) (room : Room d (propertyOf d number) k lent) where
+module _ (file piece : List ℕ) (d : Design) (wf : WellFormed d) (number k budget : ℕ) (lent : Memory) (room : Room d (propertyOf file piece d number) k lent) where
   abbrev p : Property
-  p = propertyOf d number
+  p = propertyOf file piece d number
 
   pub judging-start : Judging d p k budget lent 0 0 (lent .clauses) (lent .values) (lent .trail)
   unfolding judge
@@ -178,37 +180,37 @@ module _ (d : Design) (wf : WellFormed d) (number k budget : ℕ) (lent : Memory
           })
 
       -- lent memory, where this bound is the last
-      memory-is : (file : List ℕ) (v : Verdict) (choices′ : List ℕ) → choices′ ≡ choicesLeft file d number v values′ (lent .choices)
-          → record { clauses = clauses′; values = values′; trail = trail′; choices = choices′ } ≡ memoryLeft file d number (judged v (t + r .tries) i o) lent
+      memory-is : (v : Verdict) (choices′ : List ℕ) → choices′ ≡ choicesLeft file piece d number v values′ (lent .choices)
+          → record { clauses = clauses′; values = values′; trail = trail′; choices = choices′ } ≡ memoryLeft file piece d number (judged v (t + r .tries) i o) lent
       unfolding o memoryLeft
-      memory-is file v choices′ q =
+      memory-is v choices′ q =
           let vs : values′ ≡ valuesLeft (n d p i) (o .answer) ++ drop (n d p i) (lent .values) = x .values-left ∙ ap (λ (y : List ℕ). valuesLeft (n d p i) (o .answer) ++ y) (j .values-kept) in
           let ws : clauses′ ≡ words (formula d p i) ++ drop (length (words (formula d p i))) (lent .clauses) = x .written ∙ ap (λ (y : List ℤ). words (formula d p i) ++ y) (j .clauses-kept) in
           let ts : trail′ ≡ replicate (n d p i) 0 ++ drop (n d p i) (lent .trail) = x .trail-left ∙ ap (λ (y : List ℕ). replicate (n d p i) 0 ++ y) (j .trail-kept) in
-          let cs : choices′ ≡ choicesLeft file d number v (valuesLeft (n d p i) (o .answer) ++ drop (n d p i) (lent .values)) (lent .choices) = q ∙ ap (λ (y : List ℕ). choicesLeft file d number v y (lent .choices)) vs in
+          let cs : choices′ ≡ choicesLeft file piece d number v (valuesLeft (n d p i) (o .answer) ++ drop (n d p i) (lent .values)) (lent .choices) = q ∙ ap (λ (y : List ℕ). choicesLeft file piece d number v y (lent .choices)) vs in
           λ h. record { clauses = ws h; values = vs h; trail = ts h; choices = cs h }
 
       -- what the call comes to, where the verdict is v
-      module _ (file : List ℕ) (e : check file ≡ Checked.accepted d) (low : number ≤ lastProperty file) (few : k ≤ maxBound) (numbers : n d p k ≤ lastVariable) where
-        ends : (v : Verdict) (choices′ : List ℕ) → judge d p k budget ≡ judged v (t + r .tries) i o → choices′ ≡ choicesLeft file d number v values′ (lent .choices)
+      module _ (e : check file ≡ Checked.accepted d) (low : number ≤ lastProperty file) (right : pieceRight file piece number ≡ true) (few : k ≤ maxBound) (numbers : n d p k ≤ lastVariable) where
+        ends : (v : Verdict) (choices′ : List ℕ) → judge d p k budget ≡ judged v (t + r .tries) i o → choices′ ≡ choicesLeft file piece d number v values′ (lent .choices)
             → record { reply = Done (record { verdict = declaredVerdict v; tries = t + r .tries }); memory = record { clauses = clauses′; values = values′; trail = trail′; choices = choices′ } }
-            ≡ exit (verdict file number k budget lent)
+            ≡ exit (verdict file piece number k budget lent)
         ends v choices′ q cs =
-            ap {B = Exit} (λ (m : Memory). record { reply = Done (record { verdict = declaredVerdict v; tries = t + r .tries }); memory = m }) (memory-is file v choices′ cs)
-            ∙ ap {B = Exit} (λ (y : Judged). record { reply = Done (declaredTold (y .told)); memory = memoryLeft file d number y lent }) (sym q)
-            ∙ ap exit (sym (answers file d e number k budget lent low few numbers room))
+            ap {B = Exit} (λ (m : Memory). record { reply = Done (record { verdict = declaredVerdict v; tries = t + r .tries }); memory = m }) (memory-is v choices′ cs)
+            ∙ ap {B = Exit} (λ (y : Judged). record { reply = Done (declaredTold (y .told)); memory = memoryLeft file piece d number y lent }) (sym q)
+            ∙ ap exit (sym (answers file piece d e number k budget lent low right few numbers room))
 
-        pub ends-sat : {choices′ : List ℕ} → r .answer ≡ Sat → choices′ ≡ (decode file number i values′ (lent .choices)) .choices
+        pub ends-sat : {choices′ : List ℕ} → r .answer ≡ Sat → choices′ ≡ (decode file piece number i values′ (lent .choices)) .choices
             → record { reply = Done (record { verdict = Violated i; tries = t + r .tries }); memory = record { clauses = clauses′; values = values′; trail = trail′; choices = choices′ } }
-            ≡ exit (verdict file number k budget lent)
+            ≡ exit (verdict file piece number k budget lent)
         ends-sat {choices′} q cs = ends (VIOLATED i) choices′ (on-sat q) cs
 
         pub ends-spent : r .answer ≡ Spent
             → record { reply = Done (record { verdict = SpentAt i; tries = t + r .tries }); memory = record { clauses = clauses′; values = values′; trail = trail′; choices = lent .choices } }
-            ≡ exit (verdict file number k budget lent)
+            ≡ exit (verdict file piece number k budget lent)
         ends-spent q = ends (SPENT-AT i) (lent .choices) (on-spent q) refl
 
         pub ends-clean : r .answer ≡ Unsat → i ≡ k
             → record { reply = Done (record { verdict = Clean; tries = t + r .tries }); memory = record { clauses = clauses′; values = values′; trail = trail′; choices = lent .choices } }
-            ≡ exit (verdict file number k budget lent)
+            ≡ exit (verdict file piece number k budget lent)
         ends-clean q x = ends CLEAN (lent .choices) (on-last q x) refl

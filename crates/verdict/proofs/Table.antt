@@ -1,14 +1,18 @@
 -- The table holds: by computation, but for the counts of models and the cases of products, which have a file of their own.
 use mathlib.Core.Path.{refl}
-use Rattle.design.specs.DesignA.{bytesA, designA, count, check-A}
+use Rattle.design.specs.DesignA.{bytesA, pieceA, designA, count, check-A}
 use Rattle.design.specs.Constrained.{bytesMoved, designMoved, check-moved, bytesNoIdle, designNoIdle, check-noIdle}
 use Rattle.design.specs.Multiplied.{check-multiplied}
+use Rattle.design.specs.Check.{checking}
+use Rattle.design.specs.Answer.{onDesign}
 use Rattle.step.specs.Pattern.{signed, wrap}
+use Rattle.step.specs.Piece.{pieceRight}
+use Rattle.step.specs.Gate.{gate}
 use Rattle.step.specs.OneStep.{stepping}
 use Rattle.step.specs.StatusEventGuard.{eventReadOf, guardReadOf, eventReadBy, guardReadBy, countFrom}
 use Rattle.step.specs.Operations.{firstBreak}
 use Rattle.clauses.specs.Formula.{encoding}
-use Rattle.clauses.proofs.DesignA.{models-3, models-4}
+use Rattle.clauses.proofs.DesignA.{models-3, models-4, models-lent}
 use Rattle.clauses.proofs.Constrained.{models-moved, models-noIdle}
 use Rattle.clauses.proofs.Multiplied.{frame-multiplied, bound-multiplied-0, bound-multiplied-2, broken-multiplied, never-multiplied, models-multiplied-1, models-multiplied-2}
 use Rattle.search.specs.Search.{turn, solved}
@@ -16,7 +20,7 @@ use Rattle.search.specs.Solve.{solve}
 use Rattle.verdict.specs.Table.{AllHold, table}
 
 pub table-holds : AllHold table
-unfolding bytesA bytesMoved bytesNoIdle designA designMoved designNoIdle count stepping eventReadOf guardReadOf eventReadBy guardReadBy countFrom firstBreak encoding signed wrap turn solved solve
+unfolding bytesA pieceA bytesMoved bytesNoIdle designA designMoved designNoIdle count checking stepping pieceRight gate onDesign eventReadOf guardReadOf eventReadBy guardReadBy countFrom firstBreak encoding signed wrap turn solved solve
 table-holds = (
   check-A,
   (
@@ -79,7 +83,7 @@ table-holds = (
                                                             models-multiplied-1,
                                                             (
                                                               models-multiplied-2,
-                                                              (refl, (refl, (refl, (refl, (refl, ((refl, refl), ((refl, refl), ((refl, refl), ((refl, refl), (refl, (refl, (refl, (refl, (refl, (refl, (refl, (refl, tt))))))))))))))))),
+                                                              (refl, (refl, (refl, (refl, (refl, ((refl, refl), ((refl, refl), ((refl, refl), ((refl, refl), ((refl, refl, refl, refl, refl), ((refl, refl), ((refl, refl), ((refl, refl), (refl, (refl, (models-lent, (refl, ((refl, refl), (refl, (refl, (refl, (refl, (refl, (refl, (refl, (refl, (refl, (refl, (refl, (refl, (refl, (refl, (refl, (refl, (refl, (refl, (refl, (refl, (refl, (refl, (refl, (refl, (refl, tt))))))))))))))))))))))))))))))))))))))))))),
                                                             ),
                                                           ),
                                                         ),

@@ -1,4 +1,4 @@
--- Demand 3, for every accepted file.
+-- Demand 3, for every accepted file and every piece.
 use mathlib.Core.Path.{_≡_, sym, ap, _∙_, subst}
 use mathlib.Core.List.{List, _++_}
 use Prim.Native.Nat.{ℕ, _<_}
@@ -34,43 +34,43 @@ of-formula d p k th = record {
   ends = search-ends (n d p k) (formula d p k) (th .within);
 }
 
-module _ (file : List ℕ) (d : Design) (e : check file ≡ Checked.accepted d) (p k budget : ℕ) (lent : Memory) where
-  module _ (th : (i : ℕ) → Theorem d (propertyOf d p) i) (told : Told) (a : Answered file d p k budget lent told) where
+module _ (file piece : List ℕ) (d : Design) (e : check file ≡ Checked.accepted d) (p k budget : ℕ) (lent : Memory) where
+  module _ (th : (i : ℕ) → Theorem d (propertyOf file piece d p) i) (told : Told) (a : Answered file piece d p k budget lent told) where
     abbrev j : Judged
-    j = judge d (propertyOf d p) k budget
+    j = judge d (propertyOf file piece d p) k budget
 
-    known : Known d (propertyOf d p) k budget (told .tries) (j .bound) (j .outcome) (told .verdict)
-    known = subst (λ (t : Told). Known d (propertyOf d p) k budget (t .tries) (j .bound) (j .outcome) (t .verdict)) (a .same) (judge-right d (propertyOf d p) th k budget)
+    known : Known d (propertyOf file piece d p) k budget (told .tries) (j .bound) (j .outcome) (told .verdict)
+    known = subst (λ (t : Told). Known d (propertyOf file piece d p) k budget (t .tries) (j .bound) (j .outcome) (t .verdict)) (a .same) (judge-right d (propertyOf file piece d p) th k budget)
 
-    says : Says d (propertyOf d p) k budget (told .verdict)
-    says = known-says d (propertyOf d p) k budget (told .tries) (j .bound) (j .outcome) (told .verdict) known
+    says : Says d (propertyOf file piece d p) k budget (told .verdict)
+    says = known-says d (propertyOf file piece d p) k budget (told .tries) (j .bound) (j .outcome) (told .verdict) known
 
     -- the choices left
-    left : (i : ℕ) → told .verdict ≡ VIOLATED i → Witness d (propertyOf d p) i (lent .choices) ((verdict file p k budget lent) .memory .choices)
+    left : (i : ℕ) → told .verdict ≡ VIOLATED i → Witness d (propertyOf file piece d p) i (lent .choices) ((verdict file piece p k budget lent) .memory .choices)
     unfolding memoryLeft
     left i q =
-        let v : Violated d (propertyOf d p) k budget (told .tries) (j .bound) (j .outcome) i = subst (Known d (propertyOf d p) k budget (told .tries) (j .bound) (j .outcome)) q known in
-        let rest = drop (n d (propertyOf d p) i) (lent .values) in
-        let m : (verdict file p k budget lent) .memory .choices ≡ choicesLeft file d p (VIOLATED i) (valuesLeft (n d (propertyOf d p) i) (SAT (v .settings)) ++ rest) (lent .choices) =
+        let v : Violated d (propertyOf file piece d p) k budget (told .tries) (j .bound) (j .outcome) i = subst (Known d (propertyOf file piece d p) k budget (told .tries) (j .bound) (j .outcome)) q known in
+        let rest = drop (n d (propertyOf file piece d p) i) (lent .values) in
+        let m : (verdict file piece p k budget lent) .memory .choices ≡ choicesLeft file piece d p (VIOLATED i) (valuesLeft (n d (propertyOf file piece d p) i) (SAT (v .settings)) ++ rest) (lent .choices) =
         ap (λ (x : Memory). x .choices) (a .memory)
-        ∙ ap (λ (x : Verdict). choicesLeft file d p x (valuesLeft (n d (propertyOf d p) (j .bound)) (j .outcome .answer) ++ drop (n d (propertyOf d p) (j .bound)) (lent .values)) (lent .choices)) (ap (λ (x : Told). x .verdict) (a .same) ∙ q)
-        ∙ ap (λ (x : ℕ). choicesLeft file d p (VIOLATED i) (valuesLeft (n d (propertyOf d p) x) (j .outcome .answer) ++ drop (n d (propertyOf d p) x) (lent .values)) (lent .choices)) (v .last)
-        ∙ ap (λ (x : search.Answer). choicesLeft file d p (VIOLATED i) (valuesLeft (n d (propertyOf d p) i) x ++ rest) (lent .choices)) (v .sat) in
-        subst (Witness d (propertyOf d p) i (lent .choices)) (sym m)
-        (witness file d e p (a .property) i (v .settings) rest (lent .choices) (th i)
-        (omega (arith, v .within, a .bound)) (omega (arith, n-up d (propertyOf d p) i k (v .within), a .numbers)) (omega (arith, v .within, a .room .choices)) (v .none) (v .satisfies))
+        ∙ ap (λ (x : Verdict). choicesLeft file piece d p x (valuesLeft (n d (propertyOf file piece d p) (j .bound)) (j .outcome .answer) ++ drop (n d (propertyOf file piece d p) (j .bound)) (lent .values)) (lent .choices)) (ap (λ (x : Told). x .verdict) (a .same) ∙ q)
+        ∙ ap (λ (x : ℕ). choicesLeft file piece d p (VIOLATED i) (valuesLeft (n d (propertyOf file piece d p) x) (j .outcome .answer) ++ drop (n d (propertyOf file piece d p) x) (lent .values)) (lent .choices)) (v .last)
+        ∙ ap (λ (x : search.Answer). choicesLeft file piece d p (VIOLATED i) (valuesLeft (n d (propertyOf file piece d p) i) x ++ rest) (lent .choices)) (v .sat) in
+        subst (Witness d (propertyOf file piece d p) i (lent .choices)) (sym m)
+        (witness file piece d e p (a .property) (a .right) i (v .settings) rest (lent .choices) (th i)
+        (omega (arith, v .within, a .bound)) (omega (arith, n-up d (propertyOf file piece d p) i k (v .within), a .numbers)) (omega (arith, v .within, a .room .choices)) (v .none) (v .satisfies))
 
-    of-verdict : OfVerdict d (propertyOf d p) k budget told (lent .choices) ((verdict file p k budget lent) .memory .choices)
+    of-verdict : OfVerdict d (propertyOf file piece d p) k budget told (lent .choices) ((verdict file piece p k budget lent) .memory .choices)
     of-verdict = record {
-      verdict = λ v. ((λ q. subst (Says d (propertyOf d p) k budget) q says), same-verdict d (propertyOf d p) k budget (told .verdict) v says);
-      tries = known-tries d (propertyOf d p) k budget (told .tries) (j .bound) (j .outcome) (told .verdict) known;
+      verdict = λ v. ((λ q. subst (Says d (propertyOf file piece d p) k budget) q says), same-verdict d (propertyOf file piece d p) k budget (told .verdict) v says);
+      tries = known-tries d (propertyOf file piece d p) k budget (told .tries) (j .bound) (j .outcome) (told .verdict) known;
       witness = left;
     }
 
--- The entries of a file are bytes.
-pub demand-3 : (file : List ℕ) → ((i : ℕ) → getD file i 0 < 256) → (d : Design) → check file ≡ Checked.accepted d → Demand3 file d
-demand-3 file bytes d e = record {
-  formula = λ p k. of-formula d (propertyOf d p) k (theorem-of-file file bytes d e p k);
-  decode = λ p k low few numbers. decodes file d e p low k few numbers (theorem-of-file file bytes d e p k);
-  verdict = λ p k budget lent told h. of-verdict file d e p k budget lent (theorem-of-file file bytes d e p) told (answered file d e p k budget lent told h);
+-- The entries of a file and of a piece are bytes.
+pub demand-3 : (file piece : List ℕ) → ((i : ℕ) → getD file i 0 < 256) → ((i : ℕ) → getD piece i 0 < 256) → (d : Design) → check file ≡ Checked.accepted d → Demand3 file piece d
+demand-3 file piece bytes all d e = record {
+  formula = λ p k. of-formula d (propertyOf file piece d p) k (theorem-of-file file piece bytes all d e p k);
+  decode = λ p k low right few numbers. decodes file piece d e p low right k few numbers (theorem-of-file file piece bytes all d e p k);
+  verdict = λ p k budget lent told h. of-verdict file piece d e p k budget lent (theorem-of-file file piece bytes all d e p) told (answered file piece d e p k budget lent told h);
 }

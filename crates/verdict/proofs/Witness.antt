@@ -8,6 +8,7 @@ use lib.ListN.{length, drop, length-append, List·getD-append}
 use borrow.Author.Tests.{le-leb}
 use Rattle.design.specs.Tree.{Design, bit}
 use Rattle.design.specs.Check.{Checked, check}
+use Rattle.step.specs.Piece.{pieceRight}
 use Rattle.step.specs.Property.{Property, propertyOf}
 use Rattle.step.specs.Breaking.{Breaking}
 use Rattle.clauses.specs.Meaning.{satisfies}
@@ -41,30 +42,30 @@ values-hold m ss rest = record {
       ∙ bit-true (valueOf ss (suc i));
 }
 
-module _ (file : List ℕ) (d : Design) (e : check file ≡ Checked.accepted d) (p : ℕ) (low : p ≤ lastProperty file) where
+module _ (file piece : List ℕ) (d : Design) (e : check file ≡ Checked.accepted d) (p : ℕ) (low : p ≤ lastProperty file) (right : pieceRight file piece p ≡ true) where
   -- past the other refusals DECODE looks at the flags
-  decode-past : (i : ℕ) (values cs : List ℕ) → i ≤ maxBound → n d (propertyOf d p) i ≤ lastVariable → n d (propertyOf d p) i ≤ length values → i ≤ length cs
-      → decode file p i values cs ≡ written (chosenFrom d (propertyOf d p) values i 0) cs
+  decode-past : (i : ℕ) (values cs : List ℕ) → i ≤ maxBound → n d (propertyOf file piece d p) i ≤ lastVariable → n d (propertyOf file piece d p) i ≤ length values → i ≤ length cs
+      → decode file piece p i values cs ≡ written (chosenFrom d (propertyOf file piece d p) values i 0) cs
   unfolding decode choicesOf choicesToWrite
   decode-past i values cs few numbers long room =
-      ap (λ (r : Answer (List ℕ)). written r cs) (admit-in file p i (λ (d : Design) (q : Property). choicesOf d q i values (length cs)) d e low few numbers)
-      ∙ rw (le-leb (n d (propertyOf d p) i) (length values) long, le-leb i (length cs) room)
+      ap (λ (r : Answer (List ℕ)). written r cs) (admit-in file piece p i (λ (d : Design) (q : Property). choicesOf d q i values (length cs)) d e low right few numbers)
+      ∙ rw (le-leb (n d (propertyOf file piece d p) i) (length values) long, le-leb i (length cs) room)
 
-  pub decodes : (i : ℕ) → i ≤ maxBound → n d (propertyOf d p) i ≤ lastVariable → Theorem d (propertyOf d p) i → Decodes file d p i
+  pub decodes : (i : ℕ) → i ≤ maxBound → n d (propertyOf file piece d p) i ≤ lastVariable → Theorem d (propertyOf file piece d p) i → Decodes file piece d p i
   decodes i few numbers th ρ values cs s h room =
       decode-past i values cs few numbers (h .long) room
       ∙ ap (λ (r : Answer (List ℕ)). written r cs) (th .decode ρ values s h)
-      ∙ ap {B = AfterDecode} (λ (m : ℕ). record { answer = answer tt; choices = choices d (propertyOf d p) ρ i ++ drop m cs }) (th .decodes ρ s .long)
+      ∙ ap {B = AfterDecode} (λ (m : ℕ). record { answer = answer tt; choices = choices d (propertyOf file piece d p) ρ i ++ drop m cs }) (th .decodes ρ s .long)
 
-  pub witness : (i : ℕ) (ss : Settings) (rest cs : List ℕ) → Theorem d (propertyOf d p) i → i ≤ maxBound → n d (propertyOf d p) i ≤ lastVariable → i ≤ length cs → NoneShorter d (propertyOf d p) i
-      → satisfies (made ss) (formula d (propertyOf d p) i) ≡ true → Witness d (propertyOf d p) i cs ((decode file p i (valuesFrom ss 1 (n d (propertyOf d p) i) ++ rest) cs) .choices)
+  pub witness : (i : ℕ) (ss : Settings) (rest cs : List ℕ) → Theorem d (propertyOf file piece d p) i → i ≤ maxBound → n d (propertyOf file piece d p) i ≤ lastVariable → i ≤ length cs → NoneShorter d (propertyOf file piece d p) i
+      → satisfies (made ss) (formula d (propertyOf file piece d p) i) ≡ true → Witness d (propertyOf file piece d p) i cs ((decode file piece p i (valuesFrom ss 1 (n d (propertyOf file piece d p) i) ++ rest) cs) .choices)
   witness i ss rest cs th few numbers room none s =
-      let b : Breaking d (propertyOf d p) i (choices d (propertyOf d p) (made ss) i) = th .decodes (made ss) s in
-      let x = decodes i few numbers th (made ss) (valuesFrom ss 1 (n d (propertyOf d p) i) ++ rest) cs s (values-hold (n d (propertyOf d p) i) ss rest) room in
+      let b : Breaking d (propertyOf file piece d p) i (choices d (propertyOf file piece d p) (made ss) i) = th .decodes (made ss) s in
+      let x = decodes i few numbers th (made ss) (valuesFrom ss 1 (n d (propertyOf file piece d p) i) ++ rest) cs s (values-hold (n d (propertyOf file piece d p) i) ss rest) room in
       record {
-        list = choices d (propertyOf d p) (made ss) i;
+        list = choices d (propertyOf file piece d p) (made ss) i;
         written = ap (λ (r : AfterDecode). r .choices) x;
         long = b .long;
         movers = b .movers;
-        breaks = breaks-at d (propertyOf d p) i (choices d (propertyOf d p) (made ss) i) b none;
+        breaks = breaks-at d (propertyOf file piece d p) i (choices d (propertyOf file piece d p) (made ss) i) b none;
       }

@@ -1,8 +1,9 @@
 -- Demand 3 of document 01, whole: "one claim about such lists as wholes, not one for each choice". A list's choices are movers' numbers,
 -- idle ones included (`AllBelow (length (movers d)) cs`). `Breaking d q k cs`: cs is a list of just k choices that breaks property q; `Breakable d q k`: some
--- list of at most k does. `p` is the number of a property: 0, 1, and 2 for the constraint of a version 2 file (document 02, R-1: "Demand 3 covers it."). The formula
--- is one of whole numbers: what is said of it holds for every bound and however large n is, also where calls are refused by 19 (document 02, R-2: "demand 3's formula
--- is then the same clauses in whole numbers, which no call writes").
+-- list of at most k does. `p` is the number of a property: 0, 1, and 2 for the constraint of a version 2 file (document 02, R-1: "Demand 3 covers it."), and `piece` the bytes
+-- that are lent beside the file (document 02, R-4: "Demand 3 covers pieces."). The formula is one of whole numbers: what is said of it holds for every bound and however large n
+-- is, also where calls are refused by 19 (document 02, R-2: "demand 3's formula is then the same clauses in whole numbers, which no call writes"). It asks for no right number
+-- and no right piece either: where calls are refused by 13 or 8, `propertyOf` still names some property, and it holds of that one.
 use mathlib.Core.Path.{_≡_}
 use mathlib.Core.Logic.{_↔_}
 use mathlib.Core.Bool.{true}
@@ -10,6 +11,7 @@ use mathlib.Core.List.{List, [], _++_}
 use Prim.Native.Nat.{ℕ, zero, suc, _+_, _<_, _≤_}
 use lib.ListN.{length, drop}
 use Rattle.design.specs.Tree.{Design, movers}
+use Rattle.step.specs.Piece.{pieceRight}
 use Rattle.step.specs.Property.{Property, propertyOf}
 use Rattle.step.specs.OneStep.{breaksAt}
 use Rattle.step.specs.Breaking.{AllBelow, Breaking, Breakable}
@@ -48,9 +50,9 @@ pub record OfFormula (d : Design) (q : Property) (k : ℕ) : Type 0 where
 
 -- DECODE's call: "It decodes to the k choices whose choice j, from 0, is the mover with the one true flag of frame j; DECODE, if not refused, writes them."
 -- On values that store a satisfying assignment, with room for k choices, it is not refused. "All else keeps."
-abbrev pub Decodes : List ℕ → Design → ℕ → ℕ → Type 0
-Decodes file d p k = (ρ : Assignment) (values lent : List ℕ) → satisfies ρ (formula d (propertyOf d p) k) ≡ true → Stored (n d (propertyOf d p) k) ρ values
-    → k ≤ length lent → decode file p k values lent ≡ record { answer = answer tt; choices = choices d (propertyOf d p) ρ k ++ drop k lent }
+abbrev pub Decodes : List ℕ → List ℕ → Design → ℕ → ℕ → Type 0
+Decodes file piece d p k = (ρ : Assignment) (values lent : List ℕ) → satisfies ρ (formula d (propertyOf file piece d p) k) ≡ true → Stored (n d (propertyOf file piece d p) k) ρ values
+    → k ≤ length lent → decode file piece p k values lent ≡ record { answer = answer tt; choices = choices d (propertyOf file piece d p) ρ k ++ drop k lent }
 
 module _ (d : Design) (q : Property) where
   -- "A bound's tries are those the search makes on its formula with no budget set." That search ends (`ends`).
@@ -116,10 +118,11 @@ module _ (d : Design) (q : Property) where
     -- VIOLATED i gives i choices that break at i
     pub witness : (i : ℕ) → told .verdict ≡ VIOLATED i → Witness i lent left
 
--- of a file and its design
-pub record Demand3 (file : List ℕ) (d : Design) : Type 0 where
-  pub formula : (p k : ℕ) → OfFormula d (propertyOf d p) k
-  -- for every call that is not refused for its property, its bound or its n: "13 property over 1", with a constraint over 2; "14 bound over 100"; "19 when n exceeds 2^31-1"
-  pub decode : (p k : ℕ) → p ≤ lastProperty file → k ≤ maxBound → n d (propertyOf d p) k ≤ lastVariable → Decodes file d p k
-  pub verdict : (p k budget : ℕ) (lent : Memory) (told : Told) → (verdict file p k budget lent) .answer ≡ answer told
-      → OfVerdict d (propertyOf d p) k budget told (lent .choices) ((verdict file p k budget lent) .memory .choices)
+-- of a file, a piece, and the file's design
+pub record Demand3 (file piece : List ℕ) (d : Design) : Type 0 where
+  pub formula : (p k : ℕ) → OfFormula d (propertyOf file piece d p) k
+  -- for every call that is not refused for its property, its piece, its bound or its n: "13 property over 1", with a constraint over 2; "refusal 8" of a piece; "14 bound over 100"; "19
+  -- when n exceeds 2^31-1"
+  pub decode : (p k : ℕ) → p ≤ lastProperty file → pieceRight file piece p ≡ true → k ≤ maxBound → n d (propertyOf file piece d p) k ≤ lastVariable → Decodes file piece d p k
+  pub verdict : (p k budget : ℕ) (lent : Memory) (told : Told) → (verdict file piece p k budget lent) .answer ≡ answer told
+      → OfVerdict d (propertyOf file piece d p) k budget told (lent .choices) ((verdict file piece p k budget lent) .memory .choices)

@@ -7,6 +7,7 @@ use lib.IntN.{ℤ}
 use lib.ListN.{length, getD, drop, replicate}
 use Rattle.design.specs.Tree.{Design}
 use Rattle.design.specs.Check.{Checked, check}
+use Rattle.step.specs.Piece.{pieceRight}
 use Rattle.step.specs.Property.{Property, propertyOf}
 use Rattle.clauses.specs.Words.{words}
 use Rattle.clauses.specs.Formula.{n, formula}
@@ -18,15 +19,17 @@ use Rattle.search.specs.Answers.{declaredSolved}
 use Rattle.search.specs.declared.Solved.{Solved}
 use Rattle.verdict.specs.Verdict.{Memory, searched, judgedFrom, judge, roomFor}
 
--- nothing is refused: the file's design is accepted, the property, the bound and n are not too high, and there is room
-pub record ReadyMemory (file : List ℕ) (p k : ℕ) (lent : Memory) : Type 0 where
+-- nothing is refused: the file's design is accepted, the piece is right, the property, the bound and n are not too high, and there is room
+pub record ReadyMemory (file piece : List ℕ) (p k : ℕ) (lent : Memory) : Type 0 where
   pub design : Design
   pub accepted : check file ≡ Checked.accepted design
   pub bytes : (i : ℕ) → getD file i 0 < 256
+  pub piece-bytes : (i : ℕ) → getD piece i 0 < 256
   pub property : p ≤ lastProperty file
+  pub right : pieceRight file piece p ≡ true
   pub bound : k ≤ maxBound
-  pub numbers : n design (propertyOf design p) k ≤ lastVariable
-  pub room : roomFor design (propertyOf design p) k lent ≡ true
+  pub numbers : n design (propertyOf file piece design p) k ≤ lastVariable
+  pub room : roomFor design (propertyOf file piece design p) k lent ≡ true
 
 module _ (d : Design) (q : Property) (k budget : ℕ) (lent : Memory) where
   -- Before bound i, after t tries: what is still to do, and lent memory, which is as it was lent past what bound i's formula and variables take.
@@ -49,7 +52,7 @@ module _ (d : Design) (q : Property) (k budget : ℕ) (lent : Memory) where
     pub trail-left : trail′ ≡ replicate (n d q i) 0 ++ drop (n d q i) trail
 
 -- the loop's invariant
-pub record AtBound (file : List ℕ) (p k budget : ℕ) (lent : Memory) (i t : ℕ) (clauses : List ℤ) (values trail choices : List ℕ) : Type 0 where
-  pub ready : ReadyMemory file p k lent
-  pub judging : Judging (ready .design) (propertyOf (ready .design) p) k budget lent i t clauses values trail
+pub record AtBound (file piece : List ℕ) (p k budget : ℕ) (lent : Memory) (i t : ℕ) (clauses : List ℤ) (values trail choices : List ℕ) : Type 0 where
+  pub ready : ReadyMemory file piece p k lent
+  pub judging : Judging (ready .design) (propertyOf file piece (ready .design) p) k budget lent i t clauses values trail
   pub choices-kept : choices ≡ lent .choices

@@ -2,7 +2,7 @@
 -- (proofs/Table.antt).
 use mathlib.Core.Path.{_≡_}
 use mathlib.Core.Bool.{true, false}
-use mathlib.Core.List.{List, [], _∷_}
+use mathlib.Core.List.{List, [], _∷_, _++_}
 use mathlib.Core.Option.{none, some}
 use Prim.Native.Nat.{ℕ}
 use lib.IntN.{ℤ, pos, negℤ}
@@ -10,10 +10,12 @@ use lib.ListN.{length, replicate}
 use Rattle.design.specs.Tree.{Design}
 use Rattle.design.specs.Check.{accepted, check}
 use Rattle.design.specs.State.{start}
-use Rattle.design.specs.DesignA.{bytesA, designA}
+use Rattle.design.specs.DesignA.{bytesA, pieceA, designA}
 use Rattle.design.specs.Constrained.{bytesMoved, designMoved, bytesNoIdle, designNoIdle}
 use Rattle.design.specs.Multiplied.{bytesMultiplied, designMultiplied}
+use Rattle.step.specs.Piece.{noPiece}
 use Rattle.step.specs.Property.{Property, propertyOf}
+use Rattle.step.specs.Gate.{gateRefusal}
 use Rattle.step.specs.Pattern.{plus, minus, times, signed, wrap}
 use Rattle.step.specs.OneStep.{breaksAt, breaks}
 use Rattle.step.specs.StatusEventGuard.{eventsRead, guardsRead}
@@ -32,16 +34,29 @@ pub record Subject : Type 0 where
 
 -- property 0 of Design A, property 2 of the designs with a constraint, and property 0 of the one with products
 abbrev invariantA : Subject
-invariantA = record { design = designA; property = propertyOf designA 0 }
+invariantA = record { design = designA; property = propertyOf bytesA noPiece designA 0 }
 
 abbrev movedBelow : Subject
-movedBelow = record { design = designMoved; property = propertyOf designMoved 2 }
+movedBelow = record { design = designMoved; property = propertyOf bytesMoved noPiece designMoved 2 }
 
 abbrev noIdleStep : Subject
-noIdleStep = record { design = designNoIdle; property = propertyOf designNoIdle 2 }
+noIdleStep = record { design = designNoIdle; property = propertyOf bytesNoIdle noPiece designNoIdle 2 }
 
 abbrev tripled : Subject
-tripled = record { design = designMultiplied; property = propertyOf designMultiplied 0 }
+tripled = record { design = designMultiplied; property = propertyOf bytesMultiplied noPiece designMultiplied 0 }
+
+-- property 0 of Design A with a piece, not (0 < c), and with the piece 10 01, true; properties 1 and 2 with a piece, which they do not read
+abbrev lentA : Subject
+lentA = record { design = designA; property = propertyOf bytesA pieceA designA 0 }
+
+abbrev lentTrue : Subject
+lentTrue = record { design = designA; property = propertyOf bytesA (0x10 ∷ 0x01 ∷ []) designA 0 }
+
+abbrev unreadBy1 : Subject
+unreadBy1 = record { design = designA; property = propertyOf bytesA pieceA designA 1 }
+
+abbrev unreadBy2 : Subject
+unreadBy2 = record { design = designMoved; property = propertyOf bytesMoved pieceA designMoved 2 }
 
 pub data Case : Type 0 where
   -- the bytes of a file give its tree
@@ -59,6 +74,8 @@ pub data Case : Type 0 where
   counts : Design → List ℕ → ℕ → ℕ → Case
   -- a bound has so many models
   models : Subject → ℕ → ℕ → Case
+  -- of a file, a piece, a property and a bound: what is refused first, by its number; 0 where nothing is. The places are 0.
+  gated : List ℕ → List ℕ → ℕ → ℕ → ℕ → Case
   -- two integers, and their sum, difference or product
   sum difference product : ℤ → ℤ → ℤ → Case
   -- SOLVE: n, words, budget; answer, tries and the values left
@@ -75,6 +92,7 @@ Holds (broken s cs i) =
 Holds (never s cs) = breaks (s .design) (s .property) cs ≡ false
 Holds (counts d cs events guards) = (eventsRead d (start d) cs ≡ events) × (guardsRead d (start d) cs ≡ guards)
 Holds (models s k count) = Exactly (Model (s .design) (s .property) k) count
+Holds (gated file piece p k number) = gateRefusal file piece p k ≡ record { number = number; place = 0 }
 Holds (sum a b c) = signed (plus (wrap a) (wrap b)) ≡ c
 Holds (difference a b c) = signed (minus (wrap a) (wrap b)) ≡ c
 Holds (product a b c) = signed (times (wrap a) (wrap b)) ≡ c
@@ -144,6 +162,38 @@ table =
     -- past the break at 3, and where the guard is false
     ∷ broken invariantA (2 ∷ 0 ∷ 1 ∷ 0 ∷ 1 ∷ []) 3
     ∷ counts designA (2 ∷ 0 ∷ 1 ∷ 0 ∷ 1 ∷ []) 4 4
+    -- A piece (document 02, R-4) is judged in the invariant's place, and not beside it: the invariant breaks at 3. Its names are Design A's: c is its variable 1.
+    ∷ frame lentTrue 21 0 3 371 395
+    ∷ bound lentTrue 0 22 23
+    ∷ bound lentA 0 102 295
+    ∷ broken lentA (2 ∷ 0 ∷ 1 ∷ []) 2
+    ∷ never lentA (0 ∷ 1 ∷ 2 ∷ [])
+    ∷ never lentTrue (2 ∷ 0 ∷ 1 ∷ [])
+    ∷ models lentA 2 1
+    -- "For other properties the piece is not read."
+    ∷ never unreadBy1 (2 ∷ 0 ∷ 1 ∷ [])
+    ∷ broken unreadBy2 (2 ∷ 0 ∷ 1 ∷ []) 3
+    -- "from the piece if it has any bytes, else from the file"
+    ∷ gated bytesA pieceA 0 3 0
+    ∷ gated bytesA noPiece 0 3 0
+    -- a product; 16 levels, and 17
+    ∷ gated bytesA (0x15 ∷ 0x08 ∷ 0x03 ∷ 0x00 ∷ 0x02 ∷ 0x01 ∷ 0x02 ∷ 0x01 ∷ []) 0 3 0
+    ∷ gated bytesA (replicate 15 0x12 ++ 0x10 ∷ 0x01 ∷ []) 0 3 0
+    ∷ gated bytesA (replicate 16 0x12 ++ 0x10 ∷ 0x01 ∷ []) 0 3 8
+    -- not a whole expression; a byte more; an integer; an integer variable as a Boolean; variable 2, which is not there; the next state
+    ∷ gated bytesA (0x12 ∷ 0x16 ∷ 0x01 ∷ 0x00 ∷ 0x00 ∷ 0x02 ∷ []) 0 3 8
+    ∷ gated bytesA (0x10 ∷ 0x01 ∷ 0x00 ∷ []) 0 3 8
+    ∷ gated bytesA (0x02 ∷ 0x01 ∷ []) 0 3 8
+    ∷ gated bytesA (0x11 ∷ 0x01 ∷ []) 0 3 8
+    ∷ gated bytesA (0x11 ∷ 0x02 ∷ []) 0 3 8
+    ∷ gated bytesMoved (0x17 ∷ 0x00 ∷ []) 0 3 8
+    -- "after CHECK and before 14"; no other property refuses a piece
+    ∷ gated [] (0x00 ∷ []) 0 101 1
+    ∷ gated bytesA (0x00 ∷ []) 0 101 8
+    ∷ gated bytesA pieceA 0 101 14
+    ∷ gated bytesA (0x00 ∷ []) 2 101 13
+    ∷ gated bytesA (0x00 ∷ []) 1 3 0
+    ∷ gated bytesMoved (0x00 ∷ []) 2 3 0
     -- "32767+1 is -32768"; "0-(-32768) is -32768."
     ∷ sum (pos 32767) (pos 1) (negℤ (pos 32768))
     ∷ difference (pos 0) (negℤ (pos 32768)) (negℤ (pos 32768))

@@ -1,4 +1,4 @@
--- VERDICT (document 01, "The search" and "Turned-back calls"). `p` is the number of a property, `q` the property.
+-- VERDICT (document 01, "The search" and "Turned-back calls"). `p` is the number of a property, `q` the property that it and the piece name.
 use mathlib.Core.Bool.{Bool, _&&_}
 use mathlib.Core.List.{List, _++_}
 use Prim.Native.Nat.{ℕ, zero, suc, _+_, _-_}
@@ -72,18 +72,18 @@ pub record After : Type 0 where
   pub answer : Answer Told
   pub memory : Memory
 
-module _ (file : List ℕ) (d : Design) (p : ℕ) where
+module _ (file piece : List ℕ) (d : Design) (p : ℕ) where
   -- "on VIOLATED only, the choices decoded from them": by DECODE, from the values left
   abbrev pub choicesLeft : Verdict → List ℕ → List ℕ → List ℕ
-  choicesLeft (VIOLATED i) values choices = (decode file p i values choices) .choices
+  choicesLeft (VIOLATED i) values choices = (decode file piece p i values choices) .choices
   choicesLeft CLEAN values choices = choices
   choicesLeft (SPENT-AT i) values choices = choices
 
   -- "VERDICT leaves the last formula tried, SOLVE's leavings and, on VIOLATED only, the choices decoded from them. All else keeps."
   unfoldable pub memoryLeft : Judged → Memory → Memory
   memoryLeft j lent =
-      let formulaWords = words (formula d (propertyOf d p) (j .bound)) in
-      let solve = leaves (n d (propertyOf d p) (j .bound)) (j .outcome) (lent .values) (lent .trail) in
+      let formulaWords = words (formula d (propertyOf file piece d p) (j .bound)) in
+      let solve = leaves (n d (propertyOf file piece d p) (j .bound)) (j .outcome) (lent .values) (lent .trail) in
       record {
         clauses = formulaWords ++ drop (length formulaWords) (lent .clauses);
         values = solve .values;
@@ -105,10 +105,10 @@ afterCall lent (refused number place) = record { answer = refused number place; 
 afterCall lent (answer (told, left)) = record { answer = answer told; memory = left }
 
 -- "VERDICT: 13; 14; 16 clauses, values, trail or choices short for the full bound." 13 is "property over 1", with a constraint over 2; 14 is
--- "bound over 100". "Places not named are 0." 19 is straight after 14, for the full bound (document 02, R-2).
-unfoldable pub verdict : List ℕ → ℕ → ℕ → ℕ → Memory → After
-verdict file p k budget lent =
+-- "bound over 100". "Places not named are 0." 8 and 19 (document 02, R-4 and R-2) stand in `admit`; 19 is for the full bound.
+unfoldable pub verdict : List ℕ → List ℕ → ℕ → ℕ → ℕ → Memory → After
+verdict file piece p k budget lent =
     afterCall lent (
-    admit file p k λ d q.
+    admit file piece p k λ d q.
     need (roomFor d q k lent) 16 0
-    (answer ((judge d q k budget) .told, memoryLeft file d p (judge d q k budget) lent)))
+    (answer ((judge d q k budget) .told, memoryLeft file piece d p (judge d q k budget) lent)))

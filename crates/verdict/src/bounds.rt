@@ -12,8 +12,9 @@ use search::Answered;
 use search::search;
 
 // The bounds one after the other, to the first SAT.
-pub fn judge(
-    file: &[u8],
+pub fn judge<'a>(
+    file: &'a [u8],
+    piece: &'a [u8],
     property: u64,
     bound: u64,
     budget: u64,
@@ -22,18 +23,18 @@ pub fn judge(
     trail: &mut [u32],
     choices: &mut [u8],
 ) -> Told
-    requires { ⌜ ReadyMemory (now file) property bound (record { clauses = now clauses; values = now values; trail = now trail; choices = now choices }) ⌝ }
+    requires { ⌜ ReadyMemory (now file) (now piece) property bound (record { clauses = now clauses; values = now values; trail = now trail; choices = now choices }) ⌝ }
     ensures { λ r. ⌜ record {
       reply = Reply.Done r;
       memory = record { clauses = now (clauses .exit); values = now (values .exit); trail = now (trail .exit); choices = now (choices .exit) };
     }
-        ≡ exit (verdictOf (now (file .entry)) property bound budget
+        ≡ exit (verdictOf (now (file .entry)) (now (piece .entry)) property bound budget
         (record { clauses = now (clauses .entry); values = now (values .entry); trail = now (trail .entry); choices = now (choices .entry) })) ⌝ }
 {
     let mut i: u64 = 0;
     let mut tries: u64 = 0;
     loop {
-        let f = write_formula(file, property, i, clauses);
+        let f = write_formula(file, piece, property, i, clauses);
         let m = f.words;
         let n = f.variables;
         let r = search(
@@ -46,7 +47,7 @@ pub fn judge(
         let a = r.answer;
         match a {
             Answered::Sat => {
-                decode(file, property, i, values, choices);
+                decode(file, piece, property, i, values, choices);
                 return Told {
                     verdict: Verdict::Violated(i),
                     tries,

@@ -15,9 +15,10 @@ const SHORT: Reply = Reply::Refused {
     place: 0,
 };
 
-// VERDICT: a design, a property, a bound, a budget of tries, and memory for the clauses, the values, the trail and the choices.
-pub fn verdict(
-    file: &[u8],
+// VERDICT: a design, a piece, a property, a bound, a budget of tries, and memory for the clauses, the values, the trail and the choices.
+pub fn verdict<'a>(
+    file: &'a [u8],
+    piece: &'a [u8],
     property: u64,
     bound: u64,
     budget: u64,
@@ -27,10 +28,10 @@ pub fn verdict(
     choices: &mut [u8],
 ) -> Reply
     ensures { λ r. ⌜ record { reply = r; memory = record { clauses = now (clauses .exit); values = now (values .exit); trail = now (trail .exit); choices = now (choices .exit) } }
-        ≡ exit (verdictOf (now (file .entry)) property bound budget
+        ≡ exit (verdictOf (now (file .entry)) (now (piece .entry)) property bound budget
         (record { clauses = now (clauses .entry); values = now (values .entry); trail = now (trail .entry); choices = now (choices .entry) })) ⌝ }
 {
-    match size(file, property, bound) {
+    match size(file, piece, property, bound) {
         SizeReply::Refused { number, place } => Reply::Refused { number, place },
         SizeReply::Sized(s) => {
             let m = s.words;
@@ -49,6 +50,7 @@ pub fn verdict(
             }
             Reply::Done(judge(
                 file,
+                piece,
                 property,
                 bound,
                 budget,

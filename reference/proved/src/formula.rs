@@ -18,9 +18,9 @@ fn told<T, const N: usize>(code: u64, words: [u64; N], answer: impl FnOnce([u64;
 }
 
 pub fn size(query: Query<[u8]>, bound: u64) -> Answer<Size> {
-    let Query { design, property } = query;
+    let Query { design, piece, property } = query;
     let mut words = [FILLED; 7];
-    let code = unsafe { stm_size(design.as_ptr(), design.len(), property, bound, &mut words) };
+    let code = unsafe { stm_size(design.as_ptr(), design.len(), piece.as_ptr(), piece.len(), property, bound, &mut words) };
     told(code, words, |[state_bits, property_gates, movers, step_gates, variables, clauses, words]| Size {
         state_bits,
         property_gates,
@@ -33,31 +33,35 @@ pub fn size(query: Query<[u8]>, bound: u64) -> Answer<Size> {
 }
 
 pub fn encode(query: Query<[u8]>, bound: u64, part: u64, clauses: &mut [i32]) -> Answer<u64> {
-    let Query { design, property } = query;
+    let Query { design, piece, property } = query;
     let mut words = [FILLED; 1];
     let code = unsafe {
         let (at, len) = (clauses.as_mut_ptr(), clauses.len());
-        stm_encode(design.as_ptr(), design.len(), property, bound, part, at, len, &mut words)
+        let (design, piece) = ((design.as_ptr(), design.len()), (piece.as_ptr(), piece.len()));
+        stm_encode(design.0, design.1, piece.0, piece.1, property, bound, part, at, len, &mut words)
     };
     told(code, words, |[count]| count)
 }
 
 pub fn decode(query: Query<[u8]>, bound: u64, values: &[u8], choices: &mut [u8]) -> Answer<()> {
-    let Query { design, property } = query;
+    let Query { design, piece, property } = query;
     let code = unsafe {
         let (at, len) = (choices.as_mut_ptr(), choices.len());
-        stm_decode(design.as_ptr(), design.len(), property, bound, values.as_ptr(), values.len(), at, len)
+        let (design, piece) = ((design.as_ptr(), design.len()), (piece.as_ptr(), piece.len()));
+        stm_decode(design.0, design.1, piece.0, piece.1, property, bound, values.as_ptr(), values.len(), at, len)
     };
     answered(code, || ())
 }
 
 pub fn verdict(query: Query<[u8]>, bound: u64, budget: u64, lent: Lent) -> Answer<Verdict> {
-    let Query { design, property } = query;
+    let Query { design, piece, property } = query;
     let mut words = [FILLED; 3];
     let code = unsafe {
         stm_verdict(
             design.as_ptr(),
             design.len(),
+            piece.as_ptr(),
+            piece.len(),
             property,
             bound,
             budget,

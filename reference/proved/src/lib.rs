@@ -3,6 +3,7 @@
 mod entries;
 mod formula;
 pub mod timing;
+mod trace;
 
 use entries::{stm_check, stm_holds, stm_replay, stm_solve, stm_start, stm_step};
 use reference::design::{Refusal, MAX_MATRICES, MAX_VARIABLES};
@@ -10,9 +11,6 @@ use reference::operations::{Answer, Operations};
 use reference::query::Query;
 use reference::search::{Outcome, Solved};
 use reference::step::{Replayed, State, Stepped};
-use std::io::{self, Write};
-use std::path::PathBuf;
-use std::process::{Command, Stdio};
 
 /// A refusal must leave lent memory as it was.
 fn unchanged<T: PartialEq + std::fmt::Debug>(code: u64, before: T, after: T) {
@@ -56,31 +54,14 @@ pub fn step(design: &[u8], lent: &mut Lent, choice: u64, idle: &mut [u8; 1]) -> 
     unsafe { stm_step(design.as_ptr(), design.len(), &mut lent.values, &mut lent.statuses, choice, idle) }
 }
 
-pub fn holds(query: Query<[u8]>, lent: &Lent, holds: &mut [u8; 1]) -> u64 {
-    let Query { design, property } = query;
+pub fn holds(design: &[u8], lent: &Lent, property: u64, holds: &mut [u8; 1]) -> u64 {
     unsafe { stm_holds(design.as_ptr(), design.len(), &lent.values, &lent.statuses, property, holds) }
 }
 
 pub fn replay(query: Query<[u8]>, choices: &[u8], answer: &mut [u64; 4]) -> u64 {
-    let Query { design, property } = query;
-    unsafe { stm_replay(design.as_ptr(), design.len(), property, choices.as_ptr(), choices.len(), answer) }
-}
-
-/// The Replay program: it stands beside the program that runs it.
-fn replay_program() -> io::Result<PathBuf> {
-    Ok(std::env::current_exe()?.with_file_name("replay"))
-}
-
-/// What the Replay program prints for the input.
-fn printed(input: &[u8]) -> io::Result<Vec<u8>> {
-    let mut child = Command::new(replay_program()?).stdin(Stdio::piped()).stdout(Stdio::piped()).spawn()?;
-    // It may end before it has read a design that is too long.
-    let _ = child.stdin.take().map(|mut stdin| stdin.write_all(input));
-    let output = child.wait_with_output()?;
-    if !output.status.success() {
-        return Err(io::Error::other(format!("the Replay program ended with {}", output.status)));
-    }
-    Ok(output.stdout)
+    let Query { design, piece, property } = query;
+    let (design, piece) = ((design.as_ptr(), design.len()), (piece.as_ptr(), piece.len()));
+    unsafe { stm_replay(design.0, design.1, piece.0, piece.1, property, choices.as_ptr(), choices.len(), answer) }
 }
 
 fn flag(byte: u8) -> bool {
@@ -118,9 +99,9 @@ impl Operations for Proved {
         answered(code, || Stepped { state: lent.state(), idle: flag(idle[0]) })
     }
 
-    fn holds(&mut self, query: Query<[u8]>, state: &State) -> Answer<bool> {
+    fn holds(&mut self, design: &[u8], state: &State, property: u64) -> Answer<bool> {
         let mut answer = [7];
-        let code = holds(query, &Lent::of(state), &mut answer);
+        let code = holds(design, &Lent::of(state), property, &mut answer);
         unchanged(code, [7], answer);
         answered(code, || flag(answer[0]))
     }
@@ -136,8 +117,14 @@ impl Operations for Proved {
         })
     }
 
-    fn trace(&mut self, input: &[u8]) -> Answer<Vec<u8>> {
-        printed(input).map_or(Answer::Missing, Answer::Done)
+    fn trace(&mut self, query: Query<[u8]>, choices: &[u8]) -> Answer<Vec<u8>> {
+        trace::trace(query, choices).map_or_else(
+            |error| {
+                eprintln!("trace: {error}");
+                Answer::Missing
+            },
+            Answer::Done,
+        )
     }
 
     fn solve(&mut self, n: u64, words: &[i32], values: &mut [u8], trail: &mut [u32], budget: u64) -> Answer<Solved> {

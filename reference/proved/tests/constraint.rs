@@ -14,9 +14,9 @@ fn holds_refuses_it_in_both_versions() {
         let file = file_bytes(&design);
         let mut lent = Lent::FILLED;
         assert_eq!(start(&file, &mut lent), 0);
-        assert_eq!(holds(Query::new(&file[..], CONSTRAINT), &lent, &mut [7]), 13);
+        assert_eq!(holds(&file, &lent, CONSTRAINT, &mut [7]), 13);
         lent.statuses[0] = 2;
-        assert_eq!(holds(Query::new(&file[..], CONSTRAINT), &lent, &mut [7]), 11 + 256 * 32);
+        assert_eq!(holds(&file, &lent, CONSTRAINT, &mut [7]), 11 + 256 * 32);
     }
 }
 

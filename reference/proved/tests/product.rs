@@ -77,7 +77,7 @@ fn steps_and_properties_have_the_wrapped_product() {
             assert_eq!((stepped.state, stepped.idle), (state(product(c, a)), false), "{c} times {a}");
             for (value, truth) in [(product(c, a), true), (product(c, a).wrapping_add(1), false)] {
                 let file = file_bytes(&one_step(1, times(c), is(times(c), value)));
-                let held = Proved.holds(Query::new(&file[..], INVARIANT), &state(a));
+                let held = Proved.holds(&file, &state(a), INVARIANT);
                 assert_eq!(held, Answer::Done(truth), "{c} times {a}");
             }
         }

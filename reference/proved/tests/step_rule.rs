@@ -18,7 +18,7 @@ fn the_run_of_document_01() {
         let (mut idle, mut held) = ([7], [7]);
         assert_eq!(step(&file, &mut lent, choice, &mut idle), 0);
         assert_eq!((lent.values[0], lent.values[1], lent.statuses[0], idle), (external, count, status, [0]));
-        assert_eq!(holds(query, &lent, &mut held), 0);
+        assert_eq!(holds(&file, &lent, 0, &mut held), 0);
         assert_eq!(held, [kept]);
     }
     for (choices, expected) in [([2, 0, 1], [1, 3, 2, 2]), ([0, 1, 2], [0, 0, 1, 0])] {
@@ -36,7 +36,7 @@ fn a_status_over_a_byte_is_refused() {
         lent.statuses[0] = status;
         let (before, mut idle, mut held) = (lent, [7], [7]);
         assert_eq!(step(&file, &mut lent, 0, &mut idle), REFUSED_STATUS_0);
-        assert_eq!(holds(Query::new(&file[..], 0), &lent, &mut held), REFUSED_STATUS_0);
+        assert_eq!(holds(&file, &lent, 0, &mut held), REFUSED_STATUS_0);
         assert_eq!((lent, idle, held), (before, [7], [7]));
     }
 }
@@ -47,7 +47,7 @@ fn a_property_is_not_cut_to_a_byte() {
     let lent = Lent { values: [0; 32], statuses: [0; 8] };
     for property in [2, 256, 257, 1 << 32, u64::MAX] {
         let query = Query::new(&file[..], property);
-        assert_eq!(holds(query, &lent, &mut [7]), 13);
+        assert_eq!(holds(&file, &lent, property, &mut [7]), 13);
         assert_eq!(replay(query, &[], &mut [7; 4]), 13);
     }
 }

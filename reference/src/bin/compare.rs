@@ -1,13 +1,16 @@
 //! Sends the same generated requests to two serving programs and compares
 //! their replies line by line.
 //!
-//! compare A B [--seed N] [--count N] [--operations check,..] [--require 1,2,..] [--properties 0,1,..]
+//! compare A B [--seed N] [--count N] [--operations check,..] [--require 1,2,..] [--properties 0,1,..] [--pieces replay,..]
 //!
-//! It fails too where a refusal of --require was never given, or a property of --properties never answered.
+//! It fails too where a refusal of --require was never given, a property of --properties never answered, or an operation of
+//! --pieces never answered by a piece or never refused one.
 
 use reference::client::Program;
 use reference::generator::{all_operations, Generator};
+use reference::query::INVARIANT;
 use std::collections::BTreeMap;
+use std::fmt::Display;
 use std::io::Write;
 use std::process::{ChildStdin, ExitCode};
 use std::sync::mpsc::{sync_channel, Receiver, SyncSender};
@@ -15,7 +18,7 @@ use std::sync::Arc;
 use std::thread;
 
 const USAGE: &str = "usage: compare A B [--seed N] [--count N] [--operations check,..] \
-                     [--require 1,2,..] [--properties 0,1,..]";
+                     [--require 1,2,..] [--properties 0,1,..] [--pieces replay,..]";
 /// Requests under way towards each program.
 const QUEUE: usize = 256;
 
@@ -26,6 +29,7 @@ struct Settings {
     operations: Vec<String>,
     require: Vec<u64>,
     properties: Vec<u64>,
+    pieces: Vec<String>,
 }
 
 fn main() -> ExitCode {
@@ -51,19 +55,25 @@ fn settings() -> Option<Settings> {
         operations: all_operations().iter().map(|s| s.to_string()).collect(),
         require: vec![],
         properties: vec![],
+        pieces: vec![],
     };
     while let Some(name) = arguments.next() {
         let value = arguments.next()?;
         match name.as_str() {
             "--seed" => settings.seed = value.parse().ok()?,
             "--count" => settings.count = value.parse().ok()?,
-            "--operations" => settings.operations = value.split(',').map(String::from).collect(),
+            "--operations" => settings.operations = names(&value),
             "--require" => settings.require = numbers(&value)?,
             "--properties" => settings.properties = numbers(&value)?,
+            "--pieces" => settings.pieces = names(&value),
             _ => return None,
         }
     }
     Some(settings)
+}
+
+fn names(list: &str) -> Vec<String> {
+    list.split(',').map(String::from).collect()
 }
 
 fn numbers(list: &str) -> Option<Vec<u64>> {
@@ -85,6 +95,8 @@ fn compare(settings: &Settings) -> Result<(), String> {
     seen.print();
     required(&settings.require, &seen.refusals, "refusal")?;
     required(&settings.properties, &seen.properties, "answer on property")?;
+    required(&settings.pieces, &seen.by_pieces, "answer by a piece of")?;
+    required(&settings.pieces, &seen.refused_pieces, "refused piece of")?;
     if compared != settings.count {
         return Err(format!("only {compared} requests were made"));
     }
@@ -156,6 +168,9 @@ struct Seen {
     refusals: BTreeMap<u64, u64>,
     /// Calls that were answered, by their property.
     properties: BTreeMap<u64, u64>,
+    /// Calls that were answered by a piece, and those that refused one.
+    by_pieces: BTreeMap<String, u64>,
+    refused_pieces: BTreeMap<String, u64>,
 }
 
 impl Seen {
@@ -164,10 +179,18 @@ impl Seen {
         let operation = fields[0];
         *self.requests.entry(operation.to_string()).or_default() += 1;
         let words: Vec<&str> = reply.split(' ').collect();
+        let piece = property(&fields) == Some(INVARIANT) && has_piece(&fields);
         if words[0] == "refused" {
             let number = words.get(1).and_then(|n| n.parse().ok()).unwrap_or(0);
             *self.refusals.entry(number).or_default() += 1;
+            // No design has an expression at place 0.
+            if piece && words[1..].starts_with(&["8", "at", "0"]) {
+                *self.refused_pieces.entry(operation.to_string()).or_default() += 1;
+            }
             return;
+        }
+        if piece {
+            *self.by_pieces.entry(operation.to_string()).or_default() += 1;
         }
         if let Some(answer) = named_answer(operation, &words) {
             *self.answers.entry(answer).or_default() += 1;
@@ -190,13 +213,23 @@ impl Seen {
         for (number, count) in &self.properties {
             println!("answers on property {number}: {count}");
         }
+        for (operation, count) in &self.by_pieces {
+            println!("answers by a piece {operation}: {count}");
+        }
+        for (operation, count) in &self.refused_pieces {
+            println!("refused pieces {operation}: {count}");
+        }
     }
 }
 
 /// Whether all of these were seen.
-fn required(wanted: &[u64], seen: &BTreeMap<u64, u64>, name: &str) -> Result<(), String> {
-    match wanted.iter().find(|number| !seen.contains_key(number)) {
-        Some(number) => Err(format!("{name} {number} was never seen")),
+fn required<T: Ord + Display>(
+    wanted: &[T],
+    seen: &BTreeMap<T, u64>,
+    name: &str,
+) -> Result<(), String> {
+    match wanted.iter().find(|one| !seen.contains_key(one)) {
+        Some(one) => Err(format!("{name} {one} was never seen")),
         None => Ok(()),
     }
 }
@@ -206,9 +239,14 @@ fn property(fields: &[&str]) -> Option<u64> {
     let at = match fields[0] {
         "check" | "start" | "step" | "solve" => return None,
         "holds" => 4,
-        _ => 2,
+        _ => 3,
     };
     fields.get(at)?.parse().ok()
+}
+
+/// Whether a request with a property lends a piece that has any bytes.
+fn has_piece(fields: &[&str]) -> bool {
+    fields[0] != "holds" && fields.get(2).is_some_and(|piece| *piece != "-")
 }
 
 /// A name for answers worth counting apart.

@@ -3,9 +3,13 @@
 //! rows SERVER FILE [--write]
 //!
 //! FILE is the table, designs/rows.txt; the design files are in its folder. The first four words of a row say what to ask; with
-//! --write the rest is written anew, so that a new row is made by a line of four words.
+//! --write the rest is written anew, so that a new row is made by a line of four words. The first word is a design file, or a
+//! design file and a piece of that folder, joined by +. A row with a piece is asked twice: with the piece, and of the design whose
+//! file has the piece as its invariant; both answers have to be the same.
 
+use reference::builder::file_bytes;
 use reference::client::Program;
+use reference::design::{check, Design};
 use reference::models::models;
 use reference::protocol::hex;
 use std::path::Path;
@@ -78,28 +82,42 @@ fn read_line(program: &mut Program, folder: &Path, line: &str) -> Result<Line, S
 
 /// The words of a row, from its first four.
 fn row(program: &mut Program, folder: &Path, words: &[&str]) -> Result<Vec<String>, String> {
-    let [file, property, bound, budget, ..] = words[..] else {
+    let [name, property, bound, budget, ..] = words[..] else {
         return Err("a row starts with file, property, bound and budget".to_string());
     };
-    let bytes = std::fs::read(folder.join(file)).map_err(|e| format!("{file}: {e}"))?;
-    let mut design =
-        Served { program, design: hex(&bytes), property, bound: number(bound)? as u32 };
-    let size = design.size()?;
-    let verdict = design.verdict(budget, &size)?;
-    let models = match design.models(&size)? {
-        Some(count) => count.to_string(),
-        None => "?".to_string(),
+    let read = |file: &str| std::fs::read(folder.join(file)).map_err(|e| format!("{file}: {e}"));
+    let (file, piece) = match name.split_once('+') {
+        Some((file, piece)) => (read(file)?, read(piece)?),
+        None => (read(name)?, vec![]),
     };
-    let [n, clauses, length] = [size.variables, size.clauses, size.words].map(|x| x.to_string());
-    let [kind, at, tries, choices] = verdict;
-    let key = [file, property, bound, budget].map(String::from);
-    Ok([key.to_vec(), vec![kind, at, tries, n, clauses, length, models, choices]].concat())
+    let mut ask = |design: &[u8], piece: &[u8]| {
+        let (design, piece) = (hex(design), hex(piece));
+        let bound = number(bound)? as u32;
+        Served { program: &mut *program, design, piece, property, bound }.answers(budget)
+    };
+    let answers = ask(&file, &piece)?;
+    if !piece.is_empty() {
+        let expected = ask(&with_invariant(&file, &piece)?, &[])?;
+        if answers != expected {
+            return Err(format!("with the piece {answers:?}, as the invariant {expected:?}"));
+        }
+    }
+    let key = [name, property, bound, budget].map(String::from);
+    Ok([key.to_vec(), answers].concat())
 }
 
-/// A design at a serving program, with a property and a bound.
+/// The file with the piece in its invariant's place.
+fn with_invariant(file: &[u8], piece: &[u8]) -> Result<Vec<u8>, String> {
+    let design = check(file).map_err(|r| format!("refused {} at {}", r.number, r.place))?;
+    let invariant = design.expression(piece).ok_or("the piece is no property of the design")?;
+    Ok(file_bytes(&Design { invariant, ..design }))
+}
+
+/// A design at a serving program, with a piece, a property and a bound.
 struct Served<'a> {
     program: &'a mut Program,
     design: String,
+    piece: String,
     property: &'a str,
     bound: u32,
 }
@@ -112,9 +130,21 @@ struct Size {
 }
 
 impl Served<'_> {
+    /// The words of a row after its first four.
+    fn answers(&mut self, budget: &str) -> Result<Vec<String>, String> {
+        let size = self.size()?;
+        let [kind, at, tries, choices] = self.verdict(budget, &size)?;
+        let models = match self.models(&size)? {
+            Some(count) => count.to_string(),
+            None => "?".to_string(),
+        };
+        let [n, clauses, words] = [size.variables, size.clauses, size.words].map(|x| x.to_string());
+        Ok(vec![kind, at, tries, n, clauses, words, models, choices])
+    }
+
     /// The words of a reply after `ok`.
     fn ask(&mut self, operation: &str, rest: &str) -> Result<Vec<String>, String> {
-        let reply = self.program.ask(&format!("{operation} {} {rest}", self.design));
+        let reply = self.program.ask(&format!("{operation} {} {} {rest}", self.design, self.piece));
         match reply.strip_prefix("ok ") {
             Some(answer) => Ok(answer.split(' ').map(String::from).collect()),
             None => Err(format!("{operation} replies: {reply}")),

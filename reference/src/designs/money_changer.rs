@@ -26,6 +26,17 @@ pub const ALL_PROPERTIES: [Property; 7] = [
     Property::Dyn,
 ];
 
+/// Those that are about one state, which a file has as its invariant or a
+/// reviewer as a piece.
+pub const STATE_PROPERTIES: [Property; 6] = [
+    Property::Uic1,
+    Property::Uic2,
+    Property::Stc1,
+    Property::Stc2,
+    Property::Fstc1,
+    Property::Fstc2,
+];
+
 /// What source 001 asks of the original design.
 pub const ORIGINAL_PROPERTIES: [Property; 5] =
     [Property::Uic1, Property::Uic2, Property::Stc1, Property::Stc2, Property::Dyn];
@@ -43,7 +54,7 @@ impl Property {
         }
     }
 
-    fn invariant(self) -> Boolean {
+    pub fn invariant(self) -> Boolean {
         match self {
             Property::Uic1 => not(and(status_is(CHANGER, 1), is(GET_MONEY))),
             Property::Uic2 => not(and(status_is(RETURNER, 1), is(PAYMENT))),

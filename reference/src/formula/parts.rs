@@ -68,7 +68,7 @@ struct FrameGates {
 }
 
 impl FrameGates {
-    fn new(query: Query<Design>, claim: Claim, state_bits: u64, movers: &[Mover]) -> FrameGates {
+    fn new(query: Query<Design>, claim: &Claim, state_bits: u64, movers: &[Mover]) -> FrameGates {
         let costs = Costs::new(query.design, state_bits);
         let movers = movers.iter().map(|mover| costs.mover(*mover)).sum();
         let gates = FrameGates { movers, ..FrameGates::default() };
@@ -85,12 +85,12 @@ impl FrameGates {
 }
 
 impl<'a> Formula<'a> {
-    /// 13, 14, then 19 for more variables than there are literals.
+    /// 13, 8, 14, then 19 for more variables than there are literals.
     pub fn new(query: Query<'a, Design>, bound: u64) -> Result<Formula<'a>, Refusal> {
         let claim = query.check_bound(bound)?;
         let bits = BitPlaces::new(query.design);
         let movers = query.design.movers();
-        let gates = FrameGates::new(query, claim, bits.total as u64, &movers);
+        let gates = FrameGates::new(query, &claim, bits.total as u64, &movers);
         let formula = Formula { design: query.design, claim, bound, bits, movers, gates };
         if formula.variables() > MAX_VARIABLE {
             Err(refusal(19, 0))
@@ -111,7 +111,8 @@ impl<'a> Formula<'a> {
     /// Below 2^32 for every design and bound, so u64 holds it before 19 is
     /// tested: at most 256 cells write an event of 255 bytes each, no byte of
     /// an expression or action has more than 1,280 / 3 gates, and a mover's
-    /// own gates are few. That is below 35 million gates a frame.
+    /// own gates are few. That is below 35 million gates a frame. A piece adds
+    /// to property 0 alone, where invalid cells write no gates: below 21 million.
     pub fn variables(&self) -> u64 {
         let last_frame = self.state_bits() + self.gates.property.total();
         1 + self.bound * self.frame_length() + last_frame
@@ -229,7 +230,7 @@ impl<'a> Formula<'a> {
     /// The frames that have a literal of the property: for a constraint only
     /// those that a step leads out of.
     fn judged_frames(&self) -> u64 {
-        match self.claim {
+        match &self.claim {
             Claim::Constraint(_) => self.bound,
             _ => self.bound + 1,
         }
@@ -274,7 +275,7 @@ impl<'a> Formula<'a> {
     fn write_property(&self, frame: u64, sink: &mut impl Sink) -> Option<i32> {
         let state = self.frame_state(frame);
         let mut circuit = self.circuit(self.frame_start(frame) + self.bits.total as u32, sink);
-        match self.claim {
+        match &self.claim {
             Claim::Invariant(e) => Some(circuit.boolean(Pair::one(&state), e)),
             Claim::NoInvalidCell => Some(self.write_unreached(&mut circuit, &state)),
             Claim::Constraint(_) => None,
@@ -305,7 +306,7 @@ impl<'a> Formula<'a> {
     /// The constraint's literal, where that is the property. Its gates follow
     /// those of the movers and read this frame and the next one.
     fn write_constraint(&self, frame: u64, sink: &mut impl Sink) -> Option<i32> {
-        let Claim::Constraint(e) = self.claim else {
+        let Claim::Constraint(e) = &self.claim else {
             return None;
         };
         let (earlier, next) = (self.frame_state(frame), self.frame_state(frame + 1));

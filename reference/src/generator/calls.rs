@@ -7,6 +7,7 @@ use super::files::{
 use super::near::{
     affordable_bound, budget_near, exact_tries, formula_of, length_near, property_of, MAX_TRIES,
 };
+use super::pieces::any_piece;
 use super::trees::number;
 use crate::design::{Design, Kind, MAX_MATRICES, MAX_VARIABLES};
 use crate::formula::Formula;
@@ -56,32 +57,34 @@ pub fn replay(random: &mut Random, operation: &str) -> String {
         "trace" => property_byte(random, &design),
         _ => any_property(random, &design),
     };
+    let piece = any_piece(random, &design);
     let choices = any_choices(random, &design);
-    format!("{operation} {} {property} {}", hex(&file), list_text(&choices))
+    format!("{operation} {} {} {property} {}", hex(&file), hex(&piece), list_text(&choices))
 }
 
 pub fn size(random: &mut Random) -> String {
     let (design, file) = any_design(random);
-    let bound = any_bound(random);
-    format!("size {} {} {bound}", hex(&file), any_property(random, &design))
+    let (property, bound) = (any_property(random, &design), any_bound(random));
+    format!("size {} {} {property} {bound}", hex(&file), hex(&any_piece(random, &design)))
 }
 
 pub fn encode(random: &mut Random) -> String {
     let (design, file) = design_to_encode(random);
     let (property, bound) = (any_property(random, &design), any_bound(random));
     let part = any_part(random, bound);
-    let words = match Formula::new(Query::new(&design, property), bound) {
+    let piece = any_piece(random, &design);
+    let words = match Formula::new(Query::new(&design, property).with_piece(&piece), bound) {
         Ok(formula) if part <= formula.last_part() => formula.part_count(part).words,
         _ => random.between(0, 20) as u64,
     };
     let length = length_near(random, words.min(MAX_PART) as usize);
-    format!("encode {} {property} {bound} {part} {length}", hex(&file))
+    format!("encode {} {} {property} {bound} {part} {length}", hex(&file), hex(&piece))
 }
 
 pub fn decode(random: &mut Random) -> String {
     let (design, file) = design_to_encode(random);
-    let property = any_property(random, &design);
-    let query = taken(random, Query::new(&design, property));
+    let (property, piece) = (any_property(random, &design), any_piece(random, &design));
+    let query = taken(random, Query::new(&design, property).with_piece(&piece));
     let bound = affordable_bound(query, random.between(0, 6), |n, _| n <= MAX_VALUES);
     let mut values = flagged_values(random, query, bound);
     if random.chance(30) {
@@ -89,7 +92,8 @@ pub fn decode(random: &mut Random) -> String {
     }
     let bound = if random.chance(5) { far_bound(random) } else { bound };
     let choices = length_near(random, lent_choices(bound));
-    format!("decode {} {property} {bound} {} {choices}", hex(&file), list_text(&values))
+    let asked = format!("{} {} {property}", hex(&file), hex(&piece));
+    format!("decode {asked} {bound} {} {choices}", list_text(&values))
 }
 
 pub fn verdict(random: &mut Random) -> String {
@@ -97,9 +101,9 @@ pub fn verdict(random: &mut Random) -> String {
         0 => (design_with_product(random), MAX_PRODUCT_SEARCH),
         _ => (small_design(random), MAX_SEARCH),
     };
-    let property = any_property(random, &design);
+    let (property, piece) = (any_property(random, &design), any_piece(random, &design));
     let cheap = |n, words| n * words <= most;
-    let query = taken(random, Query::new(&design, property));
+    let query = taken(random, Query::new(&design, property).with_piece(&piece));
     let bound = affordable_bound(query, random.pick(&[0, 1, 2, 3, 3, 4, 4]), cheap);
     let mut size = formula_of(query, bound).size();
     let affordable = cheap(size.variables, size.words);
@@ -114,16 +118,16 @@ pub fn verdict(random: &mut Random) -> String {
     };
     let bound = if random.chance(3) { far_bound(random) } else { bound };
     let lengths = verdict_lengths(random, size.words, size.variables, bound);
-    format!("verdict {} {property} {bound} {budget} {}", hex(&file), lengths)
+    let asked = format!("{} {} {property}", hex(&file), hex(&piece));
+    format!("verdict {asked} {bound} {budget} {lengths}")
 }
 
-/// The query, or with another property where its own is refused: the sizes of
-/// such a request are then those of a right one.
+/// The query, or without its piece or with another property where it is
+/// refused: the sizes of such a request are then those of a right one.
 fn taken<'a>(random: &mut Random, query: Query<'a, Design>) -> Query<'a, Design> {
-    match query.check_property() {
-        Ok(_) => query,
-        Err(_) => Query::new(query.design, property_of(random, query.design)),
-    }
+    let other = Query::new(query.design, property_of(random, query.design));
+    let queries = [query, query.with_piece(&[])];
+    queries.into_iter().find(|q| q.check_property().is_ok()).unwrap_or(other)
 }
 
 /// Lengths of clauses, values, trail and choices: mostly enough.

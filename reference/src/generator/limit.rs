@@ -1,6 +1,7 @@
 //! Requests on designs whose formula has 2^31 variables or nearly so many: on both sides of refusal 19.
 
 use super::near::length_near;
+use super::pieces::any_piece;
 use crate::builder::file_bytes;
 use crate::design::Design;
 use crate::designs::{design_of_variables, most_gates, LARGE_BOUNDS};
@@ -27,10 +28,11 @@ pub fn large_design(random: &mut Random) -> (Design, u64) {
     (design_of_variables(n, bound), bound)
 }
 
-/// What such a request asks about: mostly property 1 at the bound or next to it.
+/// What such a request asks about: mostly property 1, which reads no piece, at
+/// the bound or next to it.
 struct Asked {
-    file: String,
-    property: u64,
+    /// Design, piece and property.
+    query: String,
     bound: u64,
 }
 
@@ -43,7 +45,8 @@ fn asked(random: &mut Random) -> Asked {
         _ => random.pick(&near),
     };
     let property = if random.chance(85) { NO_INVALID_CELL } else { random.pick(&[0, 0, 2, 3]) };
-    Asked { file: hex(&file_bytes(&design)), property, bound }
+    let (file, piece) = (file_bytes(&design), any_piece(random, &design));
+    Asked { query: format!("{} {} {property}", hex(&file), hex(&piece)), bound }
 }
 
 /// A request for an operation that 19 is a refusal of.
@@ -58,13 +61,13 @@ pub fn request(random: &mut Random, operation: &str) -> Option<String> {
 }
 
 fn size(random: &mut Random) -> String {
-    let Asked { file, property, bound } = asked(random);
-    format!("size {file} {property} {bound}")
+    let Asked { query, bound } = asked(random);
+    format!("size {query} {bound}")
 }
 
 /// Part 0 and the last part are short; a frame's part is refused by 16, and a part over the last by 15.
 fn encode(random: &mut Random) -> String {
-    let Asked { file, property, bound } = asked(random);
+    let Asked { query, bound } = asked(random);
     let last = bound + 2;
     let part = match random.below(6) {
         0 | 1 => 0,
@@ -72,23 +75,23 @@ fn encode(random: &mut Random) -> String {
         3 => random.between(1, bound as usize + 1) as u64,
         _ => random.pick(&[last + 1, last + 2, 1 << 32, u64::MAX]),
     };
-    format!("encode {file} {property} {bound} {part} {}", short_length(random))
+    format!("encode {query} {bound} {part} {}", short_length(random))
 }
 
 /// Too few values, whatever they are: 16 on one side of the limit, 19 on the other.
 fn decode(random: &mut Random) -> String {
-    let Asked { file, property, bound } = asked(random);
+    let Asked { query, bound } = asked(random);
     let count = short_length(random);
     let values: Vec<u8> = (0..count).map(|_| random.pick(&[0, 1, 2, 255])).collect();
     let choices = length_near(random, bound as usize);
-    format!("decode {file} {property} {bound} {} {choices}", list_text(&values))
+    format!("decode {query} {bound} {} {choices}", list_text(&values))
 }
 
 /// Memory that is too short for all but the smallest formulas.
 fn verdict(random: &mut Random) -> String {
-    let Asked { file, property, bound } = asked(random);
+    let Asked { query, bound } = asked(random);
     let lengths = [(); 4].map(|()| short_length(random).to_string()).join(" ");
-    format!("verdict {file} {property} {bound} {} {lengths}", random.below(3))
+    format!("verdict {query} {bound} {} {lengths}", random.below(3))
 }
 
 fn short_length(random: &mut Random) -> usize {

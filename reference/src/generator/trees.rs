@@ -159,8 +159,8 @@ pub fn design(random: &mut Random, plan: Plan) -> Design {
 
 fn one_design(random: &mut Random, plan: &Plan) -> Design {
     let variables = variables(random, plan);
-    let mut trees = Trees::new(random, &variables, plan.matrices);
-    trees.product_percent = plan.product_percent;
+    let mut trees =
+        Trees::new(random, &variables, plan.matrices).with_products(plan.product_percent);
     let matrices: Vec<Matrix> = (0..plan.matrices).map(|_| trees.matrix(plan)).collect();
     let externals = variables.iter().filter(|v| v.kind == Kind::External).count();
     let normal = plan.movers.saturating_sub(externals);
@@ -222,6 +222,11 @@ impl<'a> Trees<'a> {
         };
         let (integers, booleans) = (of(true), of(false));
         Trees { random, integers, booleans, matrices, product_percent: 0, next_state: false }
+    }
+
+    /// With so many products among its integer operators.
+    pub fn with_products(self, percent: usize) -> Trees<'a> {
+        Trees { product_percent: percent, ..self }
     }
 
     fn matrix(&mut self, plan: &Plan) -> Matrix {

@@ -60,8 +60,7 @@ pub fn stm_holds(
     property: u64,
     holds: &mut [u8; 1],
 ) -> u64 {
-    let query = Query::new(design, property);
-    code(Reference.holds(query, &state(values, statuses)), |found| *holds = [found as u8])
+    code(Reference.holds(design, &state(values, statuses), property), |found| *holds = [found as u8])
 }
 
 pub fn stm_replay(query: Query<[u8]>, choices: &[u8], answer: &mut [u64; 4]) -> u64 {

@@ -50,10 +50,12 @@ impl<'a, T: 'a> Lent<'a> for (*mut T, usize) {
     }
 }
 
-impl<'a> Lent<'a> for (*const u8, usize, u64) {
+/// A design, a piece and a property.
+impl<'a> Lent<'a> for (*const u8, usize, *const u8, usize, u64) {
     type Form = Query<'a, [u8]>;
 
     unsafe fn lent(self) -> Query<'a, [u8]> {
-        Query::new(from_raw_parts(self.0, self.1), self.2)
+        let (design, piece) = (from_raw_parts(self.0, self.1), from_raw_parts(self.2, self.3));
+        Query::new(design, self.4).with_piece(piece)
     }
 }

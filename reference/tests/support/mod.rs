@@ -37,7 +37,7 @@ pub fn breaks(design: &Design, property: u64, choices: &[u8]) -> bool {
 fn bad_step(design: &Design, property: u64, before: &State, after: &State) -> bool {
     match &design.constraint {
         Some(constraint) if property == CONSTRAINT => !says(constraint, before, after),
-        _ => !holds(Query::new(design, property), after).unwrap(),
+        _ => !holds(design, after, property).unwrap(),
     }
 }
 

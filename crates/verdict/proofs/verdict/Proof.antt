@@ -21,31 +21,31 @@ enum-known-s c = search needs
 
 returns : tie.Need-returns
 returns c =
-    let z = (full-size _ _ _ _ (sym (c .before .before .s .given .1) ∙ c .before .before .before .before .size .ensures)) in short-clauses (z .sized) _ _
+    let z = (full-size _ _ _ _ _ (sym (c .before .before .s .given .1) ∙ c .before .before .before .before .size .ensures)) in short-clauses (z .sized) _ _
     (omega (arith, z .words, c .if1 .taken))
 
 returns-2 : tie.Need-returns-2
 returns-2 c =
-    let z = (full-size _ _ _ _ (sym (c .before .before .before .s .given .1) ∙ c .before .before .before .before .before .size .ensures)) in short-values
+    let z = (full-size _ _ _ _ _ (sym (c .before .before .before .s .given .1) ∙ c .before .before .before .before .before .size .ensures)) in short-values
     (z .sized) _ _ (omega (arith, z .variables, c .if2 .taken))
 
 returns-3 : tie.Need-returns-3
 returns-3 c =
-    let z = (full-size _ _ _ _ (sym (c .before .before .before .before .s .given .1) ∙ c .before .before .before .before .before .before .size .ensures))
+    let z = (full-size _ _ _ _ _ (sym (c .before .before .before .before .s .given .1) ∙ c .before .before .before .before .before .before .size .ensures))
     in short-trail (z .sized) _ _ (omega (arith, z .variables, c .if3 .taken))
 
 returns-4 : tie.Need-returns-4
 returns-4 c =
-    let z = (full-size _ _ _ _ (sym (c .before .before .before .before .before .s .given .1) ∙ c .before .before .before .before .before .before .before
+    let z = (full-size _ _ _ _ _ (sym (c .before .before .before .before .before .s .given .1) ∙ c .before .before .before .before .before .before .before
     .size .ensures)) in short-choices (z .sized) _ _ (omega (arith, c .if4 .taken))
 
 judge-requires : tie.Need-judge-requires
 judge-requires c κs =
     let at-s = c .before .before .before .before .before .before .before .before .before in
     let at-size = at-s .before .before in
-    let at-shared-slice-known = at-size .before .before .before .before in
-    let z = (full-size _ _ _ _ (sym (at-s .s .given .1) ∙ at-size .size .ensures)) in ready (z .sized) 0 _ (λ i. at-shared-slice-known .shared-slice-known
-    .given i .fits) (omega (arith, z .words, c .before .before .before .before .before .before .before .if1 .left)) (omega (
+    let at-shared-slice-known2 = at-size .before .before .before .before in
+    let z = (full-size _ _ _ _ _ (sym (at-s .s .given .1) ∙ at-size .size .ensures)) in ready (z .sized) 0 _ (λ i. at-shared-slice-known2 .before .shared-slice-known
+    .given i .fits) (λ i. at-shared-slice-known2 .shared-slice-known2 .given i .fits) (omega (arith, z .words, c .before .before .before .before .before .before .before .if1 .left)) (omega (
       arith,
       z .variables,
       c
@@ -58,7 +58,7 @@ judge-requires c κs =
     )) (omega (arith, c .before .before .before .before .if4 .left))
 
 returns-5 : tie.Need-returns-5
-returns-5 c = sized-refusal _ _ _ _ _ _ _ (sym (c .before .number .given .1) ∙ c .before .before .before .size .ensures)
+returns-5 c = sized-refusal _ _ _ _ _ _ _ _ (sym (c .before .number .given .1) ∙ c .before .before .before .size .ensures)
 
 same-length : tie.Need-same-length
 same-length c = search needs

@@ -9,33 +9,35 @@ gate-requires : tie.Need-gate-requires
 gate-requires c κs = search needs
 
 returns : tie.Need-returns
-returns c = admission-refuses _ _ _ _ (c .before .before .gate .ensures) (c .if1 .taken)
+returns c = admission-refuses _ _ _ _ _ (c .before .before .gate .ensures) (c .if1 .taken)
 
 sizes-requires : tie.Need-sizes-requires
-sizes-requires c κs = gate-passed _ _ _ _ (c .before .before .gate .ensures) (c .if1 .left) .accepted
+sizes-requires c κs = let g = gate-passed _ _ _ _ _ (c .before .before .gate .ensures) (c .if1 .left) in (g .accepted, g .right)
 
 cast-if2 : tie.Need-cast-if2
 cast-if2 c = omega arith
 
 variables-requires : tie.Need-variables-requires
 variables-requires c κs =
-    (c .sizes .ensures .0, omega (arith, gate-passed _ _ _ _ (c .before .before .before .gate .ensures) (c .before .if1 .left) .bound))
+    (c .sizes .ensures .0, omega (arith, gate-passed _ _ _ _ _ (c .before .before .before .gate .ensures) (c .before .if1 .left) .bound))
 
 returns-2 : tie.Need-returns-2
 returns-2 c =
-    let g = gate-passed _ _ _ _ (c .before .before .before .before .before .gate .ensures) (c .before .before .before .if1 .left) in
-    admission-19 _ _ _ (g .accepted) (g .property) (g .bound) (λ i. omega (arith, c .before .before .before .before .before .before .shared-slice-known .given i)) _
-    (c .before .before .sizes .ensures .1) _ (c .before .variables .ensures .0) (c .if2 .taken)
+    let g = gate-passed _ _ _ _ _ (c .before .before .before .before .before .gate .ensures) (c .before .before .before .if1 .left) in admission-19 _ _ _
+    _ (g .accepted) (g .property) (g .right) (g .bound) (λ i. omega (
+      arith,
+      c .before .before .before .before .before .before .before
+          .shared-slice-known .given i,
+    )) _ (c .before .before .sizes .ensures .1) _ (c .before .variables .ensures .0) (c .if2 .taken)
 
 returns-3 : tie.Need-returns-3
 returns-3 c =
-    let g = gate-passed _ _ _ _ (c .before .before .before .before .before .gate .ensures) (c .before .before .before .if1 .left) in
-    admission-sizes _ _ _ (g .accepted) (g .property) (g .bound) (λ i. omega (
+    let g = gate-passed _ _ _ _ _ (c .before .before .before .before .before .gate .ensures) (c .before .before .before .if1 .left) in admission-sizes _ _
+    _ _ (g .accepted) (g .property) (g .right) (g .bound) (λ i. omega (
       arith,
-      c .before .before .before .before .before .before .shared-slice-known
-          .given i,
-    )) _
-    (c .before .before .sizes .ensures .1) _ (c .before .variables .ensures .0) (c .if2 .left)
+      c .before .before .before .before .before .before .before
+          .shared-slice-known .given i,
+    )) _ (c .before .before .sizes .ensures .1) _ (c .before .variables .ensures .0) (c .if2 .left)
 
 pub admit-spec : {M : Type 1} → statement M
 admit-spec =

@@ -10,47 +10,40 @@ admit-requires : tie.Need-admit-requires
 admit-requires c κs = search needs
 
 enum-known-number : tie.Need-enum-known-number
-enum-known-number c = c .match .keys1
+enum-known-number c = search needs
 
 enum-known-s : tie.Need-enum-known-s
-enum-known-s c = c .match .keys2
+enum-known-s c = search needs
 
 add-if1 : tie.Need-add-if1
 add-if1 c =
-    let at-admit = c .before .before .before in
-    let a = admission-admitted _ _ _ _ (sym (c .before .s .given .1) ∙ at-admit .admit .ensures) (λ i. omega (
+    let a = admission-admitted _ _ _ _ _ (sym (c .before .s .given .1) ∙ c .before .before .before .admit .ensures) (λ i. omega (
       arith,
-      at-admit .before
-          .shared-slice-known .given i,
-    )) in
-    omega (arith, a .small .bound)
+      c .before .before
+          .before .before .before .shared-slice-known .given i,
+    )) in omega (arith, a .small .bound)
 
 returns : tie.Need-returns
 returns c =
-    let at-admit = c .before .before .before .before in
-    encode-part _ _ _ _ _ _ (sym (c .before .before .s .given .1) ∙ at-admit .admit .ensures) (λ i. omega (
+    encode-part _ _ _ _ _ _ _ (sym (c .before .before .s .given .1) ∙ c .before .before .before .before .admit .ensures) (λ i. omega (
       arith,
-      at-admit
-          .before .shared-slice-known .given i,
+      c .before
+          .before .before .before .before .before .shared-slice-known .given i,
     )) (c .if1 .taken)
 
 encode-admitted-requires : tie.Need-encode-admitted-requires
 encode-admitted-requires c κs =
-    let at-admit = c .before .before .before .before .before in
-    let a = admission-admitted _ _ _ _ (sym (c .before .before .before .s .given .1) ∙ at-admit .admit .ensures) (λ i. omega (
-      arith,
-      at-admit .before .shared-slice-known .given i,
-    )) in
-    (a, c .before .if1 .left)
+    let a = admission-admitted _ _ _ _ _ (sym (c .before .before .before .s .given .1) ∙ c .before .before .before .before .before .admit .ensures) (λ i.
+    omega (arith, c .before .before .before .before .before .before .before .shared-slice-known .given i)) in (a, c .before .if1 .left)
 
 returns-2 : tie.Need-returns-2
-returns-2 c = encode-refused _ _ _ _ _ _ _ (sym (c .before .number .given .1) ∙ c .before .before .before .admit .ensures)
+returns-2 c = encode-refused _ _ _ _ _ _ _ _ (sym (c .before .number .given .1) ∙ c .before .before .before .admit .ensures)
 
 same-length : tie.Need-same-length
 same-length c = search needs
 
 returns-3 : tie.Need-returns-3
-returns-3 c = search needs
+returns-3 c = c .before .encode-admitted .ensures
 
 pub encode-spec : {M : Type 1} → statement M
 encode-spec =

@@ -6,7 +6,7 @@ use Rattle.design.specs.Tree.{notB}
 use Rattle.step.proofs.Values.{logicOf}
 use Rattle.clauses.specs.Literal.{negate}
 use Rattle.clauses.specs.Expression.{bool! }
-use Rattle.clauses.specs.Piece.{logic! }
+use Rattle.clauses.specs.Builders.{logic! }
 use Rattle.clauses.specs.FlatState.{readSlots, layoutOf}
 use Rattle.clauses.specs.Encoders.{boolsAt}
 use Rattle.clauses.proofs.EmitExpressions.{bool-byte, bools-ahead, not-one, logic-pair, only-here, only-node, first-here, second-here, second-on, pair-node, not-tree, logic-tree}

@@ -7,7 +7,7 @@ use Rattle.design.specs.Tree.{product}
 use Rattle.step.proofs.Values.{arithmeticOf}
 use Rattle.clauses.specs.Circuit.{product! }
 use Rattle.clauses.specs.Expression.{int! }
-use Rattle.clauses.specs.Piece.{arithmetic! }
+use Rattle.clauses.specs.Builders.{arithmetic! }
 use Rattle.clauses.specs.FlatState.{readSlots, layoutOf}
 use Rattle.clauses.specs.Encoders.{intsAt}
 use Rattle.clauses.proofs.EmitExpressions.{int-byte, ints-ahead, arithmetic-pair, product-one, product-here, product-node, from-parts, only-here, first-here, second-here, second-on, pair-node, arithmetic-tree}

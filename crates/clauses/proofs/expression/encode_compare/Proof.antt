@@ -2,15 +2,13 @@ use native.Mathlib.Omega.{arith}
 use lib.ListN.{getD}
 use Rattle.step.proofs.Values.{compareOf}
 use Rattle.clauses.specs.Expression.{int!, bool! }
-use Rattle.clauses.specs.Piece.{compare! }
+use Rattle.clauses.specs.Builders.{compare! }
 use Rattle.clauses.specs.FlatState.{readSlots, layoutOf}
 use Rattle.clauses.specs.Encoders.{intsAt, boolsAt}
 use Rattle.clauses.proofs.EmitExpressions.{bool-byte, compare-pair, first-here, second-here, pair-node, compare-tree}
 use borrow.Author.Needs.{needs}
 use Rattle.clauses.proofs.expression.encode_compare.Statement.{statement}
 use Rattle.clauses.proofs.expression.encode_compare.Tie as tie
-use Rattle.clauses.proofs.expression.encode_compare.Reads as reads
-use Rattle.clauses.proofs.expression.encode_compare.Lts as lts
 
 add-encode-int : tie.Need-add-encode-int
 add-encode-int c =

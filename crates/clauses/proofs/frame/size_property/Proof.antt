@@ -1,55 +1,57 @@
 use native.Mathlib.Omega.{arith}
 use mathlib.Core.Bool.{false}
 use Rattle.design.specs.Limits.{maxDepth}
-use Rattle.clauses.proofs.CellCounts.{sizes, tail, invariant-within, invariant-reads, invariant-gates, property-gates, property-without}
-use borrow.Author.Needs.{needs}
+use Rattle.clauses.proofs.CellCounts.{expression-short, expression-reads, expression-gates, property-gates, property-without}
 use Rattle.clauses.proofs.frame.size_property.Statement.{statement}
 use Rattle.clauses.proofs.frame.size_property.Tie as tie
 
-invariant-requires : tie.Need-invariant-requires
-invariant-requires c κs = tail (c .before .before .pre .shaped)
+expression-requires : tie.Need-expression-requires
+expression-requires c κs = c .before .before .before .pre .0 .shaped .accepted
 
 size-bool-requires : tie.Need-size-bool-requires
 size-bool-requires c κs =
-    let entry = c .before .before .before in
-    let at = c .invariant .ensures .0 in
-    let end = c .invariant .ensures .1 in (
-      ((entry .args .file .now), maxDepth, false, invariant-reads _ _ _ (entry .pre) _ _ at end),
-      invariant-within _ _ _ (entry .pre) _ _ at end,
-      omega (
-        arith,
-        invariant-within _ _ _ (entry .pre) _ _ at end,
-        sizes (entry .pre .shaped) .1,
+    let text = c .expression .ensures in (
+      (
+        c .before .before .before .before .args .file .now,
+        maxDepth,
+        false,
+        expression-reads _ _ _ (c .before .before
+            .before .before .pre .0) _ _ (c .before .before .before .before .pre .1) (c .before .if1 .taken) _ text,
       ),
+      omega arith,
+      expression-short _ _ _
+          (c .before .before .before .before .pre .0) _ _ (c .before .before .before .before .pre .1) (c .before .if1 .taken) _ text,
     )
 
 returns : tie.Need-returns
 returns c =
-    let entry = c .before .before .before .before in
-    let at = c .before .invariant .ensures .0 in
-    let end = c .before .invariant .ensures .1 in
-    invariant-gates _ _ _ (entry .pre) _ _ at end _ (c .before .before .if1 .taken) _ (c .size-bool .ensures (entry .args .file .now) maxDepth false (invariant-reads _ _
-    _ (entry .pre) _ _ at end))
+    let entry = c .before .before .before .before .before in
+    let text = c .before .expression .ensures in expression-gates _ _ _ (entry .pre .0) _ _ (entry .pre .1) (c .before .before .if1 .taken) _ text _ (c
+    .size-bool .ensures (entry .args .file .now) maxDepth false (expression-reads _ _ _ (entry .pre .0) _ _ (entry .pre .1) (c .before .before
+    .if1 .taken) _ text))
 
 size-cells-requires : tie.Need-size-cells-requires
-size-cells-requires c κs = search needs
+size-cells-requires c κs = c .before .before .before .before .pre .0
 
 returns-2 : tie.Need-returns-2
-returns-2 c = (c .size-cells .ensures .0, property-gates _ _ _ (c .before .before .before .before .pre) _ (c .before .if2 .taken) _ (c .size-cells .ensures .1))
+returns-2 c = (
+  c .size-cells .ensures .0,
+  property-gates _ _ _ (c .before .before .before .before .before .pre .0) _ _ (c .before .if2 .taken) _ (c .size-cells
+      .ensures .1),
+)
 
 no-gates-requires : tie.Need-no-gates-requires
 no-gates-requires c κs = tt
 
 returns-3 : tie.Need-returns-3
 returns-3 c =
-    let none = property-without _ (c .before .before .if1 .left) (c .before .if2 .left) _ (c .no-gates .ensures) in
-    (none .0, λ d w. none .1 d)
+    let none = property-without _ _ _ (c .before .before .if1 .left) (c .before .if2 .left) _ (c .no-gates .ensures) in (none .0, λ d w. none .1 d)
 
 pub size-property-spec : {M : Type 1} → statement M
 size-property-spec =
     tie.close
     (tie.spec
-    invariant-requires
+    expression-requires
     size-bool-requires
     returns
     size-cells-requires

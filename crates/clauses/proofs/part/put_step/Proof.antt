@@ -44,44 +44,50 @@ add-t29 : tie.Need-add-t29
 add-t29 c = search needs
 
 encode-step-requires : tie.Need-encode-step-requires
-encode-step-requires c κs = search needs
+encode-step-requires c κs = (
+  c .before .before .before .before .before .before .before .before .before .before .before .before .before .before .before .before .before .pre .0
+      .ready,
+  search needs,
+  c .before .before .before .before .before .before .before .before .before .before .before .before .before .before
+      .before .before .before .pre .0 .normals,
+)
 
 encode-step-property-requires : tie.Need-encode-step-property-requires
 encode-step-property-requires c κs =
-    let entry = c .before .before .before .before .before .before .before .before .before .before .before .before .before .before .before .before .before .before .before
-    in
+    let entry = c .before .before .before .before .before .before .before .before .before .before .before .before .before .before .before .before .before .before .before .before .before in
     entry .pre .0 .ready .shaped
 
 put-all-ties-requires : tie.Need-put-all-ties-requires
 put-all-ties-requires c κs =
-    let entry = c .before .before .before .before .before .before .before .before .before .before .before .before .before .before .before .before .before .before .before
-    .before .before .before .before in (
+    let entry = c .before .before .before .before .before .before .before .before .before .before .before .before .before .before .before .before .before .before .before .before .before .before .before .before .before in (
       omega (arith, entry .pre .0 .small .sizes .movers),
       omega (arith, entry .pre .0 .small .sizes .bits),
-      c .before .before .before .before .before .before .before .encode-step
-          .ensures .1,
+      c .before .before .before .before .before
+          .before .before .encode-step .ensures .1,
     )
 
 same-length : tie.Need-same-length
-same-length c = search needs
+same-length c =
+    let at-buf3 = c .before .before .before .before .before .before .before .before in
+    let at-buf2 = at-buf3 .before .before .before .before .before .before in
+    let at-buf = at-buf2 .before .before .before in
+    omega (arith, at-buf .buf .given, at-buf2 .buf2 .given, at-buf3 .buf3 .given, c .before .before .before .before .buf4 .given, c .buf5 .given)
 
 returns : tie.Need-returns
 returns c =
-    λ d j ok es low at. step-written (c .before .before .before .before .before .before .before .before .before .before .before .before .before .before .before .before
-    .before .before .before .before .before .before .before .before .before .pre .0) _ _ _ _ _ _ _ (c .before .before .before .before .before .before .before .before
-    .before .before .before .before .variables .result) _ refl refl refl (omega (
+    let at-encode-step = c .before .before .before .before .before .before .before .before .before in
+    let at-variables = at-encode-step .before .before .before .before in
+    let at-put-pairs = at-variables .before .before in
+    let at-put-any = at-put-pairs .before .before .before in
+    let at-frame-length = at-put-any .before .before in
+    let entry = at-frame-length .before .before .before .before .before .before .before in
+    λ piece d j ok es low at. step-written piece (entry .pre .0) _ _ _ _ _ _ _ (at-variables .variables .result) _ refl refl refl (omega (
       arith,
-      c .before .before .before .before .before .before .before .before .before .before
-          .before .before .before .before .before .before .before .before .before .frame-length .ensures .0,
-    )) refl (c .before .before .before .before .before .before .before
-    .before .before .encode-step .ensures .1) (c .before .before .before .before .before .before .before .before .before .before .before .before .before .before .before
-    .before .before .put-any .ensures) (c .before .before .before .before .before .before .before .before .before .before .before .before .before .before .put-pairs
-    .ensures) (c .before .before .before .before .before .before .before .before .before .encode-step .ensures .0) (c .before .before .before .before .before
-    .encode-step-property .ensures) (c .before .put-all-ties .ensures) d j ok es low at (step-state (c .before .before .before .before .before .before .before .before
-    .before .before .before .before .before .before .before .before .before .before .before .before .before .before .before .before .before .pre .0) _ _ _ (c .before
-    .before .before .before .before .before .before .before .before .before .before .before .variables .result) refl (let h : length (c .before .before .before .before
-    .before .before .before .before .before .before .before .before .variables .result) ≡ maxBits = search needs in h) (c .before .before .before .before .before .before
-    .before .before .before .before .before .before .variables .ensures) d j ok es low at)
+      at-frame-length .frame-length .ensures .0,
+    )) refl (at-encode-step .encode-step .ensures .1) (at-put-any .put-any .ensures) (at-put-pairs
+    .put-pairs .ensures) (at-encode-step .encode-step .ensures .0) (λ e w. c .before .before .before .before .before .encode-step-property
+    .ensures e w piece) (c .before .put-all-ties .ensures) d j ok es low at
+    (step-state piece (c .before .before .before .before .before .before .before .before .before .before .before .before .before .before .before .before .before .before .before .before .before .before .before .before .before .before .before .pre .0) _ _ _ (c .before .before .before .before .before .before .before .before .before .before .before .before .before .variables .result) refl (let h : length (c .before .before .before .before .before .before .before .before .before .before .before .before .before .variables .result) ≡ maxBits = search (c .before .before .before .before .before .before .before .before .before .before .before .before .before .variables .ok, needs) in h) (c .before .before .before .before .before .before .before .before .before .before .before .before .before .variables .ensures) d j ok es low at)
 
 pub put-step-spec : {M : Type 1} → statement M
 put-step-spec =

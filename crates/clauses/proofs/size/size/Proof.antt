@@ -10,31 +10,28 @@ admit-requires : tie.Need-admit-requires
 admit-requires c κs = search needs
 
 enum-known-number : tie.Need-enum-known-number
-enum-known-number c = c .match .keys1
+enum-known-number c = search needs
 
 enum-known-s : tie.Need-enum-known-s
-enum-known-s c = c .match .keys2
+enum-known-s c = search needs
 
 formula-requires : tie.Need-formula-requires
 formula-requires c κs =
-    let at-admit = c .before .before .before in
-    let a = admission-admitted _ _ _ _ (sym (c .before .s .given .1) ∙ at-admit .admit .ensures) (λ i. omega (
+    let a = admission-admitted _ _ _ _ _ (sym (c .before .s .given .1) ∙ c .before .before .before .admit .ensures) (λ i. omega (
       arith,
-      at-admit .before
-          .shared-slice-known .given i,
-    )) in
-    (a .small .sizes, a .small .bound)
+      c .before .before
+          .before .before .before .shared-slice-known .given i,
+    )) in (a .small .sizes, a .small .bound)
 
 returns : tie.Need-returns
-returns c = size-refused _ _ _ _ _ (sym (c .before .number .given .1) ∙ c .before .before .before .admit .ensures)
+returns c = size-refused _ _ _ _ _ _ (sym (c .before .number .given .1) ∙ c .before .before .before .admit .ensures)
 
 returns-2 : tie.Need-returns-2
 returns-2 c =
-    let at-admit = c .before .before .before .before in
-    size-answer _ _ _ _ (sym (c .before .before .s .given .1) ∙ at-admit .admit .ensures) (λ i. omega (
+    size-answer _ _ _ _ _ (sym (c .before .before .s .given .1) ∙ c .before .before .before .before .admit .ensures) (λ i. omega (
       arith,
-      at-admit .before
-          .shared-slice-known .given i,
+      c .before .before
+          .before .before .before .before .shared-slice-known .given i,
     )) _ (c .formula .ensures)
 
 pub size-spec : {M : Type 1} → statement M

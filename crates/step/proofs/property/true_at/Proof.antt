@@ -9,8 +9,8 @@ use Rattle.step.proofs.property.true_at.Tie as tie
 
 slot-count-requires : tie.Need-slot-count-requires
 slot-count-requires c κs =
-    let entry = c .before .before .before in
-    (let s = sized _ (entry .pre .indexed .accepted) _ (entry .pre .indexed .shaped) in (s .0, s .1))
+    let entry = c .before .before .before .before in
+    let s = sized _ (entry .pre .0 .indexed .accepted) _ (entry .pre .0 .indexed .shaped) in (s .0, s .1)
 
 mul-property-true : tie.Need-mul-property-true
 mul-property-true c = search needs
@@ -26,33 +26,27 @@ part-property-true-end c = search needs
 
 property-true-requires : tie.Need-property-true-requires
 property-true-requires c κs =
-    let entry = c .before .before .before .before .before in (
-      record {
-        indexed = entry .pre .indexed;
-        size = part-long _ (entry .args .pair .now) (entry .pre .size) _
-            (c .before .slot-count .ensures .0);
-      },
+    let entry = c .before .before .before .before .before .before in (
+      record { indexed = entry .pre .0 .indexed; size = part-long _ (entry .args .pair .now) (entry .pre .0 .size) _ (c .before .slot-count .ensures .0) },
+      entry .pre .1,
       c .before .before .if1 .taken,
     )
 
 returns : tie.Need-returns
-returns c =
-    let entry = c .before .before .before .before .before .before in
-    λ d w. c .property-true .ensures d w
-    ∙ ap (holds d (propertyOf d (entry .args .property))) (part-is _ _ (entry .pre .size) _ (c .before .before .slot-count .ensures .0))
-    ∙ state-true d _ (c .before .before .before .if1 .taken) _ _
+returns c = λ d w. c .property-true .ensures d w
+    ∙ ap (holds d (propertyOf (c .before .before .before .before .before .before .before .args .file .now) (c .before .before .before .before .before .before .before .args .piece .now) d (c .before .before .before .before .before .before .before .args .property))) (part-is _ _ (c .before .before .before .before .before .before .before .pre .0 .size) _ (c .before .before .slot-count .ensures .0))
+    ∙ state-true _ _ d _ (c .before .before .before .if1 .taken) _ _
 
 returns-2 : tie.Need-returns-2
-returns-2 c = λ d w. first-true d _ _ _ (c .before .if1 .left) _ (c .if2 .taken)
+returns-2 c = λ d w. first-true _ _ d _ _ _ (c .before .if1 .left) _ (c .if2 .taken)
 
 constraint-true-requires : tie.Need-constraint-true-requires
-constraint-true-requires c κs = search needs
+constraint-true-requires c κs = (_, c .before .before .before .before .before .pre .0)
 
 returns-3 : tie.Need-returns-3
 returns-3 c =
-    let entry = c .before .before .before .before .before in
-    λ d w. pair-true d _ _ _ w _ (entry .pre .indexed .shaped) _ (c .before .before .if1 .left) _ (c .before .if2 .left) _
-    (c .constraint-true .ensures d w)
+    λ d w. pair-true _ _ d _ _ w _ (c .before .before .before .before .before .before .pre .0 .indexed .shaped) _ (c .before .before .if1 .left) _ (c
+    .before .if2 .left) _ (c .constraint-true .ensures d w)
 
 pub true-at-spec : {M : Type 1} → statement M
 true-at-spec =

@@ -1,5 +1,4 @@
 use Rattle.step.proofs.Replays.{broken-before, broken-now}
-use borrow.Author.Needs.{needs}
 use Rattle.step.proofs.replaying.broken_at.Statement.{statement}
 use Rattle.step.proofs.replaying.broken_at.Tie as tie
 
@@ -7,7 +6,9 @@ returns : tie.Need-returns
 returns c = λ d w. broken-before _ _ (c .if1 .taken)
 
 true-at-requires : tie.Need-true-at-requires
-true-at-requires c κs = search needs
+true-at-requires c κs =
+    let entry = c .before .before .before .before in
+    (entry .pre .0, entry .pre .1)
 
 returns-2 : tie.Need-returns-2
 returns-2 c = λ d w. broken-now _ _ _ (c .before .if1 .left) (c .true-at .ensures d w)

@@ -14,8 +14,8 @@ use Rattle.step.proofs.replaying.replay_slots.Tie as tie
 
 slot-count-requires : tie.Need-slot-count-requires
 slot-count-requires c κs =
-    let entry = c .before .before .before in
-    (let s = sized _ (entry .pre .0 .ready .indexed .accepted) _ (entry .pre .0 .ready .indexed .shaped) in (s .0, s .1))
+    let entry = c .before .before .before .before .before in
+    let s = sized _ (entry .pre .0 .ready .indexed .accepted) _ (entry .pre .0 .ready .indexed .shaped) in (s .0, s .1)
 
 mul-load-start : tie.Need-mul-load-start
 mul-load-start c = search needs
@@ -31,31 +31,28 @@ part-load-start-end c = search needs
 
 load-start-requires : tie.Need-load-start-requires
 load-start-requires c κs =
-    let entry = c .before .before .before .before .before in (
+    let entry = c .before .before .before .before .before .before .before in
+    let query = entry .args .query in (
       entry .pre .0 .ready .indexed .accepted,
       entry .pre .0 .ready .indexed .shaped,
-      part-is _ (entry .args .pair .now) (entry .pre .0 .ready .size) _ (c .before .slot-count .ensures .0)
-          ∙ ap (drop (slotCount (entry .args .shape))) (entry .pre .1) ∙ drop-replicate (slotCount (entry .args .shape)) (slotCount
-          (entry .args .shape)) 0,
+      part-is _ (entry .args .pair .now) (entry .pre .0 .ready .size) _ (c
+          .before .slot-count .ensures .0) ∙ ap (drop (slotCount (query .shape))) (entry .pre .1) ∙ drop-replicate (slotCount (query .shape)) (slotCount
+          (query .shape)) 0,
     )
 
 replay-choices-requires : tie.Need-replay-choices-requires
 replay-choices-requires c κs =
-    let entry = c .before .before .before .before .before .before .before .before .before in
-    replayable-same _ _ _ _ _ _ _ (omega (arith, c .before .before .pair .given)) (entry .pre .0)
+    let entry = c .before .before .before .before .before .before .before .before .before .before .before in
+    replayable-same _ _ _ _ _ _ _ _ (omega (arith, c .before .before .pair .given)) (entry .pre .0)
 
 same-length : tie.Need-same-length
 same-length c = search needs
 
 returns : tie.Need-returns
-returns c =
-    let at-load-start = c .before .before .before .before .before .before in
-    let at-slot-count = at-load-start .before .before in
-    let entry = at-slot-count .before .before .before .before in
-    λ d e. c .before .before .replay-choices .ensures d e
-    ∙ ap (λ (s : State). replayed (answer (runTold d (propertyOf d (entry .args .property)) s (entry .args .choices .now))))
-    (put-second _ (entry .args .pair .now) (entry .pre .0 .ready .size) _ (at-slot-count .slot-count .ensures .0) _
-    ∙ at-load-start .load-start .ensures d e)
+returns c = λ d e. c .before .before .replay-choices .ensures d e
+    ∙ ap (λ (s : State). replayed (answer (runTold d (propertyOf (c .before .before .before .before .before .before .before .before .before .before .before .before .before .before .args .file .now) (c .before .before .before .before .before .before .before .before .before .before .before .before .before .before .args .piece .now) d (c .before .before .before .before .before .before .before .before .before .before .before .before .before .before .args .query .property)) s (c .before .before .before .before .before .before .before .before .before .before .before .before .before .before .args .choices .now))))
+    (put-second _ (c .before .before .before .before .before .before .before .before .before .before .before .before .before .before .args .pair .now) (c .before .before .before .before .before .before .before .before .before .before .before .before .before .before .pre .0 .ready .size) _ (c .before .before .before .before .before .before .before .before .slot-count .ensures .0) _
+    ∙ c .before .before .before .before .before .before .load-start .ensures d e)
 
 pub replay-slots-spec : {M : Type 1} → statement M
 replay-slots-spec =

@@ -6,6 +6,9 @@ use borrow.Author.Needs.{needs}
 use Rattle.text.proofs.listing.put_part.Statement.{statement}
 use Rattle.text.proofs.listing.put_part.Tie as tie
 
+slice-aggregate-encode : tie.Need-slice-aggregate-encode
+slice-aggregate-encode c = search needs
+
 encode-requires : tie.Need-encode-requires
 encode-requires c κs = search needs
 
@@ -39,7 +42,7 @@ same-length-2 c = search needs
 returns : tie.Need-returns
 returns c =
     let at-encode = c .before .before .before .before .before .before .before .before in
-    let entry = at-encode .before .before .before .before in (
+    let entry = at-encode .before .before .before .before .before in (
       part-refused _ _ _ _ _ _ _ (at-encode .encode .ensures) (entry .pre .0) _ _ (c .before .before .before .before .before .number .given .1) (c .before
           .before .put-refusal .ensures .0),
       omega (arith, c .before .before .put-refusal .ensures .1),
@@ -55,7 +58,7 @@ returns-2 : tie.Need-returns-2
 returns-2 c =
     let at-count = c .before .before .before .before .before .before in
     let at-encode = at-count .before .before .before in
-    let entry = at-encode .before .before .before .before in
+    let entry = at-encode .before .before .before .before .before in
     let t = is-encoded _ _ _ _ _ _ _ (at-encode .encode .ensures) _ (at-count .count .given .1) in (
       part-written _ _ _ _ _ _ _ (at-encode .encode
           .ensures) (entry .pre .0) _ (at-count .count .given .1) (c .before .before .put-words .ensures .0),
@@ -72,6 +75,7 @@ pub put-part-spec : {M : Type 1} → statement M
 put-part-spec =
     tie.close
     (tie.spec
+    slice-aggregate-encode
     encode-requires
     enum-known-number
     put-refusal-requires

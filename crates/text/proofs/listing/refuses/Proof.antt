@@ -4,6 +4,9 @@ use borrow.Author.Needs.{needs}
 use Rattle.text.proofs.listing.refuses.Statement.{statement}
 use Rattle.text.proofs.listing.refuses.Tie as tie
 
+slice-aggregate-encode : tie.Need-slice-aggregate-encode
+slice-aggregate-encode c = search needs
+
 encode-requires : tie.Need-encode-requires
 encode-requires c κs = search needs
 
@@ -28,4 +31,4 @@ returns-2 c = refused-no _ _ _ _ _ _ _ (c .before .before .before .encode .ensur
 pub refuses-spec : {M : Type 1} → statement M
 refuses-spec =
     tie.close
-    (tie.spec encode-requires enum-told enum-told-2 same-length returns same-length-2 returns-2)
+    (tie.spec slice-aggregate-encode encode-requires enum-told enum-told-2 same-length returns same-length-2 returns-2)

@@ -5,6 +5,9 @@ use borrow.Author.Needs.{needs}
 use Rattle.text.proofs.trace.put_trace.Statement.{statement}
 use Rattle.text.proofs.trace.put_trace.Tie as tie
 
+slice-aggregate-replay : tie.Need-slice-aggregate-replay
+slice-aggregate-replay c = search needs
+
 replay-requires : tie.Need-replay-requires
 replay-requires c κs = search needs
 
@@ -66,6 +69,7 @@ pub put-trace-spec : {M : Type 1} → statement M
 put-trace-spec =
     tie.close
     (tie.spec
+    slice-aggregate-replay
     replay-requires
     put-refusal-requires
     same-length

@@ -16,13 +16,13 @@ use Rattle.search.proofs.search.Reads as search-reads
 use Rattle.clauses.proofs.encode.write_formula.Reads as write-formula-reads
 
 abbrev Inv-loop : tie.InvT-loop
-Inv-loop file property bound budget clauses₀ values₀ trail₀ choices₀ i₀ tries₀ clauses values trail choices i tries = AtBound file property bound budget (record { clauses = clauses₀; values = values₀; trail = trail₀; choices = choices₀ }) i tries clauses values trail choices
+Inv-loop file piece property bound budget clauses₀ values₀ trail₀ choices₀ i₀ tries₀ clauses values trail choices i tries = AtBound file piece property bound budget (record { clauses = clauses₀; values = values₀; trail = trail₀; choices = choices₀ }) i tries clauses values trail choices
 
 abbrev μ-loop : tie.MeasureT-loop
-μ-loop file property bound budget clauses₀ values₀ trail₀ choices₀ i₀ tries₀ clauses values trail choices i tries = bound - i
+μ-loop file piece property bound budget clauses₀ values₀ trail₀ choices₀ i₀ tries₀ clauses values trail choices i tries = bound - i
 
 loop-holds : tie.Need-loop-holds Inv-loop μ-loop
-loop-holds c = standing-start _ (c .before .before .before .before .pre)
+loop-holds c = standing-start _ (c .before .before .before .before .before .pre)
 
 write-formula-requires : tie.Need-write-formula-requires Inv-loop μ-loop
 write-formula-requires c κs =
@@ -31,6 +31,7 @@ write-formula-requires c κs =
       accepted = c .before .loop .inv .ready .accepted;
       property = c .before .loop .inv .ready
           .property;
+      right = c .before .loop .inv .ready .right;
       bound = omega (arith, bound-low (c .before .loop .inv), c .before .loop .inv .ready .bound);
       numbers = bound-numbers (c .before .loop .inv);
       room = bound-room (c .before .loop
@@ -41,13 +42,13 @@ slice-reshare-prefix-search : tie.Need-slice-reshare-prefix-search Inv-loop μ-l
 slice-reshare-prefix-search c =
     let at-loop = c .before .before .before in
     words-in (at-loop .loop .inv) (c .before .write-formula .ensures (at-loop .loop .inv .ready .design) (at-loop .loop .inv .ready .accepted)) (c .before
-    .write-formula .kept .1 .1 .1 .0)
+    .write-formula .kept .1 .1 .1 .1 .0)
 
 slice-aggregate-search : tie.Need-slice-aggregate-search Inv-loop μ-loop
 slice-aggregate-search c =
     let at-loop = c .before .before .before .before in
     sym (length-take-le _ _ (words-in (at-loop .loop .inv) (c .before .before .write-formula .ensures (at-loop .loop .inv .ready .design) (at-loop .loop
-    .inv .ready .accepted)) (c .before .before .write-formula .kept .1 .1 .1 .0)))
+    .inv .ready .accepted)) (c .before .before .write-formula .kept .1 .1 .1 .1 .0)))
 
 slice-relend-prefix-search : tie.Need-slice-relend-prefix-search Inv-loop μ-loop
 slice-relend-prefix-search c =
@@ -85,7 +86,7 @@ add-tries : tie.Need-add-tries Inv-loop μ-loop
 add-tries c =
     let at-write-formula = c .before .before .before .before .before .before .before .before .before .before in
     let at-loop = at-write-formula .before .before in
-    let at-fits = at-loop .before .before .before .before .before in
+    let at-fits = at-loop .before .before .before .before .before .before in
     let f = tries-in (at-loop .loop .inv) (at-write-formula .write-formula .ensures (at-loop .loop .inv .ready .design) (at-loop .loop .inv .ready
     .accepted)) (c .before .before .before .before .before .search .ensures) in let g = at-fits .fits .budget in omega (arith, f, g .fits)
 
@@ -122,7 +123,7 @@ same-length-3 c =
 same-length-4 : tie.Need-same-length-4 Inv-loop μ-loop
 same-length-4 c =
     let at-loop = c .before .before .before .before .before .before .before .before .before .before .before .before .before .before .before .before .before .before .before in
-    c .before .before .decode .kept .1 .1 .1 .1 .0 ∙ ap length (at-loop .loop .inv .choices-kept)
+    c .before .before .decode .kept .1 .1 .1 .1 .1 .0 ∙ ap length (at-loop .loop .inv .choices-kept)
 
 returns : tie.Need-returns Inv-loop μ-loop
 returns c =
