@@ -9,7 +9,7 @@ mod terms;
 pub use large::{chain, design_of_variables, most_gates, LARGE_BOUNDS};
 pub use long::long_tests;
 pub use money_changer::{
-    money_changer, Property, Version, ALL_PROPERTIES, ORIGINAL_PROPERTIES, STATE_PROPERTIES,
+    money_changer, state_properties, Property, Version, ALL_PROPERTIES, ORIGINAL_PROPERTIES,
 };
 pub use small::{barrier, crossing_turns, design_a, minus_three, moved, no_idle, vending};
 
@@ -40,5 +40,5 @@ pub fn all_pieces() -> Vec<(String, Vec<u8>)> {
     let piece = |property: Property| {
         (format!("money-changer-{}.piece", property.name()), boolean_bytes(&property.invariant()))
     };
-    STATE_PROPERTIES.map(piece).to_vec()
+    state_properties().map(piece).collect()
 }

@@ -1,5 +1,6 @@
 -- The table holds: by computation, but for the counts of models and the cases of products, which have a file of their own.
 use mathlib.Core.Path.{refl}
+use mathlib.Core.List.{_++_}
 use Rattle.design.specs.DesignA.{bytesA, pieceA, designA, count, check-A}
 use Rattle.design.specs.Constrained.{bytesMoved, designMoved, check-moved, bytesNoIdle, designNoIdle, check-noIdle}
 use Rattle.design.specs.Multiplied.{check-multiplied}
@@ -17,7 +18,15 @@ use Rattle.clauses.proofs.Constrained.{models-moved, models-noIdle}
 use Rattle.clauses.proofs.Multiplied.{frame-multiplied, bound-multiplied-0, bound-multiplied-2, broken-multiplied, never-multiplied, models-multiplied-1, models-multiplied-2}
 use Rattle.search.specs.Search.{turn, solved}
 use Rattle.search.specs.Solve.{solve}
-use Rattle.verdict.specs.Table.{AllHold, table}
+use Rattle.verdict.specs.Table.{AllHold, bareCases, pieceCases, table}
+
+bare-hold : AllHold bareCases
+unfolding bytesA pieceA bytesMoved bytesNoIdle designA designMoved designNoIdle count checking stepping pieceRight gate onDesign eventReadOf guardReadOf eventReadBy guardReadBy countFrom firstBreak encoding signed wrap turn solved solve
+bare-hold = (refl, (refl, (refl, (refl, (refl, (refl, (refl, (refl, tt))))))))
+
+pieces-hold : AllHold (pieceCases ++ bareCases)
+unfolding bytesA pieceA bytesMoved bytesNoIdle designA designMoved designNoIdle count checking stepping pieceRight gate onDesign eventReadOf guardReadOf eventReadBy guardReadBy countFrom firstBreak encoding signed wrap turn solved solve
+pieces-hold = ((refl, refl, refl, refl, refl), ((refl, refl), ((refl, refl), ((refl, refl), (refl, (refl, (models-lent, (refl, ((refl, refl), (refl, (refl, (refl, (refl, (refl, (refl, (refl, (refl, (refl, (refl, (refl, (refl, (refl, (refl, (refl, (refl, (refl, bare-hold))))))))))))))))))))))))))
 
 pub table-holds : AllHold table
 unfolding bytesA pieceA bytesMoved bytesNoIdle designA designMoved designNoIdle count checking stepping pieceRight gate onDesign eventReadOf guardReadOf eventReadBy guardReadBy countFrom firstBreak encoding signed wrap turn solved solve
@@ -83,7 +92,7 @@ table-holds = (
                                                             models-multiplied-1,
                                                             (
                                                               models-multiplied-2,
-                                                              (refl, (refl, (refl, (refl, (refl, ((refl, refl), ((refl, refl), ((refl, refl), ((refl, refl), ((refl, refl, refl, refl, refl), ((refl, refl), ((refl, refl), ((refl, refl), (refl, (refl, (models-lent, (refl, ((refl, refl), (refl, (refl, (refl, (refl, (refl, (refl, (refl, (refl, (refl, (refl, (refl, (refl, (refl, (refl, (refl, (refl, (refl, (refl, (refl, (refl, (refl, (refl, (refl, (refl, (refl, tt))))))))))))))))))))))))))))))))))))))))))),
+                                                              (refl, (refl, (refl, (refl, (refl, ((refl, refl), ((refl, refl), ((refl, refl), ((refl, refl), pieces-hold))))))))),
                                                             ),
                                                           ),
                                                         ),

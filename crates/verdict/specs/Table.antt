@@ -108,6 +108,59 @@ AllHold (c ∷ cs) = Holds c × AllHold cs
 abbrev four : List ℤ
 four = pos 1 ∷ pos 2 ∷ pos 0 ∷ negℤ (pos 1) ∷ pos 2 ∷ pos 0 ∷ pos 1 ∷ negℤ (pos 2) ∷ pos 0 ∷ negℤ (pos 1) ∷ negℤ (pos 2) ∷ pos 0 ∷ []
 
+-- the arithmetic and the search, without a design
+abbrev pub bareCases : List Case
+bareCases =
+    -- "32767+1 is -32768"; "0-(-32768) is -32768."
+    sum (pos 32767) (pos 1) (negℤ (pos 32768))
+    ∷ difference (pos 0) (negℤ (pos 32768)) (negℤ (pos 32768))
+    -- "n=0, no words: SAT, 0." "n=1, word 0: UNSAT, 0." "n=1, no words: budget 1 SAT false, budget 0 SPENT."
+    ∷ solves 0 [] 0 Sat 0 []
+    ∷ solves 1 (pos 0 ∷ []) 0 Unsat 0 (0 ∷ [])
+    ∷ solves 1 [] 1 Sat 1 (0 ∷ [])
+    ∷ solves 1 [] 0 Spent 0 (0 ∷ [])
+    -- "(1 2)(-1 2)(1 -2)(-1 -2): budget 2 UNSAT, 1 SPENT."
+    ∷ solves 2 four 2 Unsat 2 (0 ∷ 0 ∷ [])
+    ∷ solves 2 four 1 Spent 1 (0 ∷ 0 ∷ [])
+    ∷ []
+
+-- pieces
+abbrev pub pieceCases : List Case
+pieceCases =
+    -- A piece (document 02, R-4) is judged in the invariant's place, and not beside it: the invariant breaks at 3. Its names are Design A's: c is its variable 1.
+    frame lentTrue 21 0 3 371 395
+    ∷ bound lentTrue 0 22 23
+    ∷ bound lentA 0 102 295
+    ∷ broken lentA (2 ∷ 0 ∷ 1 ∷ []) 2
+    ∷ never lentA (0 ∷ 1 ∷ 2 ∷ [])
+    ∷ never lentTrue (2 ∷ 0 ∷ 1 ∷ [])
+    ∷ models lentA 2 1
+    -- "For other properties the piece is not read."
+    ∷ never unreadBy1 (2 ∷ 0 ∷ 1 ∷ [])
+    ∷ broken unreadBy2 (2 ∷ 0 ∷ 1 ∷ []) 3
+    -- "from the piece if it has any bytes, else from the file"
+    ∷ gated bytesA pieceA 0 3 0
+    ∷ gated bytesA noPiece 0 3 0
+    -- a product; 16 levels, and 17
+    ∷ gated bytesA (0x15 ∷ 0x08 ∷ 0x03 ∷ 0x00 ∷ 0x02 ∷ 0x01 ∷ 0x02 ∷ 0x01 ∷ []) 0 3 0
+    ∷ gated bytesA (replicate 15 0x12 ++ 0x10 ∷ 0x01 ∷ []) 0 3 0
+    ∷ gated bytesA (replicate 16 0x12 ++ 0x10 ∷ 0x01 ∷ []) 0 3 8
+    -- not a whole expression; a byte more; an integer; an integer variable as a Boolean; variable 2, which is not there; the next state
+    ∷ gated bytesA (0x12 ∷ 0x16 ∷ 0x01 ∷ 0x00 ∷ 0x00 ∷ 0x02 ∷ []) 0 3 8
+    ∷ gated bytesA (0x10 ∷ 0x01 ∷ 0x00 ∷ []) 0 3 8
+    ∷ gated bytesA (0x02 ∷ 0x01 ∷ []) 0 3 8
+    ∷ gated bytesA (0x11 ∷ 0x01 ∷ []) 0 3 8
+    ∷ gated bytesA (0x11 ∷ 0x02 ∷ []) 0 3 8
+    ∷ gated bytesMoved (0x17 ∷ 0x00 ∷ []) 0 3 8
+    -- "after CHECK and before 14"; no other property refuses a piece
+    ∷ gated [] (0x00 ∷ []) 0 101 1
+    ∷ gated bytesA (0x00 ∷ []) 0 101 8
+    ∷ gated bytesA pieceA 0 101 14
+    ∷ gated bytesA (0x00 ∷ []) 2 101 13
+    ∷ gated bytesA (0x00 ∷ []) 1 3 0
+    ∷ gated bytesMoved (0x00 ∷ []) 2 3 0
+    ∷ []
+
 abbrev pub table : List Case
 table =
     reads bytesA designA
@@ -162,47 +215,4 @@ table =
     -- past the break at 3, and where the guard is false
     ∷ broken invariantA (2 ∷ 0 ∷ 1 ∷ 0 ∷ 1 ∷ []) 3
     ∷ counts designA (2 ∷ 0 ∷ 1 ∷ 0 ∷ 1 ∷ []) 4 4
-    -- A piece (document 02, R-4) is judged in the invariant's place, and not beside it: the invariant breaks at 3. Its names are Design A's: c is its variable 1.
-    ∷ frame lentTrue 21 0 3 371 395
-    ∷ bound lentTrue 0 22 23
-    ∷ bound lentA 0 102 295
-    ∷ broken lentA (2 ∷ 0 ∷ 1 ∷ []) 2
-    ∷ never lentA (0 ∷ 1 ∷ 2 ∷ [])
-    ∷ never lentTrue (2 ∷ 0 ∷ 1 ∷ [])
-    ∷ models lentA 2 1
-    -- "For other properties the piece is not read."
-    ∷ never unreadBy1 (2 ∷ 0 ∷ 1 ∷ [])
-    ∷ broken unreadBy2 (2 ∷ 0 ∷ 1 ∷ []) 3
-    -- "from the piece if it has any bytes, else from the file"
-    ∷ gated bytesA pieceA 0 3 0
-    ∷ gated bytesA noPiece 0 3 0
-    -- a product; 16 levels, and 17
-    ∷ gated bytesA (0x15 ∷ 0x08 ∷ 0x03 ∷ 0x00 ∷ 0x02 ∷ 0x01 ∷ 0x02 ∷ 0x01 ∷ []) 0 3 0
-    ∷ gated bytesA (replicate 15 0x12 ++ 0x10 ∷ 0x01 ∷ []) 0 3 0
-    ∷ gated bytesA (replicate 16 0x12 ++ 0x10 ∷ 0x01 ∷ []) 0 3 8
-    -- not a whole expression; a byte more; an integer; an integer variable as a Boolean; variable 2, which is not there; the next state
-    ∷ gated bytesA (0x12 ∷ 0x16 ∷ 0x01 ∷ 0x00 ∷ 0x00 ∷ 0x02 ∷ []) 0 3 8
-    ∷ gated bytesA (0x10 ∷ 0x01 ∷ 0x00 ∷ []) 0 3 8
-    ∷ gated bytesA (0x02 ∷ 0x01 ∷ []) 0 3 8
-    ∷ gated bytesA (0x11 ∷ 0x01 ∷ []) 0 3 8
-    ∷ gated bytesA (0x11 ∷ 0x02 ∷ []) 0 3 8
-    ∷ gated bytesMoved (0x17 ∷ 0x00 ∷ []) 0 3 8
-    -- "after CHECK and before 14"; no other property refuses a piece
-    ∷ gated [] (0x00 ∷ []) 0 101 1
-    ∷ gated bytesA (0x00 ∷ []) 0 101 8
-    ∷ gated bytesA pieceA 0 101 14
-    ∷ gated bytesA (0x00 ∷ []) 2 101 13
-    ∷ gated bytesA (0x00 ∷ []) 1 3 0
-    ∷ gated bytesMoved (0x00 ∷ []) 2 3 0
-    -- "32767+1 is -32768"; "0-(-32768) is -32768."
-    ∷ sum (pos 32767) (pos 1) (negℤ (pos 32768))
-    ∷ difference (pos 0) (negℤ (pos 32768)) (negℤ (pos 32768))
-    -- "n=0, no words: SAT, 0." "n=1, word 0: UNSAT, 0." "n=1, no words: budget 1 SAT false, budget 0 SPENT."
-    ∷ solves 0 [] 0 Sat 0 []
-    ∷ solves 1 (pos 0 ∷ []) 0 Unsat 0 (0 ∷ [])
-    ∷ solves 1 [] 1 Sat 1 (0 ∷ [])
-    ∷ solves 1 [] 0 Spent 0 (0 ∷ [])
-    -- "(1 2)(-1 2)(1 -2)(-1 -2): budget 2 UNSAT, 1 SPENT."
-    ∷ solves 2 four 2 Unsat 2 (0 ∷ 0 ∷ [])
-    ∷ solves 2 four 1 Spent 1 (0 ∷ 0 ∷ [])
-    ∷ []
+    ∷ pieceCases ++ bareCases

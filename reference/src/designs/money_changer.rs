@@ -28,14 +28,9 @@ pub const ALL_PROPERTIES: [Property; 7] = [
 
 /// Those that are about one state, which a file has as its invariant or a
 /// reviewer as a piece.
-pub const STATE_PROPERTIES: [Property; 6] = [
-    Property::Uic1,
-    Property::Uic2,
-    Property::Stc1,
-    Property::Stc2,
-    Property::Fstc1,
-    Property::Fstc2,
-];
+pub fn state_properties() -> impl Iterator<Item = Property> {
+    ALL_PROPERTIES.into_iter().filter(|&property| property != Property::Dyn)
+}
 
 /// What source 001 asks of the original design.
 pub const ORIGINAL_PROPERTIES: [Property; 5] =

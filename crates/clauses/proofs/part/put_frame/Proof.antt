@@ -53,14 +53,16 @@ same-length c = search needs
 
 returns : tie.Need-returns
 returns c =
-    λ d ok es. frame-more _ _ _ _ (property-written _ (c .before .before .before .before .before .before .before .before .before .before .before .before
-    .before .pre .0) _ _ _ _ (c .before .before .before .before .before .before .before .before .variables .result) (c .before .before .before
-    .before .before .before .before .before .before .frame-start .ensures) refl (c .before .before .before .before .before .before .before .before
-    .before .before .before .before .before .pre .2) (let h : length (c .before .before .before .before .before .before .before .before .variables
-    .result) ≡ maxBits = search needs in h) (c .before .before .before .before .before .before .before .before .variables .ensures) d ok es refl
-    (c .before .before .before .before .before .encode-property .ensures)) (c .before .before .before .if1 .taken) (c .before .put-step .ensures _
-    d _ ok es (c .before .before .before .if1 .taken)
-    (frame-at _ (c .before .before .before .before .before .before .before .before .before .before .before .before .before .pre .0) _ _ _ _ (c .before .before .before .before .before .before .before .before .variables .result) (c .before .before .before .before .before .before .before .before .before .frame-start .ensures) refl (c .before .before .before .before .before .before .before .before .before .before .before .before .before .pre .2) (let h : length (c .before .before .before .before .before .before .before .before .variables .result) ≡ maxBits = search needs in h) (c .before .before .before .before .before .before .before .before .variables .ensures) d ok es))
+    let at-if1 = c .before .before .before in
+    let at-encode-property = at-if1 .before .before in
+    let at-variables = at-encode-property .before .before .before in
+    let at-frame-start = at-variables .before in
+    let entry = at-frame-start .before .before .before .before in
+    λ d ok es. frame-more _ _ _ _ (property-written _ (entry .pre .0) _ _ _ _ (at-variables .variables .result) (at-frame-start .frame-start .ensures)
+    refl (entry .pre .2) (let h : length (at-variables .variables .result) ≡ maxBits = search needs in h) (at-variables .variables .ensures) d ok es
+    refl (at-encode-property .encode-property .ensures)) (at-if1 .if1 .taken) (c .before .put-step .ensures _ d _ ok es (at-if1 .if1 .taken) (frame-at
+    _ (entry .pre .0) _ _ _ _ (at-variables .variables .result) (at-frame-start .frame-start .ensures) refl (entry .pre .2) (let h : length
+    (at-variables .variables .result) ≡ maxBits = search needs in h) (at-variables .variables .ensures) d ok es))
 
 same-length-2 : tie.Need-same-length-2
 same-length-2 c = search needs

@@ -87,7 +87,8 @@ returns c =
     )) refl (at-encode-step .encode-step .ensures .1) (at-put-any .put-any .ensures) (at-put-pairs
     .put-pairs .ensures) (at-encode-step .encode-step .ensures .0) (λ e w. c .before .before .before .before .before .encode-step-property
     .ensures e w piece) (c .before .put-all-ties .ensures) d j ok es low at
-    (step-state piece (c .before .before .before .before .before .before .before .before .before .before .before .before .before .before .before .before .before .before .before .before .before .before .before .before .before .before .before .pre .0) _ _ _ (c .before .before .before .before .before .before .before .before .before .before .before .before .before .variables .result) refl (let h : length (c .before .before .before .before .before .before .before .before .before .before .before .before .before .variables .result) ≡ maxBits = search (c .before .before .before .before .before .before .before .before .before .before .before .before .before .variables .ok, needs) in h) (c .before .before .before .before .before .before .before .before .before .before .before .before .before .variables .ensures) d j ok es low at)
+    (step-state piece (entry .pre .0) _ _ _ (at-variables .variables .result) refl (let h : length (at-variables .variables .result) ≡ maxBits =
+    search (at-variables .variables .ok, needs) in h) (at-variables .variables .ensures) d j ok es low at)
 
 pub put-step-spec : {M : Type 1} → statement M
 put-step-spec =

@@ -49,10 +49,13 @@ same-length : tie.Need-same-length
 same-length c = search needs
 
 returns : tie.Need-returns
-returns c = λ d e. c .before .before .replay-choices .ensures d e
-    ∙ ap (λ (s : State). replayed (answer (runTold d (propertyOf (c .before .before .before .before .before .before .before .before .before .before .before .before .before .before .args .file .now) (c .before .before .before .before .before .before .before .before .before .before .before .before .before .before .args .piece .now) d (c .before .before .before .before .before .before .before .before .before .before .before .before .before .before .args .query .property)) s (c .before .before .before .before .before .before .before .before .before .before .before .before .before .before .args .choices .now))))
-    (put-second _ (c .before .before .before .before .before .before .before .before .before .before .before .before .before .before .args .pair .now) (c .before .before .before .before .before .before .before .before .before .before .before .before .before .before .pre .0 .ready .size) _ (c .before .before .before .before .before .before .before .before .slot-count .ensures .0) _
-    ∙ c .before .before .before .before .before .before .load-start .ensures d e)
+returns c =
+    let at-load-start = c .before .before .before .before .before .before in
+    let at-slot-count = at-load-start .before .before in
+    let entry = at-slot-count .before .before .before .before .before .before in
+    λ d e. c .before .before .replay-choices .ensures d e ∙ ap (λ (s : State). replayed (answer (runTold d (propertyOf (entry .args .file .now) (entry
+    .args .piece .now) d (entry .args .query .property)) s (entry .args .choices .now)))) (put-second _ (entry .args .pair .now) (entry .pre .0 .ready
+    .size) _ (at-slot-count .slot-count .ensures .0) _ ∙ at-load-start .load-start .ensures d e)
 
 pub replay-slots-spec : {M : Type 1} → statement M
 replay-slots-spec =
