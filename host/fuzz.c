@@ -19,7 +19,7 @@
 #include <unistd.h>
 
 static FILE *report;
-static uint64_t seed, calls, too_many_variables, events_read, guards_read, pieces_taken, pieces_refused;
+static uint64_t seed, calls, too_many_variables, events_read, guards_read, pieces_taken, pieces_refused, marks_set, marks_refused;
 
 /* Calls by name, and how many of them were refused. */
 enum { MAX_NAMES = 16 };
@@ -86,14 +86,14 @@ struct lent {
     uint8_t fill;
 };
 
-enum { DESIGN, PIECE, VALUES, STATUSES, ANSWER, CHOICES, CLAUSES, ASSIGNED, TRAIL, REGIONS };
+enum { DESIGN, PIECE, VALUES, STATUSES, MARK, ANSWER, CHOICES, CLAUSES, ASSIGNED, TRAIL, REGIONS };
 
 static struct lent regions[REGIONS] = {
     [DESIGN] = {.name = "design", .capacity = 8 * PAGE},   [VALUES] = {.name = "values", .capacity = PAGE},
     [STATUSES] = {.name = "statuses", .capacity = PAGE},   [ANSWER] = {.name = "answer", .capacity = PAGE},
     [CHOICES] = {.name = "choices", .capacity = PAGE},     [CLAUSES] = {.name = "clauses", .capacity = 512 * PAGE},
     [ASSIGNED] = {.name = "values", .capacity = 64 * PAGE}, [TRAIL] = {.name = "trail", .capacity = 256 * PAGE},
-    [PIECE] = {.name = "piece", .capacity = 8 * PAGE},
+    [PIECE] = {.name = "piece", .capacity = 8 * PAGE},     [MARK] = {.name = "mark", .capacity = PAGE},
 };
 
 static void open_regions(void)
@@ -509,30 +509,80 @@ static void call_check(void)
     require(code == design_code, "check", "another answer", code);
 }
 
-/* A state in lent memory: the first one, which is in `values` and `statuses`, with some entries changed. */
-static void any_state(int16_t *values, uint16_t *statuses)
+/* A state in lent memory. */
+struct lent_state {
+    int16_t *values;
+    uint16_t *statuses, *mark;
+};
+
+static struct lent_state lent_state(void)
 {
-    memset(values, 0, STM_VALUES * sizeof *values);
-    memset(statuses, 0, STM_STATUSES * sizeof *statuses);
-    if (chance(90))
-        stm_start(design, design_len, values, statuses);
-    for (size_t i = 0, n = below(3); i < n; i++)
-        values[chance(80) ? below(4) : below(STM_VALUES)] = (int16_t)PICK(0, 0, 1, 1, 1, 2, 0x7fff, 0x8000, 0xffff);
-    if (chance(40))
-        statuses[chance(80) ? below(2) : below(STM_STATUSES)] = (uint16_t)PICK(0, 0, 1, 1, 1, 2, 3, 15, 16, 255, 256, 65535);
+    struct lent_state s = {
+        .values = lent(VALUES, STM_VALUES * sizeof *s.values),
+        .statuses = lent(STATUSES, STM_STATUSES * sizeof *s.statuses),
+        .mark = lent(MARK, sizeof *s.mark),
+    };
+    return s;
+}
+
+enum { STATE = SET(VALUES) | SET(STATUSES) | SET(MARK) };
+
+static void keep_state(void)
+{
     keep(VALUES);
     keep(STATUSES);
+    keep(MARK);
+}
+
+/* Whether a variable of the design is an integer. */
+static int is_integer(size_t variable)
+{
+    return design_code == 0 && variable < design[design_len - 14] && design[3 * variable] == INTEGER;
+}
+
+/* A value for a variable: of an integer mostly one at an end. */
+static int16_t any_value(size_t variable)
+{
+    if (is_integer(variable))
+        return (int16_t)PICK(0x7fff, 0x7fff, 0x7ffe, 0x8000, 0x8000, 0x8001, 0xffff, 0, 1, 2);
+    return (int16_t)PICK(0, 0, 1, 1, 1, 2, 0x7fff, 0x8000, 0xffff);
+}
+
+/* The first state, with some entries changed. */
+static struct lent_state any_state(void)
+{
+    struct lent_state s = lent_state();
+    int16_t *values = s.values;
+    uint16_t *statuses = s.statuses;
+    memset(values, 0, STM_VALUES * sizeof *values);
+    memset(statuses, 0, STM_STATUSES * sizeof *statuses);
+    s.mark[0] = 0;
+    if (chance(90))
+        stm_start(design, design_len, values, statuses, s.mark);
+    int at_ends = chance(40);
+    for (size_t v = 0; at_ends && v < STM_VALUES; v++)
+        if (is_integer(v))
+            values[v] = any_value(v);
+    for (size_t i = 0, n = below(3); i < n; i++) {
+        size_t variable = chance(80) ? below(4) : below(STM_VALUES);
+        values[variable] = any_value(variable);
+    }
+    if (chance(40))
+        statuses[chance(80) ? below(2) : below(STM_STATUSES)] = (uint16_t)PICK(0, 0, 1, 1, 1, 2, 3, 15, 16, 255, 256, 65535);
+    if (chance(25))
+        s.mark[0] = (uint16_t)PICK(1, 1, 1, 1, 2, 255, 256, 257, 65535);
+    keep_state();
+    return s;
 }
 
 static void call_start(void)
 {
-    int16_t *values = lent(VALUES, STM_VALUES * sizeof *values);
-    uint16_t *statuses = lent(STATUSES, STM_STATUSES * sizeof *statuses);
-    keep(VALUES);
-    keep(STATUSES);
-    uint64_t code = stm_start(design, design_len, values, statuses);
-    ended("start", code, SET(DESIGN), SET(VALUES) | SET(STATUSES));
+    struct lent_state s = lent_state();
+    keep_state();
+    uint64_t code = stm_start(design, design_len, s.values, s.statuses, s.mark);
+    ended("start", code, SET(DESIGN), STATE);
     require(code == design_code, "start", "not CHECK's refusal", code);
+    require(code || s.mark[0] == 0, "start", "sets the mark", s.mark[0]);
 }
 
 /* No matrix has more than 16 statuses, so the call on such a state is refused. */
@@ -544,41 +594,56 @@ static int high_status(const uint16_t *statuses)
     return 0;
 }
 
+/* What a call says of a mark: any other than 0 and 1 is refused, at its own place where nothing before it is wrong. */
+static void check_mark(const char *call, uint64_t code, uint16_t mark)
+{
+    int at_mark = code == 11 + 256 * STM_MARK_PLACE;
+    require(design_code || mark <= 1 || STM_NUMBER(code) == 11, call, "takes a mark over 1", mark);
+    require(!at_mark || mark > 1, call, "refuses a mark of 0 or 1", mark);
+    require(design_code || STM_NUMBER(code) != 11 || STM_PLACE(code) <= STM_MARK_PLACE, call, "no such place", code);
+    marks_refused += at_mark != 0;
+}
+
 static void call_step(void)
 {
-    int16_t *values = lent(VALUES, STM_VALUES * sizeof *values);
-    uint16_t *statuses = lent(STATUSES, STM_STATUSES * sizeof *statuses);
+    struct lent_state s = any_state();
     uint8_t *idle = lent(ANSWER, 1);
-    any_state(values, statuses);
     keep(ANSWER);
     uint64_t choice = chance(90) ? below(chance(80) ? 4 : 12) : PICK(63, 64, 255, 256, (uint64_t)1 << 32, UINT64_MAX);
-    int high = high_status(statuses);
-    uint64_t code = stm_step(design, design_len, values, statuses, choice, idle);
-    ended("step", code, SET(DESIGN), SET(VALUES) | SET(STATUSES) | SET(ANSWER));
+    int high = high_status(s.statuses);
+    uint16_t mark = s.mark[0];
+    uint64_t code = stm_step(design, design_len, s.values, s.statuses, s.mark, choice, idle);
+    ended("step", code, SET(DESIGN), STATE | SET(ANSWER));
     require(!design_code || code == design_code, "step", "not CHECK's refusal", code);
     require(design_code || code == 0 || code == 12 || STM_NUMBER(code) == 11, "step", "no such refusal", code);
     require(design_code || !high || STM_NUMBER(code) == 11, "step", "takes a status over 15", code);
-    if (code == 0 && idle[0] == 1) {
+    check_mark("step", code, mark);
+    if (code)
+        return;
+    if (idle[0] == 1) {
         same(VALUES, 0, "an idle step");
         same(STATUSES, 0, "an idle step");
+        same(MARK, 0, "an idle step");
     }
-    require(code || idle[0] <= 1, "step", "idle is not 0 or 1", idle[0]);
+    require(idle[0] <= 1, "step", "idle is not 0 or 1", idle[0]);
+    require(s.mark[0] <= 1 && s.mark[0] >= mark, "step", "takes the mark away", s.mark[0]);
+    marks_set += s.mark[0] > mark;
 }
 
 static void call_holds(void)
 {
-    int16_t *values = lent(VALUES, STM_VALUES * sizeof *values);
-    uint16_t *statuses = lent(STATUSES, STM_STATUSES * sizeof *statuses);
-    uint8_t *holds = lent(ANSWER, 1);
     uint64_t property = any_property();
-    any_state(values, statuses);
+    struct lent_state s = any_state();
+    uint8_t *holds = lent(ANSWER, 1);
     keep(ANSWER);
-    uint64_t code = stm_holds(design, design_len, values, statuses, property, holds);
-    ended("holds", code, SET(DESIGN) | SET(VALUES) | SET(STATUSES), SET(ANSWER));
+    uint64_t code = stm_holds(design, design_len, s.values, s.statuses, s.mark[0], property, holds);
+    ended("holds", code, SET(DESIGN) | STATE, SET(ANSWER));
     require(!design_code || code == design_code, "holds", "not CHECK's refusal", code);
     require(design_code || STM_NUMBER(code) == 11 || code == (property > 1 ? 13 : 0), "holds", "no such refusal", code);
-    require(design_code || !high_status(statuses) || STM_NUMBER(code) == 11, "holds", "takes a status over 15", code);
+    require(design_code || !high_status(s.statuses) || STM_NUMBER(code) == 11, "holds", "takes a status over 15", code);
+    check_mark("holds", code, s.mark[0]);
     require(code || holds[0] <= 1, "holds", "not 0 or 1", holds[0]);
+    require(code || s.mark[0] == 0 || holds[0] == 0, "holds", "a property of a marked state", holds[0]);
 }
 
 /* A list for REPLAY. */
@@ -606,27 +671,32 @@ static const uint8_t *chosen_cell(uint8_t choice)
     return NULL;
 }
 
-/* REPLAY's counts beside a run over STEP. A cell's bytes tell whether its status stands. A cell that runs has had its guard read;
- * one that stands, has no guard and does not run has a false event. */
-static void count_by_steps(const uint8_t *choices, size_t len, uint64_t events, uint64_t guards)
+/* REPLAY's answer beside a run over STEP. A cell's bytes tell whether its status stands. A cell that runs has had its guard read;
+ * one that stands, has no guard and does not run has a false event. No property holds from the step on that sets the mark. */
+static void count_by_steps(const uint8_t *choices, size_t len, const uint64_t answer[REPLAY_LEN])
 {
     int16_t values[STM_VALUES];
-    uint16_t statuses[STM_STATUSES];
-    uint64_t stood = 0, ran = 0, false_events = 0;
-    uint64_t code = stm_start(design, design_len, values, statuses);
+    uint16_t statuses[STM_STATUSES], mark[1];
+    uint64_t stood = 0, ran = 0, false_events = 0, marked_at = 0;
+    uint64_t events = answer[REPLAY_EVENTS], guards = answer[REPLAY_GUARDS];
+    uint64_t code = stm_start(design, design_len, values, statuses, mark);
     require(code == 0, "replay", "takes a design that START refuses", code);
     for (size_t i = 0; i < len; i++) {
         const uint8_t *cell = chosen_cell(choices[i]);
         int stands = cell && statuses[cell[0]] == cell[1];
         uint8_t idle[1] = {7};
-        code = stm_step(design, design_len, values, statuses, choices[i], idle);
+        code = stm_step(design, design_len, values, statuses, mark, choices[i], idle);
         require(code == 0, "replay", "takes a choice that STEP refuses", code);
+        marked_at = mark[0] && marked_at == 0 ? i + 1 : marked_at;
         stood += stands != 0;
         ran += stands && !idle[0];
         false_events += stands && idle[0] && cell[5] == 0;
     }
     require(events == stood, "replay", "another count of events", events);
     require(guards >= ran && guards <= stood - false_events, "replay", "another count of guards", guards);
+    int broken = answer[REPLAY_BROKEN] && answer[REPLAY_STEP] <= marked_at;
+    require(marked_at == 0 || broken, "replay", "not broken where the mark is set", marked_at);
+    marks_set += marked_at != 0;
 }
 
 /* The counts of an answered REPLAY, which are the same for every property. */
@@ -639,7 +709,7 @@ static void check_counts(uint64_t property, const uint8_t *choices, size_t len, 
     int same_counts = again[REPLAY_EVENTS] == events && again[REPLAY_GUARDS] == guards;
     require(same_counts, "replay", "other counts for another property", events);
     if (len < 9 || chance(20))
-        count_by_steps(choices, len, events, guards);
+        count_by_steps(choices, len, answer);
     events_read += events;
     guards_read += guards;
 }
@@ -825,7 +895,7 @@ static void break_at(uint64_t property, const uint8_t *choices, uint64_t step)
 
 static void call_verdict(void)
 {
-    uint64_t property = any_property(), bound = chance(5) ? over_a_byte() : PICK(0, 1, 1, 2, 2, 3, 4, 71, 100, 101, 255);
+    uint64_t property = any_property(), bound = chance(5) ? over_a_byte() : PICK(0, 1, 1, 2, 2, 3, 4, 70, 100, 101, 255);
     uint64_t sizes[SIZE_LEN] = {0}, budget = PICK(0, 1, 2, 5, 20), refusal = formula_refusal(property, bound);
     bound = affordable(property, refusal || bound < 4 ? bound : 4, sizes);
     size_t words = (size_t)sizes[SIZE_WORDS], n = (size_t)sizes[SIZE_VARIABLES];
@@ -980,8 +1050,8 @@ static void choose(const char *list)
     }
 }
 
-/* In so many calls some are on a formula with too many variables, some choices have an event read and no guard, some both, and
- * some pieces are taken and some refused. */
+/* In so many calls some are on a formula with too many variables, some choices have an event read and no guard, some both, some
+ * pieces are taken and some refused, and some steps set the mark and some marks are refused. */
 enum { MANY_CALLS = 50000 };
 
 static void require_all_seen(const char *list)
@@ -994,6 +1064,8 @@ static void require_all_seen(const char *list)
         fault("no guard was read, or one for every event");
     if (pieces_taken == 0 || pieces_refused == 0)
         fault("no piece was taken, or none refused");
+    if (strstr(list, "step") && (marks_set == 0 || marks_refused == 0))
+        fault("no step set the mark, or no mark was refused");
 }
 
 int main(int argc, char **argv)
@@ -1030,7 +1102,8 @@ int main(int argc, char **argv)
     require_all_seen(argv[3]);
     fprintf(report, "\n%" PRIu64 " calls, no fault; %" PRIu64 " refused by 19; events read %" PRIu64 ", guards read %" PRIu64 "; ",
             calls, too_many_variables, events_read, guards_read);
-    fprintf(report, "%" PRIu64 " pieces, %" PRIu64 " bad ones\n", pieces_taken + pieces_refused, pieces_refused);
+    fprintf(report, "%" PRIu64 " pieces, %" PRIu64 " bad ones; ", pieces_taken + pieces_refused, pieces_refused);
+    fprintf(report, "marks set %" PRIu64 ", refused %" PRIu64 "\n", marks_set, marks_refused);
     fclose(report);
     return 0;
 }

@@ -20,8 +20,8 @@ enum { INTEGER = 1, INVARIANT = 0, CONSTRAINT = 2, UNSAT = 1 };
 /* Refusal 8 at place 0: no item with an expression stands there in a design, so it is the piece's. */
 enum { BAD_PIECE = 8 };
 
-/* State bits of an integer and of a status; a Boolean has one. */
-enum { INTEGER_BITS = 16, STATUS_BITS = 4 };
+/* State bits of an integer, of a status, and of a Boolean or the mark. */
+enum { INTEGER_BITS = 16, STATUS_BITS = 4, ONE_BIT = 1 };
 
 static const char USAGE[] =
     "usage: stm check FILE\n"
@@ -206,6 +206,7 @@ static void give_back(const struct memory *m)
 struct state {
     int16_t values[STM_VALUES];
     uint16_t statuses[STM_STATUSES];
+    uint16_t mark[1];
 };
 
 static size_t variables_of(const struct job *j)
@@ -233,9 +234,10 @@ static void start_from(const struct job *j, const struct state *s, int32_t *clau
 {
     size_t unit = 1;
     for (size_t v = 0; v < variables_of(j); v++)
-        unit = put_bits(clauses, unit, (uint16_t)s->values[v], j->design[3 * v] == INTEGER ? INTEGER_BITS : 1);
+        unit = put_bits(clauses, unit, (uint16_t)s->values[v], j->design[3 * v] == INTEGER ? INTEGER_BITS : ONE_BIT);
     for (size_t m = 0; m < matrices_of(j); m++)
         unit = put_bits(clauses, unit, s->statuses[m], STATUS_BITS);
+    put_bits(clauses, unit, s->mark[0], ONE_BIT);
 }
 
 /* The words of a choice's unit clause. */
@@ -280,11 +282,12 @@ static int formula_holds(const struct job *j, const struct state *s, uint64_t bo
 static int state_holds(const struct job *j, const struct state *s)
 {
     uint8_t holds[1] = {0};
-    stm_holds(j->design, j->len, s->values, s->statuses, j->property, holds);
+    stm_holds(j->design, j->len, s->values, s->statuses, s->mark[0], j->property, holds);
     return holds[0];
 }
 
-/* A line of the trace: step, mover, idle, property holds, variables, |, statuses. */
+/* A line of the trace: step, mover, idle, property holds, variables, |, statuses. The mark is not shown; where it is set, no property
+ * holds. */
 static void print_state(const struct job *j, size_t step, const struct state *s, unsigned idle, int holds)
 {
     printf("%zu ", step);
@@ -315,13 +318,13 @@ static int holds_at(const struct job *j, size_t step, const struct state *before
 /* The run of choices that REPLAY accepts, so that no call here is refused. */
 static int print_trace(const struct job *j)
 {
-    struct state before, s = {{0}, {0}};
+    struct state before, s = {{0}, {0}, {0}};
     uint8_t idle[1] = {0};
-    stm_start(j->design, j->len, s.values, s.statuses);
+    stm_start(j->design, j->len, s.values, s.statuses, s.mark);
     for (size_t step = 0; step <= j->choices_len; step++) {
         before = s;
         if (step > 0)
-            stm_step(j->design, j->len, s.values, s.statuses, j->choices[step - 1], idle);
+            stm_step(j->design, j->len, s.values, s.statuses, s.mark, j->choices[step - 1], idle);
         int holds = holds_at(j, step, &before, &s);
         if (holds < 0)
             return REFUSED;

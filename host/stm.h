@@ -10,6 +10,11 @@
  * and for a design of version 2 also 2 for its constraint over two successive states; a bound is 0 to 100. A greater one is
  * refused. Refusals are listed in the order of their tests.
  *
+ * A state has a mark beside its values and statuses: 0 at the start, and 1 from the step on in which a sum, difference or product of
+ * a statement or condition that was carried out had an exact value outside -32,768 to 32,767. The value wraps all the same. Sums in
+ * guards, events and properties wrap without a mark. Where the mark is 1 every property is false; of property 2 the later state's
+ * mark decides.
+ *
  * A piece is a property kept outside the design. With property 0, a piece of any bytes stands in the place of the file's
  * invariant: one Boolean expression that fills its length, at most 16,384 bytes, over the design's variables and matrices, without
  * the operators that read the next state. Else the call is refused by 8 at place 0. An empty piece is none: property 0 is then the
@@ -25,9 +30,11 @@
 #define STM_NUMBER(code) ((unsigned)((code) & 255u))
 #define STM_PLACE(code) ((uint64_t)((code) >> 8))
 
-/* A state: the variables' values and the matrices' statuses, 0 where there is none. */
+/* A state: the variables' values and the matrices' statuses, 0 where there is none, and the mark. Refusal 11 tells the first entry that
+ * does not fit: values from place 0, statuses from place 32, and last the mark, which is 0 or 1, at place 40. */
 #define STM_VALUES 32
 #define STM_STATUSES 8
+#define STM_MARK_PLACE (STM_VALUES + STM_STATUSES)
 
 /* The most variables of a formula: a literal is an int32_t. */
 #define STM_MAX_VARIABLES INT32_MAX
@@ -35,17 +42,19 @@
 /* CHECK: refusals 1 to 10. Every other call on a design has these first. */
 uint64_t stm_check(const uint8_t *design, size_t design_len);
 
-/* START: writes the first state. */
-uint64_t stm_start(const uint8_t *design, size_t design_len, int16_t values[STM_VALUES], uint16_t statuses[STM_STATUSES]);
+/* START: writes the first state, whose mark is 0. */
+uint64_t stm_start(const uint8_t *design, size_t design_len, int16_t values[STM_VALUES], uint16_t statuses[STM_STATUSES],
+                   uint16_t mark[1]);
 
-/* STEP: 11, 12. Replaces the state by the next one; idle[0] is 1 where the choice was disabled, else 0. */
+/* STEP: 11, 12. Replaces the state, mark included, by the next one; a mark of 1 stays. idle[0] is 1 where the choice was disabled,
+ * else 0. */
 uint64_t stm_step(const uint8_t *design, size_t design_len, int16_t values[STM_VALUES], uint16_t statuses[STM_STATUSES],
-                  uint64_t choice, uint8_t idle[1]);
+                  uint16_t mark[1], uint64_t choice, uint8_t idle[1]);
 
-/* HOLDS: 11, 13. It takes no piece. holds[0] is 1 where the property is true in the state, else 0. One state does not decide a
- * constraint: property 2 is refused by 13 for every design. */
+/* HOLDS: 11, 13. It takes no piece. holds[0] is 1 where the property is true in the state, else 0, and so where the mark is 1. One
+ * state does not decide a constraint: property 2 is refused by 13 for every design. */
 uint64_t stm_holds(const uint8_t *design, size_t design_len, const int16_t values[STM_VALUES],
-                   const uint16_t statuses[STM_STATUSES], uint64_t property, uint8_t holds[1]);
+                   const uint16_t statuses[STM_STATUSES], uint16_t mark, uint64_t property, uint8_t holds[1]);
 
 /* REPLAY: 13, 8 for the piece, 14, 12. A choice is a byte. answer[0] is 1 where the choices break the property, and answer[1] the
  * first step that does; else both are 0. Property 2 breaks at step 1 or later, since step 0 has no state before it. answer[2] is

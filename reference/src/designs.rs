@@ -4,14 +4,17 @@ mod large;
 mod long;
 mod money_changer;
 mod small;
-mod terms;
+pub mod terms;
 
 pub use large::{chain, design_of_variables, most_gates, LARGE_BOUNDS};
 pub use long::long_tests;
 pub use money_changer::{
     money_changer, state_properties, Property, Version, ALL_PROPERTIES, ORIGINAL_PROPERTIES,
 };
-pub use small::{barrier, crossing_turns, design_a, minus_three, moved, no_idle, vending};
+pub use small::{
+    barrier, branch_taken, crossing_turns, design_a, later_mark, minus_three, moved, negated,
+    no_idle, vending, wrapping_guard,
+};
 
 use crate::builder::{boolean_bytes, file_bytes};
 

@@ -15,11 +15,13 @@ macro_rules! entries {
                 (design: *const u8, design_len: usize)
                 (values: *mut [i16; $crate::design::MAX_VARIABLES])
                 (statuses: *mut [u16; $crate::design::MAX_MATRICES])
+                (mark: *mut [u16; 1])
             ];
             stm_step[
                 (design: *const u8, design_len: usize)
                 (values: *mut [i16; $crate::design::MAX_VARIABLES])
                 (statuses: *mut [u16; $crate::design::MAX_MATRICES])
+                (mark: *mut [u16; 1])
                 (choice: u64)
                 (idle: *mut [u8; 1])
             ];
@@ -27,6 +29,7 @@ macro_rules! entries {
                 (design: *const u8, design_len: usize)
                 (values: *const [i16; $crate::design::MAX_VARIABLES])
                 (statuses: *const [u16; $crate::design::MAX_MATRICES])
+                (mark: u16)
                 (property: u64)
                 (holds: *mut [u8; 1])
             ];

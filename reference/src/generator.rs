@@ -3,6 +3,7 @@
 mod calls;
 mod choices;
 mod constraints;
+pub mod counters;
 mod faults;
 mod files;
 mod known;

@@ -43,8 +43,8 @@ fn answered(operations: &mut impl Operations, request: &str) -> Option<String> {
     match fields[..] {
         ["check", d] => check(operations, d),
         ["start", d] => start(operations, d),
-        ["step", d, v, s, choice] => step(operations, d, v, s, choice),
-        ["holds", d, v, s, property] => holds(operations, d, v, s, property),
+        ["step", d, v, s, mark, choice] => step(operations, d, state(v, s, mark)?, choice),
+        ["holds", d, v, s, mark, property] => holds(operations, d, state(v, s, mark)?, property),
         ["solve", n, words, ref rest @ ..] => solve(operations, n, words, rest),
         [operation, d, piece, property, ref rest @ ..] => {
             let asked = Asked::new(d, piece, property)?;
@@ -81,25 +81,18 @@ fn start(operations: &mut impl Operations, d: &str) -> Option<String> {
     finish(operations.start(&bytes(d)?), |state| format!("ok {}", state_text(&state)))
 }
 
-fn step(
-    operations: &mut impl Operations,
-    d: &str,
-    v: &str,
-    s: &str,
-    choice: &str,
-) -> Option<String> {
-    let answer = operations.step(&bytes(d)?, &state(v, s)?, number(choice)?);
+fn step(operations: &mut impl Operations, d: &str, state: State, choice: &str) -> Option<String> {
+    let answer = operations.step(&bytes(d)?, &state, number(choice)?);
     finish(answer, |stepped| format!("ok {} {}", state_text(&stepped.state), stepped.idle as u8))
 }
 
 fn holds(
     operations: &mut impl Operations,
     d: &str,
-    v: &str,
-    s: &str,
+    state: State,
     property: &str,
 ) -> Option<String> {
-    let answer = operations.holds(&bytes(d)?, &state(v, s)?, number(property)?);
+    let answer = operations.holds(&bytes(d)?, &state, number(property)?);
     finish(answer, |holds| format!("ok {}", holds as u8))
 }
 
@@ -229,8 +222,8 @@ fn refusal_text(refusal: &Refusal) -> String {
     format!("refused {} at {}", refusal.number, refusal.place)
 }
 
-fn state_text(state: &State) -> String {
-    format!("{} {}", list_text(&state.values), list_text(&state.statuses))
+pub fn state_text(state: &State) -> String {
+    format!("{} {} {}", list_text(&state.values), list_text(&state.statuses), state.mark)
 }
 
 /// The first elements; never more than there are, whatever a call answered.
@@ -309,10 +302,10 @@ impl Asked {
     }
 }
 
-fn state(values: &str, statuses: &str) -> Option<State> {
+fn state(values: &str, statuses: &str, mark: &str) -> Option<State> {
     let values = list(values)?.try_into().ok()?;
     let statuses = list(statuses)?.try_into().ok()?;
-    Some(State { values, statuses })
+    Some(State { values, statuses, mark: number(mark)? })
 }
 
 /// A lent buffer: element i is (37 i + 11) mod 251 before the call.

@@ -1,5 +1,5 @@
-//! One step of document 01, with the constraint and the order of tests of
-//! document 02: START, STEP, HOLDS and REPLAY.
+//! One step of document 01, with the constraint, the order of tests and the
+//! mark of document 02: START, STEP, HOLDS and REPLAY.
 
 use crate::design::{
     refusal, Boolean, Cell, CellKind, Design, Integer, Kind, Mover, Refusal, Statement,
@@ -8,15 +8,27 @@ use crate::design::{
 use crate::pair::Pair;
 use crate::query::{Claim, Query};
 
+/// The place of the mark in refusal 11, after the values and the statuses.
+pub const MARK_PLACE: usize = MAX_VARIABLES + MAX_MATRICES;
+
 /// The lent form of a state; entries that the design does not use are 0.
 #[derive(Clone, Copy, Debug, PartialEq, Eq, Hash)]
 pub struct State {
     pub values: [i16; MAX_VARIABLES],
     pub statuses: [u8; MAX_MATRICES],
+    /// 1 once a statement or condition has passed an end of the integers, else
+    /// 0. Any other number is refused.
+    pub mark: u16,
 }
 
 impl State {
-    pub const ZERO: State = State { values: [0; MAX_VARIABLES], statuses: [0; MAX_MATRICES] };
+    pub const ZERO: State =
+        State { values: [0; MAX_VARIABLES], statuses: [0; MAX_MATRICES], mark: 0 };
+
+    /// An end has been passed: no property is true here.
+    fn marked(&self) -> bool {
+        self.mark == 1
+    }
 }
 
 #[derive(Clone, Copy, Debug, PartialEq, Eq)]
@@ -56,7 +68,7 @@ pub enum Tests {
 /// The tests of a normal cell, in their order: status, event, guard.
 const TESTS: usize = 3;
 
-/// START: initial values, every status 0.
+/// START: initial values, every status 0, no mark.
 pub fn start(design: &Design) -> State {
     let mut state = State::ZERO;
     for (value, variable) in state.values.iter_mut().zip(&design.variables) {
@@ -125,7 +137,8 @@ pub fn run(design: &Design, choices: &[u8], tests: Tests) -> Run {
 fn check_state(design: &Design, state: &State) -> Result<(), Refusal> {
     let bad_value = (0..MAX_VARIABLES).find(|&i| !value_fits(design, i, state.values[i]));
     let bad_status = || (0..MAX_MATRICES).find(|&i| !status_fits(design, i, state.statuses[i]));
-    match bad_value.or_else(|| bad_status().map(|i| MAX_VARIABLES + i)) {
+    let bad_mark = || (state.mark > 1).then_some(MARK_PLACE);
+    match bad_value.or_else(|| bad_status().map(|i| MAX_VARIABLES + i)).or_else(bad_mark) {
         Some(index) => Err(refusal(11, index)),
         None => Ok(()),
     }
@@ -155,14 +168,17 @@ pub fn holds_at(design: &Design, claim: &Claim, run: &[Stepped], i: usize) -> bo
 /// `before` is the state that the last choice acted on. The first state has
 /// none, and no constraint is false there.
 fn claim_holds(design: &Design, claim: &Claim, before: Option<&State>, state: &State) -> bool {
+    if state.marked() {
+        return false;
+    }
     match claim {
-        Claim::Invariant(e) => boolean(Pair::one(state), e),
+        Claim::Invariant(e) => truth(Pair::one(state), e),
         Claim::NoInvalidCell => {
             let invalid = |cell: &&Cell| cell.kind == CellKind::Invalid;
             !design.cells.iter().filter(invalid).any(|cell| at_place(design, state, cell))
         }
         Claim::Constraint(e) => {
-            before.is_none_or(|earlier| boolean(Pair { earlier, next: state }, e))
+            before.is_none_or(|earlier| truth(Pair { earlier, next: state }, e))
         }
     }
 }
@@ -173,7 +189,7 @@ pub(crate) fn has_status(state: &State, cell: &Cell) -> bool {
 }
 
 fn has_event(design: &Design, state: &State, cell: &Cell) -> bool {
-    boolean(Pair::one(state), design.event_of(cell))
+    truth(Pair::one(state), design.event_of(cell))
 }
 
 /// The cell's matrix has its status and its event is true.
@@ -206,7 +222,7 @@ fn run_cell(design: &Design, cell: &Cell, state: &mut State, tests: Tests) -> us
     let before = &*state;
     let status = || has_status(before, cell);
     let event = || has_event(design, before, cell);
-    let guard = || guard.as_ref().is_none_or(|g| boolean(Pair::one(before), g));
+    let guard = || guard.as_ref().is_none_or(|g| truth(Pair::one(before), g));
     let passed = passed([&status, &event, &guard], tests);
     if passed == TESTS {
         run_list(state, action);
@@ -231,38 +247,62 @@ fn run_list(state: &mut State, list: &[Statement]) {
 
 fn run_statement(state: &mut State, statement: &Statement) {
     let read = Pair::one(&*state);
+    let mut marked = state.marked();
     match statement {
-        Statement::AssignInteger(v, e) => state.values[*v as usize] = integer(read, e),
-        Statement::AssignBoolean(v, e) => state.values[*v as usize] = boolean(read, e) as i16,
+        Statement::AssignInteger(v, e) => {
+            state.values[*v as usize] = integer(read, e, &mut marked);
+            state.mark = marked as u16;
+        }
+        Statement::AssignBoolean(v, e) => {
+            state.values[*v as usize] = boolean(read, e, &mut marked) as i16;
+            state.mark = marked as u16;
+        }
         Statement::If(condition, then, other) => {
-            let list = if boolean(read, condition) { then } else { other };
+            let list = if boolean(read, condition, &mut marked) { then } else { other };
+            state.mark = marked as u16;
             run_list(state, list);
         }
     }
 }
 
-fn integer(states: Pair<State>, e: &Integer) -> i16 {
+/// An exact value in 16 bits; one that does not fit sets the mark.
+fn wrapped(exact: i32, marked: &mut bool) -> i16 {
+    *marked |= i16::try_from(exact).is_err();
+    exact as i16
+}
+
+/// The number that an expression says. Its sums, differences and products set
+/// the mark; each takes its operands as they are wrapped.
+fn integer(states: Pair<State>, e: &Integer, marked: &mut bool) -> i16 {
+    let mut exact = |e: &Integer| integer(states, e, marked) as i32;
     match e {
         Integer::Constant(c) => *c,
         Integer::Variable(v) => states.earlier.values[*v as usize],
         Integer::Status(m) => states.earlier.statuses[*m as usize] as i16,
-        Integer::Sum(a, b) => integer(states, a).wrapping_add(integer(states, b)),
-        Integer::Difference(a, b) => integer(states, a).wrapping_sub(integer(states, b)),
-        Integer::Product(c, a) => integer(states, a).wrapping_mul(*c),
+        Integer::Sum(a, b) => wrapped(exact(a) + exact(b), marked),
+        Integer::Difference(a, b) => wrapped(exact(a) - exact(b), marked),
+        Integer::Product(c, a) => wrapped(*c as i32 * exact(a), marked),
         Integer::NextVariable(v) => states.next.values[*v as usize],
         Integer::NextStatus(m) => states.next.statuses[*m as usize] as i16,
     }
 }
 
-fn boolean(states: Pair<State>, e: &Boolean) -> bool {
+/// As `integer`. Both sides of an and and an or are read, because each may set
+/// the mark.
+fn boolean(states: Pair<State>, e: &Boolean, marked: &mut bool) -> bool {
     match e {
         Boolean::Constant(c) => *c,
         Boolean::Variable(v) => states.earlier.values[*v as usize] == 1,
-        Boolean::Not(a) => !boolean(states, a),
-        Boolean::And(a, b) => boolean(states, a) && boolean(states, b),
-        Boolean::Or(a, b) => boolean(states, a) || boolean(states, b),
-        Boolean::Equal(a, b) => integer(states, a) == integer(states, b),
-        Boolean::Less(a, b) => integer(states, a) < integer(states, b),
+        Boolean::Not(a) => !boolean(states, a, marked),
+        Boolean::And(a, b) => boolean(states, a, marked) & boolean(states, b, marked),
+        Boolean::Or(a, b) => boolean(states, a, marked) | boolean(states, b, marked),
+        Boolean::Equal(a, b) => integer(states, a, marked) == integer(states, b, marked),
+        Boolean::Less(a, b) => integer(states, a, marked) < integer(states, b, marked),
         Boolean::NextVariable(v) => states.next.values[*v as usize] == 1,
     }
+}
+
+/// What a guard, an event or a property says: its sums wrap and set no mark.
+fn truth(states: Pair<State>, e: &Boolean) -> bool {
+    boolean(states, e, &mut false)
 }

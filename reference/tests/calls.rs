@@ -22,7 +22,8 @@ fn state(changes: &[(usize, i16)]) -> State {
     for &(at, value) in changes {
         match at {
             0..=31 => state.values[at] = value,
-            _ => state.statuses[at - 32] = value as u8,
+            32..=39 => state.statuses[at - 32] = value as u8,
+            _ => state.mark = value as u16,
         }
     }
     state
@@ -34,7 +35,7 @@ fn start_is_the_first_state() {
     design.variables[1].initial = -5;
     let mut values = [0; 32];
     values[1] = -5;
-    assert_eq!(start(&design), State { values, statuses: [0; 8] });
+    assert_eq!(start(&design), State { values, statuses: [0; 8], mark: 0 });
 }
 
 #[test]
@@ -48,14 +49,21 @@ fn state_11_then_choice_12() {
         (&[(32, 2)], 32),
         (&[(33, 1)], 33),
         (&[(39, 255)], 39),
+        (&[(40, 2)], 40),
+        (&[(40, 255)], 40),
+        (&[(40, 256)], 40),
+        (&[(40, -1)], 40),
         (&[(32, 2), (31, 1)], 31),
         (&[(33, 1), (32, 2)], 32),
+        (&[(40, 2), (39, 1)], 39),
+        (&[(40, 2), (31, 1)], 31),
     ] {
         assert_eq!(step(&design, &state(changes), 0), refused(11, place));
         assert_eq!(step(&design, &state(changes), 9), refused(11, place));
         assert_eq!(holds(&design, &state(changes), 2), refused(11, place));
     }
     assert!(step(&design, &state(&[(0, 1), (1, -32_768), (32, 1)]), 2).is_ok());
+    assert!(step(&design, &state(&[(40, 1)]), 2).is_ok());
     for choice in [3, 64, 256, u64::MAX] {
         assert_eq!(step(&design, &state(&[]), choice), refused(12, 0));
     }
@@ -108,10 +116,10 @@ fn size_and_encode_13_14_15_16() {
     let design = design_a();
     assert_eq!(size(Query::new(&design, 2), 101), refused(13, 0));
     assert_eq!(size(Query::new(&design, 0), 101), refused(14, 0));
-    let mut words = [5; 45];
+    let mut words = [5; 47];
     let mut call = |property, bound, part, length| {
         let answer = encode(Query::new(&design, property), bound, part, &mut words[..length]);
-        assert!(answer.is_ok() || words == [5; 45]);
+        assert!(answer.is_ok() || words == [5; 47]);
         answer
     };
     assert_eq!(call(2, 101, 200, 0), refused(13, 0));
@@ -119,9 +127,9 @@ fn size_and_encode_13_14_15_16() {
     assert_eq!(call(0, 3, 6, 0), refused(15, 0));
     assert_eq!(call(0, 3, u64::MAX, 0), refused(15, 0));
     assert_eq!(call(0, 3, 5, 4), refused(16, 0));
-    assert_eq!(call(0, 3, 0, 43), refused(16, 0));
-    assert_eq!(call(0, 3, 0, 45), Ok(44));
-    assert_eq!(words[44], 5);
+    assert_eq!(call(0, 3, 0, 45), refused(16, 0));
+    assert_eq!(call(0, 3, 0, 47), Ok(46));
+    assert_eq!(words[46], 5);
 }
 
 #[test]
@@ -153,7 +161,7 @@ fn solve_keeps_what_it_does_not_own() {
 fn decode_13_14_16_18() {
     let design = design_a();
     let n = variables(&design, 0, 2);
-    let flag = |frame: usize, mover: usize| 1 + 475 * frame + 101 + mover;
+    let flag = |frame: usize, mover: usize| 1 + 484 * frame + 103 + mover;
     let call = |property, bound, flags: &[(usize, usize, u8)], lengths: (usize, usize)| {
         let mut values = vec![77; n];
         for frame in 0..2 {
@@ -179,7 +187,7 @@ fn decode_13_14_16_18() {
     assert_eq!(call(0, 2, &[(1, 0, 1)], (n, 4)), refused(18, 0));
     assert_eq!(call(0, 2, &[(0, 2, 1), (0, 1, 1), (1, 0, 1)], (n, 4)), refused(18, 0));
     assert_eq!(call(0, 2, &[(0, 2, 1), (1, 0, 1), (1, 1, 2)], (n, 4)), refused(18, 1));
-    assert_eq!(call(0, 0, &[], (102, 0)), Ok(vec![9; 4]));
+    assert_eq!(call(0, 0, &[], (104, 0)), Ok(vec![9; 4]));
 }
 
 #[test]
@@ -195,7 +203,7 @@ fn verdict_13_14_16() {
         verdict(Query::new(&design, property), bound, 0, lent).map(|v| v.tries)
     };
     let words = size(Query::new(&design, 0), 1).unwrap().words as usize;
-    let full = [words, 577, 577, 1];
+    let full = [words, 588, 588, 1];
     assert_eq!(call(2, 101, [0; 4]), refused(13, 0));
     assert_eq!(call(0, 101, [0; 4]), refused(14, 0));
     assert_eq!(call(0, 1, full), Ok(0));
@@ -225,13 +233,13 @@ fn verdict_leaves_the_last_formula() {
         assert_eq!(clauses[..words.len()], words);
         if last == 3 {
             assert!(clauses[words.len()..].iter().all(|&w| w == 7));
-            assert!(values[1_527..].iter().all(|&v| v == 7));
-            assert!(trail[1_527..].iter().all(|&v| v == 7));
+            assert!(values[1_556..].iter().all(|&v| v == 7));
+            assert!(trail[1_556..].iter().all(|&v| v == 7));
             assert!(satisfies(&words, &values));
             assert_eq!(choices, [2, 0, 1, 7, 7, 7, 7, 7, 7]);
-            assert!(trail[..1_527].iter().all(|&t| t == 0));
+            assert!(trail[..1_556].iter().all(|&t| t == 0));
         } else {
-            assert!(values[..1_052].iter().all(|&v| v == 0));
+            assert!(values[..1_072].iter().all(|&v| v == 0));
             assert_eq!(choices, [2, 0, 1, 7, 7, 7, 7, 7, 7]);
         }
     }

@@ -321,7 +321,8 @@ fn the_trace_of_property_2() {
     assert_eq!(trace(&design_a(), &[2, 0]), "refused 13 at 0\n");
 }
 
-/// The constraint of `moved` has 32 + 32 + 1 + 80 + 1 gates.
+/// The constraint of `moved` has 32 + 32 + 1 + 80 + 1 gates; one more is the
+/// and with the mark.
 #[test]
 fn its_gates_are_step_gates_of_property_2_alone() {
     let (plain, design) = (design_a(), moved());
@@ -331,34 +332,39 @@ fn its_gates_are_step_gates_of_property_2_alone() {
             assert_eq!(size(Query::new(&design, property), bound), expected);
         }
         let found = size(Query::new(&design, CONSTRAINT), bound).unwrap();
-        let step_gates = 371 + 146;
+        let step_gates = 378 + 147;
         assert_eq!((found.property_gates, found.step_gates), (0, step_gates));
-        assert_eq!(found.variables, 1 + bound * (21 + 3 + step_gates) + 21);
+        assert_eq!(found.variables, 1 + bound * (22 + 3 + step_gates) + 22);
         let words = formula_words(&design, CONSTRAINT, bound);
         assert_eq!(found.words, words.len() as u64);
         assert_eq!(found.clauses, words.iter().filter(|&&w| w == 0).count() as u64);
     }
 }
 
-/// The constraint is and(next external, external), one gate: 397, after the
-/// last mover's gates and before the ties. Frame 1 starts at 398.
+/// The constraint is and(next external, external), one gate: 405, after the
+/// last mover's gates and before the ties. Gate 406 is its and with the mark of
+/// frame 1, which starts at 407 and has the mark as its 22nd bit.
 #[test]
 fn its_gates_stand_before_the_ties_and_read_the_next_frame() {
     let design = constrained(&[0x13, 0x17, 0, 0x11, 0]);
-    let ties = 4 * 2 * 3 * 21;
+    let ties = 4 * 2 * 3 * 22;
     for frame in 0..3 {
-        let shift = 396 * frame as i32;
+        let shift = 405 * frame as i32;
         let part = part_words(&design, CONSTRAINT, 3, frame + 1);
         let gates = &part[..part.len() - ties];
-        let (g, next, own) = (397 + shift, 398 + shift, 2 + shift);
-        let expected = [-g, next, 0, -g, own, 0, g, -next, -own, 0];
-        assert_eq!(gates[gates.len() - 10..], expected);
-        // Before it stand the four clauses of the last mover's last mux.
-        let mux: Vec<i32> = gates[gates.len() - 26..gates.len() - 10].to_vec();
+        let (g, next, own) = (405 + shift, 407 + shift, 2 + shift);
+        let (held, mark) = (g + 1, next + 21);
+        let expected = [
+            [-g, next, 0, -g, own, 0, g, -next, -own, 0],
+            [-held, g, 0, -held, -mark, 0, held, -g, mark, 0],
+        ];
+        assert_eq!(gates[gates.len() - 20..], expected.concat());
+        // Before them stand the four clauses of the last mover's last mux.
+        let mux: Vec<i32> = gates[gates.len() - 36..gates.len() - 20].to_vec();
         assert_eq!([mux[2], mux[6], mux[10], mux[14]], [g - 1, 1 - g, g - 1, 1 - g]);
-        assert_eq!(part[part.len() - ties], -(23 + shift));
+        assert_eq!(part[part.len() - ties], -(24 + shift));
         // The frame starts with its flags: there are no property gates.
-        assert_eq!(part[..4], [23 + shift, 24 + shift, 25 + shift, 0]);
+        assert_eq!(part[..4], [24 + shift, 25 + shift, 26 + shift, 0]);
     }
     assert_eq!(part_words(&design, CONSTRAINT, 3, 4), []);
 }
@@ -366,15 +372,13 @@ fn its_gates_stand_before_the_ties_and_read_the_next_frame() {
 #[test]
 fn the_last_clause_takes_the_frames_before_the_last() {
     let gate = constrained(&[0x13, 0x17, 0, 0x11, 0]);
-    assert_eq!(part_words(&gate, CONSTRAINT, 3, 5), [-397, -397 - 396, -397 - 2 * 396, 0]);
-    assert_eq!(part_words(&gate, CONSTRAINT, 1, 3), [-397, 0]);
-    // Without a gate the literal is a bit of the next frame, or of this one.
-    let next = constrained(&[0x17, 0]);
-    assert_eq!(part_words(&next, CONSTRAINT, 2, 4), [-2 - 395, -2 - 2 * 395, 0]);
-    let own = constrained(&[0x12, 0x11, 0]);
-    assert_eq!(part_words(&own, CONSTRAINT, 2, 4), [2, 2 + 395, 0]);
-    let constant = constrained(&[0x10, 1]);
-    assert_eq!(part_words(&constant, CONSTRAINT, 2, 4), [-1, -1, 0]);
+    assert_eq!(part_words(&gate, CONSTRAINT, 3, 5), [-406, -406 - 405, -406 - 2 * 405, 0]);
+    assert_eq!(part_words(&gate, CONSTRAINT, 1, 3), [-406, 0]);
+    // Without a gate of its own the constraint has the and with the mark.
+    for bytes in [&[0x17, 0][..], &[0x12, 0x11, 0], &[0x10, 1]] {
+        let plain = constrained(bytes);
+        assert_eq!(part_words(&plain, CONSTRAINT, 2, 4), [-405, -405 - 404, 0]);
+    }
 }
 
 #[test]
@@ -394,7 +398,7 @@ fn the_printed_clauses_end_in_an_empty_one_at_bound_0() {
     let file = file_bytes(&moved());
     let printed = |bound: u8| String::from_utf8(clauses_output(&[&[2, bound], &file[..]].concat()));
     let first = printed(0).unwrap();
-    assert_eq!((first.lines().count(), first.lines().last()), (1 + 21 + 1, Some("0")));
+    assert_eq!((first.lines().count(), first.lines().last()), (1 + 22 + 1, Some("0")));
     let numbers =
         |text: &str| -> Vec<i32> { text.split_whitespace().map(|n| n.parse().unwrap()).collect() };
     assert_eq!(numbers(&printed(1).unwrap()), formula_words(&moved(), CONSTRAINT, 1));
@@ -422,18 +426,18 @@ fn models_of_moved() {
 fn sizes_and_tries_of_moved() {
     let design = moved();
     for (bound, numbers, tries) in [
-        (0, [22, 23, 45], 0),
-        (1, [563, 1_959, 7_263], 0),
-        (2, [1_104, 3_895, 14_481], 0),
-        (3, [1_645, 5_831, 21_699], 2),
-        (4, [2_186, 7_767, 28_917], 4),
+        (0, [23, 24, 47], 0),
+        (1, [573, 1_995, 7_399], 0),
+        (2, [1_123, 3_966, 14_751], 4),
+        (3, [1_673, 5_937, 22_103], 9),
+        (4, [2_223, 7_908, 29_455], 11),
     ] {
         let size = size(Query::new(&design, CONSTRAINT), bound).unwrap();
         assert_eq!([size.variables, size.clauses, size.words], numbers);
         let words = formula_words(&design, CONSTRAINT, bound);
         assert_eq!(solved(size.variables as usize, &words, u64::MAX).0.tries, tries);
     }
-    assert_eq!(part_words(&design, CONSTRAINT, 1, 3), [542, 0]);
+    assert_eq!(part_words(&design, CONSTRAINT, 1, 3), [-551, 0]);
 }
 
 /// Flags stand straight after the state bits.
@@ -444,7 +448,7 @@ fn decode_of_property_2() {
     let n = variables(&design, CONSTRAINT, 2);
     let mut values = vec![7; n];
     for (frame, mover) in [(0, 2), (1, 0)] {
-        let first = 1 + 541 * frame + 21;
+        let first = 1 + 550 * frame + 22;
         values[first..first + 3].fill(0);
         values[first + mover] = 1;
     }
@@ -452,7 +456,7 @@ fn decode_of_property_2() {
     assert_eq!(decode(query, 2, &values, &mut choices), Ok(()));
     assert_eq!(choices, [2, 0, 9]);
     assert_eq!(decode(query, 2, &values[..n - 1], &mut choices), refused(16, 0));
-    values[1 + 541 + 21] = 0;
+    values[1 + 550 + 22] = 0;
     assert_eq!(decode(query, 2, &values, &mut choices), refused(18, 1));
 }
 

@@ -30,19 +30,19 @@ fn file_has_the_given_bytes() {
 fn sizes() {
     let answer = |bound| size(Query::new(&design_a(), 0), bound).unwrap();
     let common = |n, clauses, words| Size {
-        state_bits: 21,
-        property_gates: 80,
+        state_bits: 22,
+        property_gates: 81,
         movers: 3,
-        step_gates: 371,
+        step_gates: 378,
         variables: n,
         clauses,
         words,
     };
-    assert_eq!(answer(0), common(102, 295, 1_038));
-    assert_eq!(answer(3), common(1_527, 5_413, 20_136));
-    let frame = 21 + 80 + 3 + 371;
-    assert_eq!(frame, 475);
-    assert_eq!(answer(100).variables, 1 + 100 * frame + 101);
+    assert_eq!(answer(0), common(104, 299, 1_050));
+    assert_eq!(answer(3), common(1_556, 5_522, 20_550));
+    let frame = 22 + 81 + 3 + 378;
+    assert_eq!(frame, 484);
+    assert_eq!(answer(100).variables, 1 + 100 * frame + 103);
 }
 
 #[test]
@@ -99,7 +99,7 @@ fn each_list_has_one_assignment() {
         let last = part_words(&design, 0, bound, bound + 2).len();
         let without_last = &words[..words.len() - last];
         for list in all_lists(3, bound as usize) {
-            let flag = |(j, c): (usize, &u8)| 2 + 475 * j as i32 + 101 + *c as i32;
+            let flag = |(j, c): (usize, &u8)| 2 + 484 * j as i32 + 103 + *c as i32;
             let flags: Vec<i32> = list.iter().enumerate().map(flag).collect();
             let values = QuickSearch::new(n, without_last).consequences(&flags).unwrap();
             assert!(satisfies(without_last, &values));

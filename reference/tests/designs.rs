@@ -187,6 +187,7 @@ fn small_designs_break_where_they_should() {
         ("mutex", 0, Some(4)),
         ("peterson", 0, None),
         ("wrap", 0, Some(2)),
+        ("wrap", 1, Some(2)),
         ("nested-ifs", 0, Some(4)),
         ("old-status", 0, Some(3)),
         ("operators", 0, Some(3)),
@@ -194,13 +195,24 @@ fn small_designs_break_where_they_should() {
         ("longest", 0, None),
         ("moved", 0, Some(3)),
         ("moved", 2, Some(3)),
-        ("no-idle", 0, None),
+        // Its counter passes the end: one choice raises the external, 32,768 count.
+        ("no-idle", 0, Some(32_769)),
         ("no-idle", 2, Some(1)),
         ("crossing-turns", 0, None),
         ("crossing-turns", 2, None),
         ("vending", 0, Some(2)),
         ("minus-three", 0, Some(3)),
+        ("minus-three", 1, Some(3)),
+        ("minus-three", 2, Some(3)),
         ("barrier", 0, Some(2)),
+        ("branch-taken", 0, Some(2)),
+        ("branch-taken", 1, Some(2)),
+        ("wrapping-guard", 0, None),
+        ("wrapping-guard", 1, None),
+        ("negated", 0, Some(3)),
+        ("negated", 1, Some(3)),
+        ("later-mark", 0, Some(3)),
+        ("later-mark", 2, Some(3)),
     ];
     let files = all_files();
     for (name, property, step) in expected {

@@ -93,6 +93,9 @@ fn arithmetic_at_both_ends() {
             let less = models[0][next + 32] == 1;
             let equal = models[0][next + 33] == 1;
             assert_eq!((less, equal), (a < b, a == b));
+            // Neither the comparison nor the equality marks. Where the sum wraps, the difference wraps back.
+            let mark = models[0][next + 38] == 1;
+            assert_eq!(mark, a.checked_add(b).is_none());
         }
     }
 }
@@ -143,19 +146,33 @@ fn first_part_is_true_and_the_initial_state() {
     let words = part_words(&design, 0, 1, 0);
     let mut expected = vec![1, 0, 2, 0, -3, 0];
     expected.extend((4..=18).flat_map(|v| [v, 0]));
-    expected.extend((19..=22).flat_map(|v| [-v, 0]));
+    // The status and the mark.
+    expected.extend((19..=23).flat_map(|v| [-v, 0]));
     assert_eq!(words, expected);
 }
 
 #[test]
 fn last_part_negates_the_property_of_every_frame() {
-    // The last gate of the property in frame j is the carry, and-gate 80; the
-    // carry is an or, so it is that gate negated, and less negates it again.
-    let gate = |j: i32| 2 + 475 * j + 21 + 79;
+    // The last gate of the property in frame j is the and with the mark's
+    // negation, after the 80 gates of the less.
+    let gate = |j: i32| 2 + 484 * j + 22 + 80;
     let words = part_words(&design_a(), 0, 3, 5);
     assert_eq!(words, [-gate(0), -gate(1), -gate(2), -gate(3), 0]);
-    assert_eq!(part_words(&design_a(), 1, 2, 4), [-1, -1, -1, 0]);
-    assert_eq!(part_words(&design_a(), 1, 2, 3), []);
+    // The less is an or negated twice: the carry's gate, and so the and's first operand.
+    let (g, mark) = (gate(0), 23);
+    let words = part_words(&design_a(), 0, 0, 1);
+    let expected = [-g, g - 1, 0, -g, -mark, 0, g, 1 - g, mark, 0];
+    assert_eq!(words[words.len() - 10..], expected);
+}
+
+/// Without an invalid cell property 1 is true, and has the and with the mark.
+#[test]
+fn property_1_of_no_invalid_cell() {
+    let gate = |j: i32| 2 + 404 * j + 22;
+    assert_eq!(part_words(&design_a(), 1, 2, 4), [-gate(0), -gate(1), -gate(2), 0]);
+    let (g, mark) = (gate(2), gate(2) - 1);
+    let expected = [-g, 1, 0, -g, -mark, 0, g, -1, mark, 0];
+    assert_eq!(part_words(&design_a(), 1, 2, 3), expected);
 }
 
 #[test]
@@ -164,31 +181,33 @@ fn frame_starts_with_property_flags_and_pairs() {
     design.invariant =
         Boolean::And(Box::new(Boolean::Variable(0)), Box::new(Boolean::Constant(true)));
     let words = part_words(&design, 0, 1, 1);
-    let flags = [24, 25, 26];
+    let flags = [26, 27, 28];
     let expected = [
-        &[-23, 2, 0, -23, 1, 0, 23, -2, -1, 0][..],
+        &[-24, 2, 0, -24, 1, 0, 24, -2, -1, 0][..],
+        // The mark is the last state bit, 23.
+        &[-25, 24, 0, -25, -23, 0, 25, -24, 23, 0],
         &[flags[0], flags[1], flags[2], 0],
-        &[-24, -25, 0, -24, -26, 0, -25, -26, 0],
+        &[-26, -27, 0, -26, -28, 0, -27, -28, 0],
         // The first step gate: xor of the lowest status bit and false.
-        &[-27, 19, -1, 0, -27, -19, 1, 0, 27, -19, -1, 0, 27, 19, 1, 0],
+        &[-29, 19, -1, 0, -29, -19, 1, 0, 29, -19, -1, 0, 29, 19, 1, 0],
     ]
     .concat();
     assert_eq!(words[..expected.len()], expected);
-    // The last tie: the last mover's result for the top bit, 21 bits before
-    // the next frame's top bit, which its one property gate follows.
-    let b = variables(&design, 0, 1) as i32 - 1;
-    let r = b - 21;
-    assert_eq!(words[words.len() - 8..], [-26, -r, b, 0, -26, r, -b, 0]);
+    // The last tie: the last mover's result for the mark, 22 bits before the
+    // next frame's mark, which its two property gates follow.
+    let b = variables(&design, 0, 1) as i32 - 2;
+    let r = b - 22;
+    assert_eq!(words[words.len() - 8..], [-28, -r, b, 0, -28, r, -b, 0]);
 }
 
 /// An empty guard is the literal true, and an and with it is still a gate.
 #[test]
 fn nothing_is_folded() {
     let answer = size(Query::new(&design_a(), 1), 0).unwrap();
-    assert_eq!(answer.property_gates, 0);
-    let enable_and_action = 32 + 1 + 1 + 80 + 21;
-    let guarded = 32 + 1 + 80 + 1 + 80 + 21;
-    assert_eq!(answer.step_gates, enable_and_action + guarded + 21);
+    assert_eq!(answer.property_gates, 1);
+    let enable_and_action = 32 + 1 + 1 + 82 + 22;
+    let guarded = 32 + 1 + 80 + 1 + 82 + 22;
+    assert_eq!(answer.step_gates, enable_and_action + guarded + 22);
 }
 
 #[test]
@@ -197,14 +216,14 @@ fn every_if_has_a_mux_for_every_bit() {
     let before = size(Query::new(&design, 0), 0).unwrap().step_gates;
     let CellKind::Normal { action, .. } = &mut design.cells[0].kind else { panic!() };
     action.push(Statement::If(Boolean::Variable(0), vec![], vec![]));
-    assert_eq!(size(Query::new(&design, 0), 0).unwrap().step_gates, before + 21);
+    assert_eq!(size(Query::new(&design, 0), 0).unwrap().step_gates, before + 22);
 }
 
 #[test]
 fn property_1_has_34_gates_for_a_plain_invalid_cell() {
     let design = money_changer(Version::Original, Property::Uic1);
-    // 32 for equal, 1 for the and, 1 for the chain, twice.
-    assert_eq!(size(Query::new(&design, 1), 0).unwrap().property_gates, 68);
+    // 32 for equal, 1 for the and, 1 for the chain, twice; and the mark's and.
+    assert_eq!(size(Query::new(&design, 1), 0).unwrap().property_gates, 69);
 }
 
 /// A part is written without the rest: the largest designs need only it.

@@ -42,7 +42,7 @@ fn seen_in_design(design: &Design, seen: &mut BTreeSet<&'static str>) {
     }
 }
 
-fn seen_in_state(design: &Design, v: &str, s: &str, seen: &mut BTreeSet<&'static str>) {
+fn seen_in_state(design: &Design, v: &str, s: &str, mark: &str, seen: &mut BTreeSet<&'static str>) {
     let (values, statuses): (Vec<i16>, Vec<u8>) = (numbers(v), numbers(s));
     for (i, value) in values.iter().enumerate() {
         match (design.variables.get(i).map(|v| v.kind), value) {
@@ -61,6 +61,14 @@ fn seen_in_state(design: &Design, v: &str, s: &str, seen: &mut BTreeSet<&'static
             _ => false,
         };
     }
+    match mark {
+        "0" => seen.insert("no mark"),
+        "1" => seen.insert("a mark"),
+        "2" => seen.insert("a mark of 2"),
+        "256" | "257" => seen.insert("a mark that is no byte"),
+        "65535" => seen.insert("the greatest mark"),
+        _ => false,
+    };
 }
 
 fn seen_in_choice(design: &Design, v: &str, choice: &str, seen: &mut BTreeSet<&'static str>) {
@@ -102,13 +110,13 @@ fn requests_reach_the_ends_of_the_step_rule() {
         };
         seen_in_design(&design, &mut seen);
         match fields[..] {
-            ["step", _, v, s, choice] => {
-                seen_in_state(&design, v, s, &mut seen);
+            ["step", _, v, s, mark, choice] => {
+                seen_in_state(&design, v, s, mark, &mut seen);
                 if numbers::<i16>(v).len() == 32 {
                     seen_in_choice(&design, v, choice, &mut seen);
                 }
             }
-            ["holds", _, v, s, _] => seen_in_state(&design, v, s, &mut seen),
+            ["holds", _, v, s, mark, _] => seen_in_state(&design, v, s, mark, &mut seen),
             [_, _, _, _, choices] => seen_in_choices(&design, choices, &mut seen),
             _ => {}
         }
@@ -125,6 +133,11 @@ fn requests_reach_the_ends_of_the_step_rule() {
         "an unused value",
         "a status too high",
         "an unused status",
+        "no mark",
+        "a mark",
+        "a mark of 2",
+        "a mark that is no byte",
+        "the greatest mark",
         "the last mover",
         "one past the last mover",
         "a choice that is no byte",
@@ -244,7 +257,7 @@ fn illegal_reads(file: &[u8], place: usize) -> impl Iterator<Item = u8> + '_ {
 /// The property of a request's call, where it has one.
 fn property(fields: &[&str]) -> Option<u64> {
     let at = match fields[0] {
-        "holds" => 4,
+        "holds" => 5,
         "replay" | "size" | "encode" | "decode" | "verdict" | "trace" => 3,
         _ => return None,
     };

@@ -71,7 +71,7 @@ fn a_break_of_dyn_is_one_of_uic2() {
 fn sizes() {
     let design = money_changer(Version::Original, Property::Uic1);
     let answer = size(Query::new(&design, 0), 1).unwrap();
-    assert_eq!((answer.state_bits, answer.movers), (45, 10));
+    assert_eq!((answer.state_bits, answer.movers), (46, 10));
 }
 
 #[test]
@@ -85,7 +85,7 @@ fn clause_printing_refuses_from_bound_1() {
 /// The tries are those of VERDICT: summed over the bounds.
 #[test]
 fn irrational_properties_by_search() {
-    for (property, step, total) in [(Property::Fstc2, 4, 489), (Property::Fstc1, 5, 4_840)] {
+    for (property, step, total) in [(Property::Fstc2, 4, 4_826), (Property::Fstc1, 5, 48_202)] {
         let design = money_changer(Version::Revised, property);
         let mut tries = 0;
         for bound in 0..=step {

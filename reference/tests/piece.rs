@@ -373,6 +373,6 @@ fn a_piece_of_many_products_is_not_refused_by_19() {
     assert!(piece.len() > 10_000 && piece.len() <= MAX_PIECE);
     let query = Query::new(&design, INVARIANT).with_piece(&piece);
     let found = size(query, MAX_BOUND).unwrap();
-    assert_eq!(found.property_gates, 256 * (12 * 1_280 + 80) + 255);
+    assert_eq!(found.property_gates, 256 * (12 * 1_280 + 80) + 255 + 1);
     assert!(found.variables > 1_400_000_000 && found.variables < 1 << 31);
 }

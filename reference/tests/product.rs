@@ -20,6 +20,8 @@ use support::*;
 const EDGES: [i16; 5] = [i16::MIN, -1, 0, 1, i16::MAX];
 const OTHERS: [i16; 6] = [2, 3, -3, 256, 0x5555, -12_345];
 const GATES: u64 = 1_280;
+/// In an action, with two comparisons and two ors for the mark.
+const MARKING_GATES: u64 = 1_280 + 160 + 2;
 
 fn numbers() -> Vec<i16> {
     [&EDGES[..], &OTHERS].concat()
@@ -155,7 +157,8 @@ fn its_circuit_has_the_same_value() {
             let n = variables(&design, INVARIANT, 1);
             let models = models(n, &formula_words(&design, INVARIANT, 1));
             assert_eq!(models.len(), 1);
-            let bits = &models[0][n - 20..n - 4];
+            // After x stand the status, the mark and the property's gate.
+            let bits = &models[0][n - 22..n - 6];
             let value = bits.iter().rev().fold(0u16, |word, &bit| word << 1 | bit as u16) as i16;
             assert_eq!(value as i32, wrapped(c as i32 * a as i32), "{c} times {a}");
         }
@@ -184,24 +187,24 @@ fn sizes(design: &Design, property: u64, bound: u64) -> Size {
 
 /// Also for the bits of the constant that are 0.
 #[test]
-fn every_constant_has_1280_gates() {
+fn every_constant_has_as_many_gates() {
     let without = sizes(&one_step(1, x()), INVARIANT, 1);
     for c in numbers() {
         let with = sizes(&one_step(1, times(c, x())), INVARIANT, 1);
-        assert_eq!(with.step_gates, without.step_gates + GATES, "{c}");
-        assert_eq!(with.variables, without.variables + GATES, "{c}");
-        assert_eq!(with.clauses, without.clauses + 16 * 272, "{c}");
-        assert_eq!(with.words, without.words + 16 * 992, "{c}");
+        assert_eq!(with.step_gates, without.step_gates + MARKING_GATES, "{c}");
+        assert_eq!(with.variables, without.variables + MARKING_GATES, "{c}");
+        assert_eq!(with.clauses, without.clauses + 18 * 272 + 2 * 3, "{c}");
+        assert_eq!(with.words, without.words + 18 * 992 + 2 * 10, "{c}");
     }
     let twice = sizes(&one_step(1, times(0, times(0, x()))), INVARIANT, 1);
-    assert_eq!(twice.step_gates, without.step_gates + 2 * GATES);
+    assert_eq!(twice.step_gates, without.step_gates + 2 * MARKING_GATES);
     let invariant = Boolean::Less(times(7, x()), x());
     let judged = Design { invariant, ..one_step(1, x()) };
-    assert_eq!(sizes(&judged, INVARIANT, 0).property_gates, GATES + 80);
+    assert_eq!(sizes(&judged, INVARIANT, 0).property_gates, GATES + 80 + 1);
     let constraint = Some(Boolean::Equal(times(7, Integer::NextVariable(0)), x()));
     let constrained = Design { constraint, ..one_step(1, x()) };
     let size = sizes(&constrained, CONSTRAINT, 1);
-    assert_eq!(size.step_gates, without.step_gates + GATES + 32);
+    assert_eq!(size.step_gates, without.step_gates + GATES + 32 + 1);
 }
 
 /// The clauses of xor(a, b) as gate g.
@@ -210,14 +213,14 @@ fn xor(g: i32, a: i32, b: i32) -> Vec<i32> {
 }
 
 /// The invariant 0 = 5 x, at bound 0: x has variables 2 to 17, the status 18
-/// to 21, and the product's gates start at 22. A sum's bit has 5 gates, of
-/// which the second is its result.
+/// to 21, the mark 22, and the product's gates start at 23. A sum's bit has 5
+/// gates, of which the second is its result.
 #[test]
 fn sums_from_the_lowest_bit_of_the_shifted_operand_or_false() {
     let invariant = Boolean::Equal(Integer::Constant(0), times(5, x()));
     let words = part_words(&Design { invariant, ..one_step(1, x()) }, INVARIANT, 0, 1);
     let bit_words = 62;
-    let first_gate = |sum: i32, bit: i32| 22 + 80 * sum + 5 * bit;
+    let first_gate = |sum: i32, bit: i32| 23 + 80 * sum + 5 * bit;
     for sum in 0..16 {
         for bit in 0..16 {
             let at = (16 * sum + bit) as usize * bit_words;
@@ -234,7 +237,7 @@ fn sums_from_the_lowest_bit_of_the_shifted_operand_or_false() {
         }
     }
     // Equal compares with the last sum.
-    let expected = xor(22 + 1_280, -1, first_gate(15, 0) + 1);
+    let expected = xor(23 + 1_280, -1, first_gate(15, 0) + 1);
     let at = 256 * bit_words;
     assert_eq!(words[at..at + expected.len()], expected);
 }

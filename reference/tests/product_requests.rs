@@ -227,8 +227,8 @@ fn seen_at_the_limit(operation: &str, count: usize) -> BTreeSet<(u64, bool)> {
         let request = generator.request();
         let fields: Vec<&str> = request.split(' ').collect();
         let number = |i: usize| fields[i].parse::<u64>().unwrap_or(0);
-        // Files so long are mostly those of many gates; the bounds next to 19 are 69 to 85.
-        if fields[1].len() > 8_000 && matches!(number(4), 69..=85 | 101) {
+        // Files so long are mostly those of many gates; the bounds next to 19 are 68 to 85.
+        if fields[1].len() > 8_000 && matches!(number(4), 68..=85 | 101) {
             let no_part = operation == "encode" && number(5) > number(4) + 2;
             seen.insert((refusal_of(&request), no_part));
         }

@@ -78,10 +78,10 @@ fn clauses_in_order() {
     assert!(printed(&[0, 0], &file).starts_with("1 0\n-2 0\n-3 0\n"));
 }
 
-/// Without an invalid cell property 1 is the literal true in every frame.
+/// Without an invalid cell property 1 has one gate in every frame, its and with the mark.
 #[test]
 fn last_clause_of_property_1() {
-    assert!(printed(&[1, 2], &file_bytes(&design_a())).ends_with("-1 -1 -1 0\n"));
+    assert!(printed(&[1, 2], &file_bytes(&design_a())).ends_with("\n-24 -428 -832 0\n"));
 }
 
 #[test]

@@ -1,7 +1,7 @@
 //! The line protocol, and the generator of its requests.
 
 use reference::builder::file_bytes;
-use reference::designs::{barrier, design_a, minus_three, most_gates, moved};
+use reference::designs::{barrier, branch_taken, design_a, minus_three, most_gates, moved};
 use reference::generator::{all_operations, Generator};
 use reference::operations::{Operations, Reference};
 use reference::protocol::{hex, reply, serve};
@@ -22,16 +22,22 @@ fn one_reply_of_each_operation() {
     let rest = &ZEROS[1..];
     let none = "0,0,0,0,0,0,0,0";
     assert_eq!(with_design("check D"), "ok");
-    assert_eq!(with_design("start D"), format!("ok {ZEROS} {none}"));
-    assert_eq!(with_design(&format!("step D {ZEROS} {none} 2")), format!("ok 1{rest} {none} 0"));
-    assert_eq!(with_design(&format!("holds D {ZEROS} {none} 0")), "ok 1");
+    assert_eq!(with_design("start D"), format!("ok {ZEROS} {none} 0"));
+    let step = |mark: u16| with_design(&format!("step D {ZEROS} {none} {mark} 2"));
+    assert_eq!(step(0), format!("ok 1{rest} {none} 0 0"));
+    assert_eq!(step(1), format!("ok 1{rest} {none} 1 0"));
+    let holds = |mark: u16| with_design(&format!("holds D {ZEROS} {none} {mark} 0"));
+    assert_eq!([holds(0), holds(1)], ["ok 1", "ok 0"]);
+    for mark in [2, 255, 256, 65_535] {
+        assert_eq!([step(mark), holds(mark)], ["refused 11 at 40"; 2]);
+    }
     assert_eq!(with_design("replay D - 0 2,0,1"), "ok 3 2 2");
     assert_eq!(with_design("replay D - 0 -"), "ok none 0 0");
-    assert_eq!(with_design("size D - 0 3"), "ok 21 80 3 371 1527 5413 20136");
+    assert_eq!(with_design("size D - 0 3"), "ok 22 81 3 378 1556 5522 20550");
     assert_eq!(with_design("trace D - 0 -"), "0 - 0 1 0 0 | 0;holds");
-    assert!(with_design("encode D - 0 3 5 6").starts_with("ok 5 -102,-577,-1052,-1527,0 mem "));
+    assert!(with_design("encode D - 0 3 5 6").starts_with("ok 5 -104,-588,-1072,-1556,0 mem "));
     assert!(answer("solve 2 1,0 2 2 9").starts_with("ok sat 1 1,0 mem "));
-    assert!(with_design("verdict D - 0 0 0 1038 102 102 0").starts_with("ok clean 0 mem "));
+    assert!(with_design("verdict D - 0 0 0 1050 104 104 0").starts_with("ok clean 0 mem "));
 }
 
 /// The hash of no bytes, and of the byte 11, by the definition of FNV-1a.
@@ -57,9 +63,10 @@ fn the_examples_of_the_document() {
     let document = include_str!("../../docs/PROTOCOL.md");
     for (start, design, count) in [
         ("With the file of Design A as D (", design_a(), 9),
-        ("With the file of `designs/moved.stm`", moved(), 5),
+        ("With the file of `designs/moved.stm`", moved(), 6),
         ("With the file of `designs/minus-three.stm`", minus_three(), 5),
         ("With the file of `designs/most-gates.stm`", most_gates(), 7),
+        ("With the file of `designs/branch-taken.stm`", branch_taken(), 3),
         ("With the file of `designs/barrier.stm`", barrier(), 4),
         ("With the file of Design A as D, and pieces", design_a(), 11),
     ] {
@@ -85,7 +92,7 @@ fn leading_zeros_and_signs() {
     assert_eq!(with_design("replay D - 0 02,000,1"), "ok 3 2 2");
     assert_eq!(answer("solve 01 -01,-0,00 1 1 09"), answer("solve 1 -1,0,0 1 1 9"));
     let negative = ZEROS.replacen('0', "-0", 1);
-    assert_eq!(with_design(&format!("holds D {negative} 0,0,0,0,0,0,0,0 0")), "ok 1");
+    assert_eq!(with_design(&format!("holds D {negative} 0,0,0,0,0,0,0,0 00 0")), "ok 1");
 }
 
 /// No property and no bound is cut to a byte.
@@ -95,7 +102,7 @@ fn properties_and_bounds_over_a_byte() {
     for number in ["256", "257", "300", "4294967297", "18446744073709551615"] {
         let hash = "cbf29ce484222325";
         for (request, refused) in [
-            (format!("holds D {ZEROS} {none} {number}"), "refused 13 at 0"),
+            (format!("holds D {ZEROS} {none} 0 {number}"), "refused 13 at 0"),
             (format!("replay D - {number} -"), "refused 13 at 0"),
             (format!("size D - {number} 101"), "refused 13 at 0"),
             (format!("size D - 0 {number}"), "refused 14 at 0"),
@@ -115,10 +122,16 @@ fn properties_and_bounds_over_a_byte() {
 fn malformed_requests() {
     let (none, more) = ("0,0,0,0,0,0,0,0", format!("{ZEROS},0"));
     for request in [
-        format!("holds - {more} {none} 0"),
-        format!("holds - {ZEROS} 0,{none} 0"),
-        format!("holds - {} {none} 0", ZEROS.replacen('0', "32768", 1)),
-        format!("holds - {ZEROS} 256{} 0", &none[1..]),
+        format!("holds - {more} {none} 0 0"),
+        format!("holds - {ZEROS} 0,{none} 0 0"),
+        format!("holds - {} {none} 0 0", ZEROS.replacen('0', "32768", 1)),
+        format!("holds - {ZEROS} 256{} 0 0", &none[1..]),
+        format!("holds - {ZEROS} {none} 0"),
+        format!("holds - {ZEROS} {none} - 0"),
+        format!("holds - {ZEROS} {none} -1 0"),
+        format!("holds - {ZEROS} {none} 65536 0"),
+        format!("step - {ZEROS} {none} 0"),
+        format!("step - {ZEROS} {none} 65536 0"),
         format!("trace - - 0 {}", &"0,".repeat(256)[..511]),
     ] {
         assert_eq!(answer(&request), "error", "{request}");

@@ -21,7 +21,7 @@ use Rattle.clauses.specs.declared.cost.GatesAt.{GatesAt}
 use Rattle.clauses.proofs.TextGates.{list-few}
 use Rattle.clauses.proofs.GateCounts.{gates, gates-past, one-gates, two-gates, three-gates}
 
-if-cost : (bits : ℕ) (c : BoolExpr) (a b : Stmts) → statementCost (ifElse c a b) bits ≡ addCosts (addCosts (addCosts (boolCost c) (statementsCost a bits)) (statementsCost b bits)) (cost 0 bits)
+if-cost : (bits : ℕ) (c : BoolExpr) (a b : Stmts) → statementCost (ifElse c a b) bits ≡ addCosts (addCosts (addCosts (boolCost true c) (statementsCost a bits)) (statementsCost b bits)) (cost 0 bits)
 unfolding statementCost
 if-cost bits c a b = refl
 
@@ -47,25 +47,25 @@ module _ (text : List ℕ) (N : Names) (end : ℕ) where
 
   -- assignments, past the operator byte
   module _ (at : ℕ) (h : isRead (assignment text N end at) ≡ true) (r : GatesAt) (bits : ℕ) where
-    pub assigned-int : N .kindOf (getD text at 0) ≡ 1 → r ≡ gatesAt intCost (intExpr text N end maxDepth (at + 1)) → r ≡ stmtGates bits (assignment text N end at)
+    pub assigned-int : N .kindOf (getD text at 0) ≡ 1 → r ≡ gatesAt (intCost true) (intExpr text N end maxDepth (at + 1)) → r ≡ stmtGates bits (assignment text N end at)
     unfolding statementCost
     assigned-int kind e =
-        e ∙ one-gates (assign (getD text at 0)) intCost (λ (s : Stmt). statementCost s bits) (λ a. refl) (intExpr text N end maxDepth (at + 1))
+        e ∙ one-gates (assign (getD text at 0)) (intCost true) (λ (s : Stmt). statementCost s bits) (λ a. refl) (intExpr text N end maxDepth (at + 1))
         ∙ sym (ap (stmtGates bits) (as-int text N end at h kind))
 
-    pub assigned-bool : (N .kindOf (getD text at 0) ≡ 1 → ⊥) → r ≡ gatesAt boolCost (C (at + 1)) → r ≡ stmtGates bits (assignment text N end at)
+    pub assigned-bool : (N .kindOf (getD text at 0) ≡ 1 → ⊥) → r ≡ gatesAt (boolCost true) (C (at + 1)) → r ≡ stmtGates bits (assignment text N end at)
     unfolding statementCost
     assigned-bool kind e =
-        e ∙ one-gates (assignB (getD text at 0)) boolCost (λ (s : Stmt). statementCost s bits) (λ a. refl) (C (at + 1))
+        e ∙ one-gates (assignB (getD text at 0)) (boolCost true) (λ (s : Stmt). statementCost s bits) (λ a. refl) (C (at + 1))
         ∙ sym (ap (stmtGates bits) (as-bool text N end at h kind))
 
   module _ (k at : ℕ) (h : isRead (S k at) ≡ true) where
     pub stated-assign : (bits : ℕ) → getD text at 0 ≡ 0x20 → (r : GatesAt) → r ≡ stmtGates bits (assignment text N end (at + 1)) → r ≡ stmtGates bits (S k at)
     stated-assign bits e r q = q ∙ sym (ap (stmtGates bits) (stmt-assign text N end k at h e))
 
-    module _ (ne : getD text at 0 ≡ 0x20 → ⊥) (c : GatesAt) (e : c ≡ gatesAt boolCost (C (at + 1))) where
+    module _ (ne : getD text at 0 ≡ 0x20 → ⊥) (c : GatesAt) (e : c ≡ gatesAt (boolCost true) (C (at + 1))) where
       first-past : c .next ≡ past (C (at + 1))
-      first-past = gates-past boolCost (C (at + 1)) c e
+      first-past = gates-past (boolCost true) (C (at + 1)) c e
 
       pub if-first : isRead (L (k - 1) (c .next)) ≡ true
       if-first = if-then text N end k at h ne (c .next) first-past
@@ -91,7 +91,7 @@ module _ (text : List ℕ) (N : Names) (end : ℕ) where
         if-joined b x y g u v =
             let q = as-if text N end k at h ne in
             v ∙ ap (λ (z : GatesAt). both z b 0 bits) u
-            ∙ three-gates ifElse boolCost (λ (s : Stmts). statementsCost s bits) (λ (s : Stmt). statementCost s bits) 0 bits (if-cost bits) (C (at + 1)) (L (k - 1)) (sym (ap isRead q) ∙ h) c a b e f g
+            ∙ three-gates ifElse (boolCost true) (λ (s : Stmts). statementsCost s bits) (λ (s : Stmt). statementCost s bits) 0 bits (if-cost bits) (C (at + 1)) (L (k - 1)) (sym (ap isRead q) ∙ h) c a b e f g
             ∙ sym (ap (stmtGates bits) q)
 
   -- the loop of a list: the gates so far, with those of the n statements that are left, are those of the list

@@ -10,13 +10,14 @@ use native.Mathlib.Omega.{arith}
 use lib.ListN.{length, getD, length-map}
 use Rattle.design.specs.Tree.{IntExpr, BoolExpr, constant, variable, status, sum, difference, product, constantB, variableB, notB, andB, orB, equal, less, truth, Design}
 use Rattle.design.specs.State.{Layout, layout, statusSlot}
+use Rattle.step.specs.Pattern.{signed, wrap}
 use Rattle.step.specs.Property.{Property, invariant, noInvalidCell, constraint}
 use Rattle.clauses.specs.Literal.{Literal, positive, negative, negate, trueLiteral, falseLiteral, literalOf}
 use Rattle.clauses.specs.Meaning.{Assignment, literalTrue}
 use Rattle.clauses.specs.Gate.{Gate, and, xor}
-use Rattle.clauses.specs.Circuit.{Built, Build, give, _>>=_, and!, xor!, or!, Bits, Summed, sum!, difference!, shift, addend, product!, negateTop, less!, xors!, chain!, equal! }
-use Rattle.clauses.specs.Expression.{Slots, constantBits, pad, lowest, int!, bool! }
-use Rattle.clauses.specs.Formula.{flat, stepProperty! }
+use Rattle.clauses.specs.Circuit.{Built, Build, give, _>>=_, and!, xor!, or!, Bits, Summed, earlierOf, sum!, difference!, shift, addend, product!, negateTop, less!, xors!, chain!, equal!, WithMark, mark! }
+use Rattle.clauses.specs.Expression.{Slots, constantBits, pad, lowest, sumPasses!, leastOperand, largestOperand, productPasses!, int!, bool!, test! }
+use Rattle.clauses.specs.Formula.{flat, unmarked!, stepProperty! }
 use Rattle.clauses.proofs.Gates.{differ, negate-true, Facts}
 use Rattle.clauses.proofs.Correct.{LiteralBelow}
 use Rattle.clauses.proofs.Arithmetic.{BitsBelow}
@@ -108,11 +109,16 @@ module _ (T : Literal → Literal → Type 0) where
     record SummedAlike (x y : Summed) : Type 0 where
       bits : BitsAlike (x .bits) (y .bits)
       carry : T (x .carry) (y .carry)
+      earlier : T (x .earlier) (y .earlier)
+
+    earlier-alike : {c d e f : Literal} {xs ys : Bits} → T c d → BitsAlike xs ys → T e f → T (earlierOf c xs e) (earlierOf d ys f)
+    earlier-alike p none q = p
+    earlier-alike p (more h r) q = q
 
     sum!-alike : {xs ys us vs : Bits} {c d : Literal} (n : ℕ) → BitsAlike xs us → BitsAlike ys vs → T c d → Alike SummedAlike (sum! xs ys c n) (sum! us vs d n)
     unfolding sum!
-    sum!-alike n none q r = alike-give _ _ _ (record { bits = none; carry = r })
-    sum!-alike n (more h p) none r = alike-give _ _ _ (record { bits = none; carry = r })
+    sum!-alike n none q r = alike-give _ _ _ (record { bits = none; carry = r; earlier = r })
+    sum!-alike n (more h p) none r = alike-give _ _ _ (record { bits = none; carry = r; earlier = r })
     sum!-alike n (more h p) (more i q) r =
         alike-bind _ _ _ _ _ (xor!-alike n h i) λ p₁ p₂ k₁ hp.
         alike-bind _ _ _ _ _ (xor!-alike k₁ hp r) λ s₁ s₂ k₂ hs.
@@ -120,7 +126,7 @@ module _ (T : Literal → Literal → Type 0) where
         alike-bind _ _ _ _ _ (and!-alike k₃ hp r) λ t₁ t₂ k₄ ht.
         alike-bind _ _ _ _ _ (or!-alike k₄ hu ht) λ c₁ c₂ k₅ hc.
         alike-bind _ _ _ _ _ (sum!-alike k₅ p q hc) λ r₁ r₂ k₆ hr.
-        alike-give _ _ _ (record { bits = more hs (hr .bits); carry = hr .carry })
+        alike-give _ _ _ (record { bits = more hs (hr .bits); carry = hr .carry; earlier = earlier-alike r (hr .bits) (hr .earlier) })
 
     difference!-alike : {xs ys us vs : Bits} (n : ℕ) → BitsAlike xs us → BitsAlike ys vs → Alike SummedAlike (difference! xs ys n) (difference! us vs n)
     unfolding difference!
@@ -171,43 +177,86 @@ module _ (T : Literal → Literal → Type 0) where
     lowest-alike none = t .same falseLiteral
     lowest-alike (more h p) = h
 
-    module _ (l : Layout) {s u : Slots} (f : SlotsAlike s u) where
-      int!-alike : (e : IntExpr) (n : ℕ) → Alike BitsAlike (int! l s e n) (int! l u e n)
-      unfolding int!
-      int!-alike (constant c) n = alike-give _ _ _ (each-same (t .same) (constantBits 16 c))
-      int!-alike (variable v) n = alike-give _ _ _ (pad-alike 16 (each-at f none v))
-      int!-alike (status m) n = alike-give _ _ _ (pad-alike 16 (each-at f none (statusSlot l m)))
-      int!-alike (sum a b) n =
-          alike-bind _ _ _ _ _ (int!-alike a n) λ x₁ x₂ k₁ hx.
-          alike-bind _ _ _ _ _ (int!-alike b k₁) λ y₁ y₂ k₂ hy.
-          alike-bind _ _ _ _ _ (sum!-alike k₂ hx hy (t .same falseLiteral)) λ r₁ r₂ k₃ hr. alike-give _ _ _ (hr .bits)
-      int!-alike (difference a b) n =
-          alike-bind _ _ _ _ _ (int!-alike a n) λ x₁ x₂ k₁ hx.
-          alike-bind _ _ _ _ _ (int!-alike b k₁) λ y₁ y₂ k₂ hy.
-          alike-bind _ _ _ _ _ (difference!-alike k₂ hx hy) λ r₁ r₂ k₃ hr. alike-give _ _ _ (hr .bits)
-      int!-alike (product c a) n =
-          alike-bind _ _ _ _ _ (int!-alike a n) λ x₁ x₂ k hx. product!-alike 16 c k hx (each-same (t .same) (constantBits 16 0))
+    -- the mark behind a test
+    mark!-alike : (marks : Bool) {m k : Literal} (test other : Build Literal) (n : ℕ) → T m k → Alike T (test n) (other n) → Alike T (mark! marks m test n) (mark! marks k other n)
+    unfolding mark!
+    mark!-alike false test other n p q = alike-give _ _ _ p
+    mark!-alike true test other n p q = alike-bind _ _ _ _ _ q λ x y k h. or!-alike k p h
 
-      bool!-alike : (e : BoolExpr) (n : ℕ) → Alike T (bool! l s e n) (bool! l u e n)
+    sumPasses!-alike : {x y : Summed} (n : ℕ) → SummedAlike x y → Alike T (sumPasses! x n) (sumPasses! y n)
+    unfolding sumPasses!
+    sumPasses!-alike n h = xor!-alike n (h .earlier) (h .carry)
+
+    productPasses!-alike : (c : ℕ) {xs us : Bits} (n : ℕ) → BitsAlike xs us → Alike T (productPasses! c xs n) (productPasses! c us n)
+    unfolding productPasses!
+    productPasses!-alike c n p =
+        alike-bind _ _ _ _ _ (less!-alike n p (each-same (t .same) (constantBits 16 (wrap (leastOperand (signed c)))))) λ a₁ a₂ k₁ ha.
+        alike-bind _ _ _ _ _ (less!-alike k₁ (each-same (t .same) (constantBits 16 (wrap (largestOperand (signed c))))) p) λ b₁ b₂ k₂ hb.
+        or!-alike k₂ ha hb
+
+    record MarkedAlike {A : Type 0} (R : A → A → Type 0) (x y : WithMark A) : Type 0 where
+      result : R (x .result) (y .result)
+      mark : T (x .mark) (y .mark)
+
+    module _ (l : Layout) {s u : Slots} (f : SlotsAlike s u) (marks : Bool) where
+      int!-alike : (e : IntExpr) {m k : Literal} (n : ℕ) → T m k → Alike (MarkedAlike BitsAlike) (int! marks l s m e n) (int! marks l u k e n)
+      unfolding int!
+      int!-alike (constant c) n r = alike-give _ _ _ (record { result = each-same (t .same) (constantBits 16 c); mark = r })
+      int!-alike (variable v) n r = alike-give _ _ _ (record { result = pad-alike 16 (each-at f none v); mark = r })
+      int!-alike (status q) n r = alike-give _ _ _ (record { result = pad-alike 16 (each-at f none (statusSlot l q)); mark = r })
+      int!-alike (sum a b) n r =
+          alike-bind _ _ _ _ _ (int!-alike a n r) λ x₁ x₂ k₁ hx.
+          alike-bind _ _ _ _ _ (int!-alike b k₁ (hx .mark)) λ y₁ y₂ k₂ hy.
+          alike-bind _ _ _ _ _ (sum!-alike k₂ (hx .result) (hy .result) (t .same falseLiteral)) λ r₁ r₂ k₃ hr.
+          alike-bind _ _ _ _ _ (mark!-alike marks _ _ k₃ (hy .mark) (sumPasses!-alike k₃ hr)) λ m₁ m₂ k₄ hm.
+          alike-give _ _ _ (record { result = hr .bits; mark = hm })
+      int!-alike (difference a b) n r =
+          alike-bind _ _ _ _ _ (int!-alike a n r) λ x₁ x₂ k₁ hx.
+          alike-bind _ _ _ _ _ (int!-alike b k₁ (hx .mark)) λ y₁ y₂ k₂ hy.
+          alike-bind _ _ _ _ _ (difference!-alike k₂ (hx .result) (hy .result)) λ r₁ r₂ k₃ hr.
+          alike-bind _ _ _ _ _ (mark!-alike marks _ _ k₃ (hy .mark) (sumPasses!-alike k₃ hr)) λ m₁ m₂ k₄ hm.
+          alike-give _ _ _ (record { result = hr .bits; mark = hm })
+      int!-alike (product c a) n r =
+          alike-bind _ _ _ _ _ (int!-alike a n r) λ x₁ x₂ k₁ hx.
+          alike-bind _ _ _ _ _ (product!-alike 16 c k₁ (hx .result) (each-same (t .same) (constantBits 16 0))) λ r₁ r₂ k₂ hr.
+          alike-bind _ _ _ _ _ (mark!-alike marks _ _ k₂ (hx .mark) (productPasses!-alike c k₂ (hx .result))) λ m₁ m₂ k₃ hm.
+          alike-give _ _ _ (record { result = hr; mark = hm })
+
+      bool!-alike : (e : BoolExpr) {m k : Literal} (n : ℕ) → T m k → Alike (MarkedAlike T) (bool! marks l s m e n) (bool! marks l u k e n)
       unfolding bool!
-      bool!-alike (constantB b) n = alike-give _ _ _ (t .same (literalOf b))
-      bool!-alike (variableB v) n = alike-give _ _ _ (lowest-alike (each-at f none v))
-      bool!-alike (notB a) n = alike-bind _ _ _ _ _ (bool!-alike a n) λ x y k h. alike-give _ _ _ (t .negated x y h)
-      bool!-alike (andB a b) n =
-          alike-bind _ _ _ _ _ (bool!-alike a n) λ x₁ x₂ k₁ hx. alike-bind _ _ _ _ _ (bool!-alike b k₁) λ y₁ y₂ k₂ hy. and!-alike k₂ hx hy
-      bool!-alike (orB a b) n =
-          alike-bind _ _ _ _ _ (bool!-alike a n) λ x₁ x₂ k₁ hx. alike-bind _ _ _ _ _ (bool!-alike b k₁) λ y₁ y₂ k₂ hy. or!-alike k₂ hx hy
-      bool!-alike (equal a b) n =
-          alike-bind _ _ _ _ _ (int!-alike a n) λ x₁ x₂ k₁ hx. alike-bind _ _ _ _ _ (int!-alike b k₁) λ y₁ y₂ k₂ hy. equal!-alike k₂ hx hy
-      bool!-alike (less a b) n =
-          alike-bind _ _ _ _ _ (int!-alike a n) λ x₁ x₂ k₁ hx. alike-bind _ _ _ _ _ (int!-alike b k₁) λ y₁ y₂ k₂ hy. less!-alike k₂ hx hy
+      bool!-alike (constantB b) n r = alike-give _ _ _ (record { result = t .same (literalOf b); mark = r })
+      bool!-alike (variableB v) n r = alike-give _ _ _ (record { result = lowest-alike (each-at f none v); mark = r })
+      bool!-alike (notB a) n r =
+          alike-bind _ _ _ _ _ (bool!-alike a n r) λ x y k h. alike-give _ _ _ (record { result = t .negated _ _ (h .result); mark = h .mark })
+      bool!-alike (andB a b) n r =
+          alike-bind _ _ _ _ _ (bool!-alike a n r) λ x₁ x₂ k₁ hx.
+          alike-bind _ _ _ _ _ (bool!-alike b k₁ (hx .mark)) λ y₁ y₂ k₂ hy.
+          alike-bind _ _ _ _ _ (and!-alike k₂ (hx .result) (hy .result)) λ r₁ r₂ k₃ hr. alike-give _ _ _ (record { result = hr; mark = hy .mark })
+      bool!-alike (orB a b) n r =
+          alike-bind _ _ _ _ _ (bool!-alike a n r) λ x₁ x₂ k₁ hx.
+          alike-bind _ _ _ _ _ (bool!-alike b k₁ (hx .mark)) λ y₁ y₂ k₂ hy.
+          alike-bind _ _ _ _ _ (or!-alike k₂ (hx .result) (hy .result)) λ r₁ r₂ k₃ hr. alike-give _ _ _ (record { result = hr; mark = hy .mark })
+      bool!-alike (equal a b) n r =
+          alike-bind _ _ _ _ _ (int!-alike a n r) λ x₁ x₂ k₁ hx.
+          alike-bind _ _ _ _ _ (int!-alike b k₁ (hx .mark)) λ y₁ y₂ k₂ hy.
+          alike-bind _ _ _ _ _ (equal!-alike k₂ (hx .result) (hy .result)) λ r₁ r₂ k₃ hr. alike-give _ _ _ (record { result = hr; mark = hy .mark })
+      bool!-alike (less a b) n r =
+          alike-bind _ _ _ _ _ (int!-alike a n r) λ x₁ x₂ k₁ hx.
+          alike-bind _ _ _ _ _ (int!-alike b k₁ (hx .mark)) λ y₁ y₂ k₂ hy.
+          alike-bind _ _ _ _ _ (less!-alike k₂ (hx .result) (hy .result)) λ r₁ r₂ k₃ hr. alike-give _ _ _ (record { result = hr; mark = hy .mark })
+
+    test!-alike : (l : Layout) {s u : Slots} → SlotsAlike s u → (e : BoolExpr) (n : ℕ) → Alike T (test! l s e n) (test! l u e n)
+    unfolding test!
+    test!-alike l f e n = alike-bind _ _ _ _ _ (bool!-alike l f false e n (t .same falseLiteral)) λ x y k h. alike-give _ _ _ (h .result)
 
     -- property 2 over a state and another next state
     pub stepProperty-alike : (d : Design) (p : Property) (s : Slots) {u v : Slots} (n : ℕ) → SlotsAlike u v → Alike T (stepProperty! d p s u n) (stepProperty! d p s v n)
-    unfolding stepProperty!
+    unfolding stepProperty! unmarked!
     stepProperty-alike d (invariant e) s n f = alike-give _ _ _ (t .same trueLiteral)
     stepProperty-alike d noInvalidCell s n f = alike-give _ _ _ (t .same trueLiteral)
-    stepProperty-alike d (constraint e) s n f = bool!-alike (layout d) (each-append (each-same (each-same (t .same)) s) f) e n
+    stepProperty-alike d (constraint e) s n f =
+        alike-bind _ _ _ _ _ (test!-alike (layout d) (each-append (each-same (each-same (t .same)) s) f) e n) λ x y k h.
+        and!-alike k h (t .negated _ _ (lowest-alike (each-at f none (layout d .mark))))
 
 -- literals of one truth under an assignment
 module _ (ρ : Assignment) where

@@ -6,7 +6,7 @@ use Prim.Native.Nat.{ℕ, zero, suc, _+_, _*_, _<_, _≤_}
 use native.Mathlib.Omega.{arith}
 use lib.ListN.{length, getD, replicate, length-map}
 use Rattle.design.specs.Tree.{BoolExpr, constantB, Kind, boolean, integer, external, Variable, Cell, InvalidCell, Design, Mover, cell, raise, ifExternal, externals, movers}
-use Rattle.design.specs.State.{width, statusWidth, widths}
+use Rattle.design.specs.State.{width, statusWidth, markWidth, widths}
 use Rattle.design.specs.Limits.{maxVariables, maxCells, maxMovers, maxDepth, maxNest, maxBits}
 use Rattle.design.specs.Expression.{Names, withLater, boolExpr}
 use Rattle.design.specs.DesignFile.{item, Matrix, Entry, normal, invalid, eventAt, guard, c-matrix, c-event, c-guard, c-middle, c-past, c-kind, cellAt}
@@ -27,7 +27,7 @@ use Rattle.clauses.proofs.Bytes.{bool-bytes, list-bytes}
 
 -- an event has at most 255 bytes
 abbrev Cheap : BoolExpr → Type 0
-Cheap e = gatesIn (boolCost e) ≤ gatesOfEvent
+Cheap e = gatesIn (boolCost false e) ≤ gatesOfEvent
 
 abbrev AllCheap : List BoolExpr → Type 0
 AllCheap [] = Unit {0}
@@ -89,20 +89,20 @@ module _ (file : List ℕ) (bytes : (i : ℕ) → getD file i 0 < 256) where
   events-cheap [] at past r = tt
   events-cheap (x ∷ xs) at past r =
       let e = event-reads file E N at x (r .0) (r .1) in
-      (omega (arith, bool-bytes file N (r .0) maxDepth (at + 1) .of x (r .0) (e .reads), e .past, bytes at), events-cheap xs (r .0) past (r .2))
+      (omega (arith, bool-bytes file N (r .0) false maxDepth (at + 1) .of x (r .0) (e .reads), e .past, bytes at), events-cheap xs (r .0) past (r .2))
 
   rows-cheap : (rows : List (List BoolExpr)) (m at past : ℕ) → Rows file m at rows past → RowsCheap rows
   rows-cheap [] m at past r = tt
   rows-cheap (x ∷ xs) m at past r = (events-cheap x at (r .0) (r .2), rows-cheap xs (m + 1) (r .0) past (r .3))
 
-  guard-bytes : (at k : ℕ) (g : BoolExpr) (n : ℕ) → guard file E N at k ≡ item g n → gatesIn (boolCost g) + gatesOfByte * (at + 8) ≤ gatesOfByte * c-middle file at
+  guard-bytes : (at k : ℕ) (g : BoolExpr) (n : ℕ) → guard file E N at k ≡ item g n → gatesIn (boolCost false g) + gatesOfByte * (at + 8) ≤ gatesOfByte * c-middle file at
   unfolding boolCost
   guard-bytes at zero g n e =
       let q : constantB true ≡ g = item-same _ _ _ _ e in
-      let z : gatesIn (boolCost g) ≡ 0 = ap (λ x. gatesIn (boolCost x)) (sym q) in
+      let z : gatesIn (boolCost false g) ≡ 0 = ap (λ x. gatesIn (boolCost false x)) (sym q) in
       omega arith
   guard-bytes at (suc k) g n e =
-      bool-bytes file N (c-middle file at) maxDepth (at + 8) .of g (c-middle file at)
+      bool-bytes file N (c-middle file at) false maxDepth (at + 8) .of g (c-middle file at)
       (filling-inv 8 at (c-middle file at) (boolExpr file N (c-middle file at) maxDepth (at + 8)) g n e .0)
 
   module _ (bits : ℕ) (few : bits ≤ maxBits) (f : ℕ → ℕ → BoolExpr) (cheap : (m e : ℕ) → Cheap (f m e)) where
@@ -115,13 +115,13 @@ module _ (file : List ℕ) (bytes : (i : ℕ) → getD file i 0 < 256) where
     unfolding moverCost enableCost effectCost invalidCost
     entry-bytes at (normal c) r =
         let e = cheap (c-matrix file at) (c-event file at) in
-        let q = ap (λ x. gatesIn (boolCost x)) (r .1 .event) in
+        let q = ap (λ x. gatesIn (boolCost false x)) (r .1 .event) in
         let g = guard-bytes at (c-guard file at) (c .guard) (c-middle file at) (r .1 .guard) in
         let a = list-bytes file N (c-past file at) bits few maxNest (c-middle file at) .of (c .action) (c-past file at) (r .1 .action) in
         omega arith
     entry-bytes at (invalid p) r =
         let e = cheap (c-matrix file at) (c-event file at) in
-        let q = ap (λ x. gatesIn (boolCost x)) (r .1 .event) in
+        let q = ap (λ x. gatesIn (boolCost false x)) (r .1 .event) in
         omega arith
 
     cell-bytes : (before at : ℕ) (x : Entry) (n : ℕ) → cellAt file E N (matricesOffset file) f before at ≡ item x n → entryGates x + gatesOfByte * at ≤ gatesOfByte * n + gatesOfEvent
@@ -147,7 +147,9 @@ module _ (file : List ℕ) (bytes : (i : ℕ) → getD file i 0 < 256) (d : Desi
   unfolding S widths
   S-bound =
       let v = variables-total (d .variables) in
-      let q = total-append (map (λ (x : Variable). width (x .kind)) (d .variables)) (replicate (length (d .statuses)) statusWidth) in
+      let statuses = replicate (length (d .statuses)) statusWidth in
+      let q = total-append (map (λ (x : Variable). width (x .kind)) (d .variables)) (statuses ++ (markWidth ∷ [])) in
+      let k = total-append statuses (markWidth ∷ []) in
       let s = statuses-total (length (d .statuses)) in
       let m : length (d .statuses) ≡ length (h .parts .matrices) = ap length (h .parts .statuses) ∙ length-map (h .parts .matrices) (λ (x : Matrix). x .statuses) in
       omega (arith, h .parts .variable-count, h .parts .matrix-count, h .variables, h .matrices)
@@ -171,26 +173,26 @@ module _ (file : List ℕ) (bytes : (i : ℕ) → getD file i 0 < 256) (d : Desi
   unfolding movers
   movers-bound = omega (arith, movers-append (S d) (map cell (d .cells)) (externals 0 (d .variables)), raises-cost (S d) S-bound (d .variables) 0, h .parts .variable-count, h .variables)
 
-  invariant-bound : gatesIn (boolCost (d .invariant)) + gatesOfByte * invariantOffset file ≤ gatesOfByte * constraintOffset file
-  invariant-bound = bool-bytes file (names file) (constraintOffset file) maxDepth (invariantOffset file) .of (d .invariant) (constraintOffset file) (invariant-stands file d (h .parts))
+  invariant-bound : gatesIn (boolCost false (d .invariant)) + gatesOfByte * invariantOffset file ≤ gatesOfByte * constraintOffset file
+  invariant-bound = bool-bytes file (names file) (constraintOffset file) false maxDepth (invariantOffset file) .of (d .invariant) (constraintOffset file) (invariant-stands file d (h .parts))
 
-  constraint-bound : gatesIn (boolCost (d .constraint)) + gatesOfByte * constraintOffset file ≤ gatesOfByte * itemsEnd file
+  constraint-bound : gatesIn (boolCost false (d .constraint)) + gatesOfByte * constraintOffset file ≤ gatesOfByte * itemsEnd file
   unfolding boolCost
   constraint-bound = go (hasConstraint file) refl
     where
-      go : (t : Bool) → hasConstraint file ≡ t → gatesIn (boolCost (d .constraint)) + gatesOfByte * constraintOffset file ≤ gatesOfByte * itemsEnd file
+      go : (t : Bool) → hasConstraint file ≡ t → gatesIn (boolCost false (d .constraint)) + gatesOfByte * constraintOffset file ≤ gatesOfByte * itemsEnd file
       go true e =
-          bool-bytes file (withLater true (names file)) (itemsEnd file) maxDepth (constraintOffset file) .of (d .constraint) (itemsEnd file)
+          bool-bytes file (withLater true (names file)) (itemsEnd file) false maxDepth (constraintOffset file) .of (d .constraint) (itemsEnd file)
           (constraint-stands file d (h .parts) e)
       go false e =
-          let z : gatesIn (boolCost (d .constraint)) ≡ 0 = ap (λ x. gatesIn (boolCost x)) (constraint-none file d (h .parts) e) in
+          let z : gatesIn (boolCost false (d .constraint)) ≡ 0 = ap (λ x. gatesIn (boolCost false x)) (constraint-none file d (h .parts) e) in
           omega (arith, expressions-order file d (h .parts))
 
   -- wherever the expression stands, its text has at most so many bytes
-  expression-bound : Accepted file → (piece : List ℕ) → pieceRight file piece 0 ≡ true → gatesIn (boolCost (expressionOf file piece d)) ≤ textGates
+  expression-bound : Accepted file → (piece : List ℕ) → pieceRight file piece 0 ≡ true → gatesIn (boolCost false (expressionOf file piece d)) ≤ textGates
   expression-bound a piece t =
       let text = expressionText file piece in
-      omega (arith, bool-bytes text (names file) (length text) maxDepth 0 .of (expressionOf file piece d) (length text) (text-got file piece a t d (h .parts)), text-short file piece a t)
+      omega (arith, bool-bytes text (names file) (length text) false maxDepth 0 .of (expressionOf file piece d) (length text) (text-got file piece a t d (h .parts)), text-short file piece a t)
 
   gates-bound : Accepted file → (piece : List ℕ) (p : ℕ) → pieceRight file piece p ≡ true → gatesIn (propertyCost d (propertyOf file piece d p)) + gatesIn (stepCost d (propertyOf file piece d p)) ≤ mostGates
   unfolding propertyCost stepCost stepPropertyCost propertyOf

@@ -10,7 +10,7 @@ use Rattle.design.specs.Limits.{maxDepth, maxBits}
 use Rattle.design.specs.Reading.{Read, got, bad, Reader, bind, provided, Line, lookup}
 use Rattle.design.specs.Expression.{Names, IntOp, BoolOp, intOps, boolOps, intOp, boolOp, byte, word, legal, numbered, intOf, boolOf, intExpr, boolExpr}
 use Rattle.design.specs.Action.{StmtOp, stmtOp, value, assignment, statements, listOf, conditional, stmtOf, statement, list}
-use Rattle.clauses.specs.Cost.{gatesIn, intCost, boolCost, statementCost, statementsCost}
+use Rattle.clauses.specs.Cost.{gatesIn, sumMarkCost, productMarkCost, intCost, boolCost, statementCost, statementsCost}
 use Rattle.clauses.specs.Limits.{gatesOfByte}
 
 -- what is read, and where it ends, are in this relation
@@ -52,39 +52,51 @@ unfolding AllLines
 lookup-all P other [] b p h = p
 lookup-all P other (l ∷ ls) b p h = cond-all P (eqb b (l .code)) (l .means) (lookup other ls b) (h .0) (lookup-all P other ls b p (h .1))
 
--- an operator of two operands adds at most the gates of its own byte
-abbrev IntAdds : IntOp → Type 0
-IntAdds IntOp.op-constant = Unit {0}
-IntAdds IntOp.op-product = Unit {0}
-IntAdds (IntOp.op-variable next) = Unit {0}
-IntAdds (IntOp.op-status next) = Unit {0}
-IntAdds IntOp.op-unknown = Unit {0}
-IntAdds (IntOp.op-ints f) = (a b : IntExpr) → gatesIn (intCost (f a b)) ≤ gatesIn (intCost a) + gatesIn (intCost b) + gatesOfByte
+-- where an expression marks
+sum-mark : (marks : Bool) → gatesIn (sumMarkCost marks) ≤ 2
+sum-mark true = omega arith
+sum-mark false = omega arith
 
-abbrev BoolAdds : BoolOp → Type 0
-BoolAdds BoolOp.op-constant = Unit {0}
-BoolAdds (BoolOp.op-variable next) = Unit {0}
-BoolAdds BoolOp.op-not = Unit {0}
-BoolAdds BoolOp.op-unknown = Unit {0}
-BoolAdds (BoolOp.op-bools f) = (a b : BoolExpr) → gatesIn (boolCost (f a b)) ≤ gatesIn (boolCost a) + gatesIn (boolCost b) + gatesOfByte
-BoolAdds (BoolOp.op-ints f) = (a b : IntExpr) → gatesIn (boolCost (f a b)) ≤ gatesIn (intCost a) + gatesIn (intCost b) + gatesOfByte
+product-mark : (marks : Bool) → gatesIn (productMarkCost marks) ≤ 162
+product-mark true = omega arith
+product-mark false = omega arith
 
-int-adds : (b : ℕ) → IntAdds (intOp b)
-unfolding intOp AllLines intCost
-int-adds b = lookup-all IntAdds IntOp.op-unknown intOps b tt (tt, (tt, (tt, ((λ x y. omega arith), ((λ x y. omega arith), (tt, (tt, (tt, tt))))))))
+module _ (marks : Bool) where
+  -- an operator of two operands adds at most the gates of its own byte
+  abbrev IntAdds : IntOp → Type 0
+  IntAdds IntOp.op-constant = Unit {0}
+  IntAdds IntOp.op-product = Unit {0}
+  IntAdds (IntOp.op-variable next) = Unit {0}
+  IntAdds (IntOp.op-status next) = Unit {0}
+  IntAdds IntOp.op-unknown = Unit {0}
+  IntAdds (IntOp.op-ints f) = (a b : IntExpr) → gatesIn (intCost marks (f a b)) ≤ gatesIn (intCost marks a) + gatesIn (intCost marks b) + gatesOfByte
 
-bool-adds : (b : ℕ) → BoolAdds (boolOp b)
-unfolding boolOp AllLines boolCost
-bool-adds b =
-    lookup-all BoolAdds BoolOp.op-unknown boolOps b tt
-    (tt, (tt, (tt, ((λ x y. omega arith), ((λ x y. omega arith), ((λ x y. omega arith), ((λ x y. omega arith), (tt, tt))))))))
+  abbrev BoolAdds : BoolOp → Type 0
+  BoolAdds BoolOp.op-constant = Unit {0}
+  BoolAdds (BoolOp.op-variable next) = Unit {0}
+  BoolAdds BoolOp.op-not = Unit {0}
+  BoolAdds BoolOp.op-unknown = Unit {0}
+  BoolAdds (BoolOp.op-bools f) = (a b : BoolExpr) → gatesIn (boolCost marks (f a b)) ≤ gatesIn (boolCost marks a) + gatesIn (boolCost marks b) + gatesOfByte
+  BoolAdds (BoolOp.op-ints f) = (a b : IntExpr) → gatesIn (boolCost marks (f a b)) ≤ gatesIn (intCost marks a) + gatesIn (intCost marks b) + gatesOfByte
 
--- read from `at` on, so many gates a byte
-abbrev pub IntBytes : ℕ → IntExpr → ℕ → Type 0
-IntBytes at e n = gatesIn (intCost e) + gatesOfByte * at ≤ gatesOfByte * n
+  int-adds : (b : ℕ) → IntAdds (intOp b)
+  unfolding intOp AllLines intCost
+  int-adds b =
+      let few = sum-mark marks in
+      lookup-all IntAdds IntOp.op-unknown intOps b tt (tt, (tt, (tt, ((λ x y. omega (arith, few)), ((λ x y. omega (arith, few)), (tt, (tt, (tt, tt))))))))
 
-abbrev pub BoolBytes : ℕ → BoolExpr → ℕ → Type 0
-BoolBytes at e n = gatesIn (boolCost e) + gatesOfByte * at ≤ gatesOfByte * n
+  bool-adds : (b : ℕ) → BoolAdds (boolOp b)
+  unfolding boolOp AllLines boolCost
+  bool-adds b =
+      lookup-all BoolAdds BoolOp.op-unknown boolOps b tt
+      (tt, (tt, (tt, ((λ x y. omega arith), ((λ x y. omega arith), ((λ x y. omega arith), ((λ x y. omega arith), (tt, tt))))))))
+
+  -- read from `at` on, so many gates a byte
+  abbrev pub IntBytes : ℕ → IntExpr → ℕ → Type 0
+  IntBytes at e n = gatesIn (intCost marks e) + gatesOfByte * at ≤ gatesOfByte * n
+
+  abbrev pub BoolBytes : ℕ → BoolExpr → ℕ → Type 0
+  BoolBytes at e n = gatesIn (boolCost marks e) + gatesOfByte * at ≤ gatesOfByte * n
 
 module _ (text : List ℕ) (names : Names) (end : ℕ) where
   reads-byte : (at : ℕ) → Reads (λ b n. n ≡ at + 1) (byte text names end at)
@@ -93,60 +105,61 @@ module _ (text : List ℕ) (names : Names) (end : ℕ) where
   reads-word : (at : ℕ) → Reads (λ b n. n ≡ at + 2) (word text names end at)
   reads-word at = reads-provided (leb (at + 2) end) _ (reads-got _ _ refl)
 
-  -- what follows an operator that stands at `at`; a product has three bytes for its gates
-  intOf-bytes : (operand : Reader IntExpr) → ((at : ℕ) → Reads (IntBytes at) (operand at)) → (o : IntOp) → IntAdds o → (at n : ℕ) → n ≡ at + 1
-      → Reads (IntBytes at) (intOf text names end operand o n)
-  unfolding intCost
-  intOf-bytes operand h IntOp.op-constant k at n e = reads-bind (word text names end n) _ (reads-word n) λ c m q. reads-got _ _ (omega arith)
-  intOf-bytes operand h (IntOp.op-variable next) k at n e =
-      reads-bind (byte text names end n) _ (reads-byte n) λ v m q.
-      reads-provided (legal text names end next) _ (reads-provided (ltb v (names .variables)) _ (reads-provided (eqb (names .kindOf v) 1) _ (reads-got _ _ (omega arith))))
-  intOf-bytes operand h (IntOp.op-status next) k at n e =
-      reads-bind (byte text names end n) _ (reads-byte n) λ v m q.
-      reads-provided (legal text names end next) _ (reads-provided (ltb v (names .matrices)) _ (reads-got _ _ (omega arith)))
-  intOf-bytes operand h IntOp.op-product k at n e =
-      reads-bind (word text names end n) _ (reads-word n) λ c m q.
-      reads-bind (operand m) _ (h m) λ a j r.
-      reads-got _ _ (omega arith)
-  intOf-bytes operand h IntOp.op-unknown k at n e = reads-bad
-  intOf-bytes operand h (IntOp.op-ints f) k at n e =
-      reads-bind (operand n) _ (h n) λ a m q.
-      reads-bind (operand m) _ (h m) λ b j r.
-      reads-got _ _ (omega (arith, k a b))
+  module _ (marks : Bool) where
+    -- what follows an operator that stands at `at`; a product has three bytes for its gates
+    intOf-bytes : (operand : Reader IntExpr) → ((at : ℕ) → Reads (IntBytes marks at) (operand at)) → (o : IntOp) → IntAdds marks o → (at n : ℕ) → n ≡ at + 1
+        → Reads (IntBytes marks at) (intOf text names end operand o n)
+    unfolding intCost
+    intOf-bytes operand h IntOp.op-constant k at n e = reads-bind (word text names end n) _ (reads-word n) λ c m q. reads-got _ _ (omega arith)
+    intOf-bytes operand h (IntOp.op-variable next) k at n e =
+        reads-bind (byte text names end n) _ (reads-byte n) λ v m q.
+        reads-provided (legal text names end next) _ (reads-provided (ltb v (names .variables)) _ (reads-provided (eqb (names .kindOf v) 1) _ (reads-got _ _ (omega arith))))
+    intOf-bytes operand h (IntOp.op-status next) k at n e =
+        reads-bind (byte text names end n) _ (reads-byte n) λ v m q.
+        reads-provided (legal text names end next) _ (reads-provided (ltb v (names .matrices)) _ (reads-got _ _ (omega arith)))
+    intOf-bytes operand h IntOp.op-product k at n e =
+        reads-bind (word text names end n) _ (reads-word n) λ c m q.
+        reads-bind (operand m) _ (h m) λ a j r.
+        reads-got _ _ (omega (arith, product-mark marks))
+    intOf-bytes operand h IntOp.op-unknown k at n e = reads-bad
+    intOf-bytes operand h (IntOp.op-ints f) k at n e =
+        reads-bind (operand n) _ (h n) λ a m q.
+        reads-bind (operand m) _ (h m) λ b j r.
+        reads-got _ _ (omega (arith, k a b))
 
-  pub int-bytes : (d at : ℕ) → Reads (IntBytes at) (intExpr text names end d at)
-  unfolding intExpr
-  int-bytes zero at = reads-bad
-  int-bytes (suc d) at =
-      reads-bind (byte text names end at) _ (reads-byte at) λ op n e.
-      intOf-bytes (intExpr text names end d) (int-bytes d) (intOp op) (int-adds op) at n e
+    pub int-bytes : (d at : ℕ) → Reads (IntBytes marks at) (intExpr text names end d at)
+    unfolding intExpr
+    int-bytes zero at = reads-bad
+    int-bytes (suc d) at =
+        reads-bind (byte text names end at) _ (reads-byte at) λ op n e.
+        intOf-bytes (intExpr text names end d) (int-bytes d) (intOp op) (int-adds marks op) at n e
 
-  boolOf-bytes : (int : Reader IntExpr) → ((at : ℕ) → Reads (IntBytes at) (int at)) → (operand : Reader BoolExpr) → ((at : ℕ) → Reads (BoolBytes at) (operand at))
-      → (o : BoolOp) → BoolAdds o → (at n : ℕ) → n ≡ at + 1 → Reads (BoolBytes at) (boolOf text names end int operand o n)
-  unfolding boolCost
-  boolOf-bytes int i operand h BoolOp.op-constant k at n e =
-      reads-bind (byte text names end n) _ (reads-byte n) λ v m q. reads-provided (leb v 1) _ (reads-got _ _ (omega arith))
-  boolOf-bytes int i operand h (BoolOp.op-variable next) k at n e =
-      reads-bind (byte text names end n) _ (reads-byte n) λ v m q.
-      reads-provided (legal text names end next) _ (reads-provided (ltb v (names .variables)) _ (reads-provided (not (eqb (names .kindOf v) 1)) _
-      (reads-got (variableB (numbered text names end next v)) _ (omega arith))))
-  boolOf-bytes int i operand h BoolOp.op-not k at n e = reads-bind (operand n) _ (h n) λ a m q. reads-got _ _ (omega arith)
-  boolOf-bytes int i operand h BoolOp.op-unknown k at n e = reads-bad
-  boolOf-bytes int i operand h (BoolOp.op-bools f) k at n e =
-      reads-bind (operand n) _ (h n) λ a m q.
-      reads-bind (operand m) _ (h m) λ b j r.
-      reads-got _ _ (omega (arith, k a b))
-  boolOf-bytes int i operand h (BoolOp.op-ints f) k at n e =
-      reads-bind (int n) _ (i n) λ a m q.
-      reads-bind (int m) _ (i m) λ b j r.
-      reads-got _ _ (omega (arith, k a b))
+    boolOf-bytes : (int : Reader IntExpr) → ((at : ℕ) → Reads (IntBytes marks at) (int at)) → (operand : Reader BoolExpr) → ((at : ℕ) → Reads (BoolBytes marks at) (operand at))
+        → (o : BoolOp) → BoolAdds marks o → (at n : ℕ) → n ≡ at + 1 → Reads (BoolBytes marks at) (boolOf text names end int operand o n)
+    unfolding boolCost
+    boolOf-bytes int i operand h BoolOp.op-constant k at n e =
+        reads-bind (byte text names end n) _ (reads-byte n) λ v m q. reads-provided (leb v 1) _ (reads-got _ _ (omega arith))
+    boolOf-bytes int i operand h (BoolOp.op-variable next) k at n e =
+        reads-bind (byte text names end n) _ (reads-byte n) λ v m q.
+        reads-provided (legal text names end next) _ (reads-provided (ltb v (names .variables)) _ (reads-provided (not (eqb (names .kindOf v) 1)) _
+        (reads-got (variableB (numbered text names end next v)) _ (omega arith))))
+    boolOf-bytes int i operand h BoolOp.op-not k at n e = reads-bind (operand n) _ (h n) λ a m q. reads-got _ _ (omega arith)
+    boolOf-bytes int i operand h BoolOp.op-unknown k at n e = reads-bad
+    boolOf-bytes int i operand h (BoolOp.op-bools f) k at n e =
+        reads-bind (operand n) _ (h n) λ a m q.
+        reads-bind (operand m) _ (h m) λ b j r.
+        reads-got _ _ (omega (arith, k a b))
+    boolOf-bytes int i operand h (BoolOp.op-ints f) k at n e =
+        reads-bind (int n) _ (i n) λ a m q.
+        reads-bind (int m) _ (i m) λ b j r.
+        reads-got _ _ (omega (arith, k a b))
 
-  pub bool-bytes : (d at : ℕ) → Reads (BoolBytes at) (boolExpr text names end d at)
-  unfolding boolExpr
-  bool-bytes zero at = reads-bad
-  bool-bytes (suc d) at =
-      reads-bind (byte text names end at) _ (reads-byte at) λ op n e.
-      boolOf-bytes (intExpr text names end d) (int-bytes d) (boolExpr text names end d) (bool-bytes d) (boolOp op) (bool-adds op) at n e
+    pub bool-bytes : (d at : ℕ) → Reads (BoolBytes marks at) (boolExpr text names end d at)
+    unfolding boolExpr
+    bool-bytes zero at = reads-bad
+    bool-bytes (suc d) at =
+        reads-bind (byte text names end at) _ (reads-byte at) λ op n e.
+        boolOf-bytes (intExpr text names end d) (int-bytes d) (boolExpr text names end d) (bool-bytes d) (boolOp op) (bool-adds marks op) at n e
 
   -- with S state bits an if adds S gates, for three bytes too
   module _ (bits : ℕ) (few : bits ≤ maxBits) where
@@ -162,8 +175,8 @@ module _ (text : List ℕ) (names : Names) (end : ℕ) where
 
     value-bytes : (v : ℕ) (t : Bool) (at : ℕ) → Reads (StmtBytes at) (value text names end v t at)
     unfolding statementCost
-    value-bytes v true at = reads-bind (intExpr text names end maxDepth at) _ (int-bytes maxDepth at) λ e n h. reads-got _ _ (omega arith)
-    value-bytes v false at = reads-bind (boolExpr text names end maxDepth at) _ (bool-bytes maxDepth at) λ e n h. reads-got _ _ (omega arith)
+    value-bytes v true at = reads-bind (intExpr text names end maxDepth at) _ (int-bytes true maxDepth at) λ e n h. reads-got _ _ (omega arith)
+    value-bytes v false at = reads-bind (boolExpr text names end maxDepth at) _ (bool-bytes true maxDepth at) λ e n h. reads-got _ _ (omega arith)
 
     weaken : (at n : ℕ) (r : Read Stmt) → at ≤ n → Reads (StmtBytes n) r → Reads (StmtBytes at) r
     weaken at n r l h = record { of = λ x m e. omega (arith, h .of x m e) }
@@ -194,7 +207,7 @@ module _ (text : List ℕ) (names : Names) (end : ℕ) where
         → Reads (StmtBytes at) (conditional text names end l n)
     unfolding statementCost
     conditional-bytes l h at n e =
-        reads-bind (boolExpr text names end maxDepth n) _ (bool-bytes maxDepth n) λ c m q.
+        reads-bind (boolExpr text names end maxDepth n) _ (bool-bytes true maxDepth n) λ c m q.
         reads-bind (l m) _ (h m) λ a j r.
         reads-bind (l j) _ (h j) λ b i s.
         reads-got _ _ (omega arith)

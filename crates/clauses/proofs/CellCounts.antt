@@ -24,8 +24,8 @@ use Rattle.step.proofs.Pieces as pieces
 use Rattle.step.specs.Accepted.{isRead}
 use Rattle.design.specs.Sections.{NormalCell}
 use Rattle.design.proofs.Indexed as indexed
-use Rattle.clauses.specs.Cost.{Cost, cost, boolCost, statementsCost, statusAndEventCost, enableCost, effectCost, moverCost, propertyCost, stepPropertyCost}
-use Rattle.clauses.specs.FrameSizes.{gatesAt, both, listGates, entryCost, entriesCost, HasGates, FewGates, CellHere, PlaceCounted, CellCounted, noGates}
+use Rattle.clauses.specs.Cost.{Cost, cost, addCosts, boolCost, statementsCost, statusAndEventCost, enableCost, effectCost, moverCost, propertyCost, stepPropertyCost}
+use Rattle.clauses.specs.FrameSizes.{gatesAt, both, more, listGates, entryCost, entriesCost, HasGates, FewGates, CellHere, PlaceCounted, CellCounted, noGates}
 use Rattle.clauses.specs.Ready.{ShapedFile, Ready}
 use Rattle.clauses.specs.Limits.{textGates, mostGates}
 use Rattle.clauses.specs.declared.cost.GatesAt.{GatesAt}
@@ -51,11 +51,18 @@ more-gates x e r n k p q =
 pub few-gates : (r : GatesAt) → Few r → FewGates mostGates r
 few-gates r f = record { ands = omega (arith, f .ands); wides = omega (arith, f .wides) }
 
-none-few : (r : GatesAt) (n : ℕ) → r ≡ noGates n → FewGates mostGates r
+pub none-few : (r : GatesAt) (n : ℕ) → r ≡ noGates n → FewGates mostGates r
 none-few r n e = let z = none-gates r n e in record { ands = omega (arith, z .0); wides = omega (arith, z .1) }
 
 none-has : (r : GatesAt) (n : ℕ) → r ≡ noGates n → {k : Cost} → k ≡ cost 0 0 → HasGates r k
 none-has r n e q = let z = none-gates r n e in subst (HasGates r) (sym q) (record { ands = z .0; wides = z .1 })
+
+-- an and more, which a property ends in
+one-more : (x r : GatesAt) (k : Cost) → r ≡ more x 1 0 → HasGates x k → HasGates r (addCosts k (cost 1 0))
+one-more x r k e g = record { ands = omega (arith, ap (λ (z : GatesAt). z .ands) e, g .ands); wides = omega (arith, ap (λ (z : GatesAt). z .wides) e, g .wides) }
+
+few-more : (x r : GatesAt) → Few x → r ≡ more x 1 0 → FewGates mostGates r
+few-more x r f e = record { ands = omega (arith, f .ands, ap (λ (z : GatesAt). z .ands) e); wides = omega (arith, f .wides, ap (λ (z : GatesAt). z .wides) e) }
 
 pub property-without : (file piece : List ℕ) (p : ℕ) → (p ≡ 0 → ⊥) → (p ≡ 1 → ⊥) → (r : GatesAt) → r ≡ noGates 0 → FewGates mostGates r × ((d : Design) → HasGates r (propertyCost d (propertyOf file piece d p)))
 property-without file piece p z o r e = (none-few r 0 e, λ d. none-has r 0 e (property-none file piece d p z o))
@@ -78,19 +85,30 @@ module _ {file : List ℕ} {shape : Shape} (h : ShapedFile file shape) where
   pub no-step-property : (p : ℕ) → p < 2 → (r : GatesAt) → r ≡ noGates 0 → StepGates p r
   no-step-property p l r e = (none-few r 0 e, λ d w piece. none-has r 0 e (step-property-none file piece d p l))
 
-  pub no-constraint : hasConstraint file ≡ false → (p : ℕ) → 2 ≤ p → (r : GatesAt) → r ≡ noGates 0 → StepGates p r
+  pub no-constraint : hasConstraint file ≡ false → (p : ℕ) → 2 ≤ p → (x r : GatesAt) → x ≡ noGates 0 → r ≡ more x 1 0 → StepGates p r
   unfolding boolCost
-  no-constraint z p l r e = (none-few r 0 e, λ d w piece. none-has r 0 e (step-property-cost file piece d p l ∙ ap boolCost (constraint-none file d w z)))
+  no-constraint z p l x r e q = (
+    let n = none-gates x 0 e in record { ands = omega (arith, n .0, ap (λ (y : GatesAt). y .ands) q); wides = omega (arith, n .1, ap (λ (y : GatesAt). y .wides) q) },
+    λ d w piece. subst (HasGates r) (sym (step-property-cost file piece d p l)) (one-more x r _ q (none-has x 0 e (ap (boolCost false) (constraint-none file d w z)))),
+  )
 
   module _ (c : hasConstraint file ≡ true) (at end : ℕ) (a : at ≡ constraintOffset file) (b : end ≡ itemsEnd file) where
     pub constraint-reads : isRead (boolExpr file (withLater true (namesOf file shape)) end maxDepth at) ≡ true
     constraint-reads = ap isRead (indexed.constraint-some file (h .accepted) shape (h .counts) at end a b c .1)
 
-    pub constraint-gates : (p : ℕ) → 2 ≤ p → (r : GatesAt) → r ≡ gatesAt boolCost (boolExpr file (withLater true (namesOf file shape)) end maxDepth at) → StepGates p r
-    constraint-gates p l r e = (
-      few-gates r (bool-few file _ end (omega (arith, sizes .1)) maxDepth at r e),
-      λ d w piece. subst (HasGates r) (sym (step-property-cost file piece d p l)) (known-gates boolCost _ _ _ r (indexed.constraint-got file (h .accepted) shape (h .counts) at end a b d w c) e),
-    )
+    module _ (x : GatesAt) (e : x ≡ gatesAt (boolCost false) (boolExpr file (withLater true (namesOf file shape)) end maxDepth at)) where
+      constraint-some : Few x
+      constraint-some = bool-few file _ end (omega (arith, sizes .1)) false maxDepth at x e
+
+      pub constraint-few : FewGates mostGates x
+      constraint-few = few-gates x constraint-some
+
+      pub constraint-gates : (p : ℕ) → 2 ≤ p → (r : GatesAt) → r ≡ more x 1 0 → StepGates p r
+      constraint-gates p l r q = (
+        few-more x r constraint-some q,
+        λ d w piece. subst (HasGates r) (sym (step-property-cost file piece d p l))
+            (one-more x r _ q (known-gates (boolCost false) _ _ _ x (indexed.constraint-got file (h .accepted) shape (h .counts) at end a b d w c) e)),
+      )
 
 pub tables : {file table : List ℕ} {shape : Shape} → Ready file table shape → Indexed file table shape
 tables h = record { accepted = h .shaped .accepted; events = h .events; shaped = h .shaped .counts }
@@ -117,11 +135,11 @@ module _ (file table : List ℕ) (H : Shape) (h : Ready file table H) where
       pub event-reads : isRead (boolExpr file N (place + 1 + k) maxDepth (place + 1)) ≡ true
       event-reads = ap isRead (indexed.event-some file table H (tables h) m e a b (place + 1 + k) (place + 1) past-is refl .1)
 
-      pub event-gates : (r : GatesAt) → r ≡ gatesAt boolCost (boolExpr file N (place + 1 + k) maxDepth (place + 1)) → FewGates textGates r × ((d : Design) (w : Parts file d) → HasGates r (boolCost (eventIn (w .rows) m e)))
+      pub event-gates : (r : GatesAt) → r ≡ gatesAt (boolCost false) (boolExpr file N (place + 1 + k) maxDepth (place + 1)) → FewGates textGates r × ((d : Design) (w : Parts file d) → HasGates r (boolCost false (eventIn (w .rows) m e)))
       event-gates r z =
-          let f = bool-few file N (place + 1 + k) (omega (arith, past-is, event-inside, sizes (h .shaped) .1)) maxDepth (place + 1) r z in (
+          let f = bool-few file N (place + 1 + k) (omega (arith, past-is, event-inside, sizes (h .shaped) .1)) false maxDepth (place + 1) r z in (
             record { ands = f .ands; wides = f .wides },
-            λ d w. known-gates boolCost _ _ _ r (indexed.event-got file table H (tables h) m e a b d w (place + 1 + k) (place + 1) past-is refl) z,
+            λ d w. known-gates (boolCost false) _ _ _ r (indexed.event-got file table H (tables h) m e a b d w (place + 1 + k) (place + 1) past-is refl) z,
           )
 
   -- status and event of the cell at p
@@ -129,10 +147,10 @@ module _ (file table : List ℕ) (H : Shape) (h : Ready file table H) where
     pub place-range : CellFields file p → (m < H .matrices) × (e < events file (matricesOffset file) m)
     place-range = indexed.cell-names file table H (tables h) p m e a b
 
-    pub place-gates : (x r : GatesAt) → ((d : Design) (w : Parts file d) → HasGates x (boolCost (eventIn (w .rows) m e)))
+    pub place-gates : (x r : GatesAt) → ((d : Design) (w : Parts file d) → HasGates x (boolCost false (eventIn (w .rows) m e)))
         → r .ands ≡ x .ands + 17 → r .wides ≡ x .wides + 16 → PlaceCounted file p r
     place-gates x r k u v d w =
-        let s = subst (λ (i : ℕ). HasGates x (boolCost (eventIn (w .rows) i (c-event file p)))) a (subst (λ (j : ℕ). HasGates x (boolCost (eventIn (w .rows) m j))) b (k d w)) in
+        let s = subst (λ (i : ℕ). HasGates x (boolCost false (eventIn (w .rows) i (c-event file p)))) a (subst (λ (j : ℕ). HasGates x (boolCost false (eventIn (w .rows) m j))) b (k d w)) in
         record { ands = omega (arith, s .ands); wides = omega (arith, s .wides) }
 
   -- the property: the expression of the piece or of the file, the invalid cells, or none here
@@ -146,15 +164,30 @@ module _ (file table : List ℕ) (H : Shape) (h : Ready file table H) where
     pub expression-reads : isRead (boolExpr text N (length text) maxDepth 0) ≡ true
     expression-reads = pieces.expression-reads file piece (h .shaped .accepted) right-0 H (h .shaped .counts) text e
 
-    pub expression-gates : (r : GatesAt) → r ≡ gatesAt boolCost (boolExpr text N (length text) maxDepth 0) → FewGates mostGates r × ((d : Design) → Parts file d → HasGates r (propertyCost d (propertyOf file piece d p)))
-    expression-gates r k = (
-      few-gates r (bool-few text N (length text) expression-short maxDepth 0 r k),
-      λ d w. subst (HasGates r) (sym (property-expression file d w (H .bits) (h .shaped .bits .state d w) piece p z))
-          (known-gates boolCost _ _ _ r (pieces.expression-got file piece (h .shaped .accepted) right-0 H (h .shaped .counts) text e d w) k),
-    )
+    module _ (x : GatesAt) (k : x ≡ gatesAt (boolCost false) (boolExpr text N (length text) maxDepth 0)) where
+      expression-some : Few x
+      expression-some = bool-few text N (length text) expression-short false maxDepth 0 x k
 
-  pub property-gates : (piece : List ℕ) (p : ℕ) → p ≡ 1 → (r : GatesAt) → ((d : Design) (w : Parts file d) → HasGates r (entriesCost (H .bits) true (w .entries))) → (d : Design) → Parts file d → HasGates r (propertyCost d (propertyOf file piece d p))
-  property-gates piece p z r k d w = subst (HasGates r) (sym (property-cells file d w (H .bits) (h .shaped .bits .state d w) piece p z)) (k d w)
+      pub expression-few : FewGates mostGates x
+      expression-few = few-gates x expression-some
+
+      pub expression-gates : (r : GatesAt) → r ≡ more x 1 0 → FewGates mostGates r × ((d : Design) → Parts file d → HasGates r (propertyCost d (propertyOf file piece d p)))
+      expression-gates r q = (
+        few-more x r expression-some q,
+        λ d w. subst (HasGates r) (sym (property-expression file d w (H .bits) (h .shaped .bits .state d w) piece p z))
+            (one-more x r _ q (known-gates (boolCost false) _ _ _ x (pieces.expression-got file piece (h .shaped .accepted) right-0 H (h .shaped .counts) text e d w) k)),
+      )
+
+  pub property-gates : ((i : ℕ) → getD file i 0 < 256) → (piece : List ℕ) (p : ℕ) → pieceRight file piece p ≡ true → p ≡ 1 → (x r : GatesAt)
+      → ((d : Design) (w : Parts file d) → HasGates x (entriesCost (H .bits) true (w .entries))) → r ≡ more x 1 0
+      → FewGates mostGates r × ((d : Design) → Parts file d → HasGates r (propertyCost d (propertyOf file piece d p)))
+  property-gates bytes piece p right z x r k q =
+      let all : (d : Design) → Parts file d → HasGates r (propertyCost d (propertyOf file piece d p))
+      = λ d w. subst (HasGates r) (sym (property-cells file d w (H .bits) (h .shaped .bits .state d w) piece p z)) (one-more x r _ q (k d w)) in
+      let t = read file (h .shaped .accepted) in
+      let g = all (t .tree) (t .all .parts) in
+      let b = bounded file piece bytes (t .tree) (t .is) p right in
+      (record { ands = omega (arith, g .ands, b .gates); wides = omega (arith, g .wides, b .gates) }, all)
 
   -- a normal cell
   module _ (p : ℕ) (x : NormalCell file p) where
@@ -165,18 +198,18 @@ module _ (file table : List ℕ) (H : Shape) (h : Ready file table H) where
       pub guard-inside : p + 8 + n ≤ itemsEnd file
       guard-inside = let f = normal-fields .past in omega arith
 
-      pub guard-none : n ≡ 0 → (r : GatesAt) → r .ands ≡ 0 → r .wides ≡ 0 → HasGates r (boolCost (x .cell .guard))
+      pub guard-none : n ≡ 0 → (r : GatesAt) → r .ands ≡ 0 → r .wides ≡ 0 → HasGates r (boolCost false (x .cell .guard))
       unfolding boolCost
       guard-none z r u v =
-          let g = ap boolCost (indexed.guard-none file table H (tables h) p x (sym q ∙ z)) in
+          let g = ap (boolCost false) (indexed.guard-none file table H (tables h) p x (sym q ∙ z)) in
           record { ands = u ∙ sym (ap (λ (k : Cost). k .ands) g); wides = v ∙ sym (ap (λ (k : Cost). k .wides) g) }
 
       module _ (z : n ≡ 0 → ⊥) where
         pub guard-reads : isRead (boolExpr file N (p + 8 + n) maxDepth (p + 8)) ≡ true
         guard-reads = ap isRead (indexed.guard-got file table H (tables h) p x n q z)
 
-        pub guard-gates : (r : GatesAt) → r ≡ gatesAt boolCost (boolExpr file N (p + 8 + n) maxDepth (p + 8)) → HasGates r (boolCost (x .cell .guard))
-        guard-gates r k = known-gates boolCost _ _ _ r (indexed.guard-got file table H (tables h) p x n q z) k
+        pub guard-gates : (r : GatesAt) → r ≡ gatesAt (boolCost false) (boolExpr file N (p + 8 + n) maxDepth (p + 8)) → HasGates r (boolCost false (x .cell .guard))
+        guard-gates r k = known-gates (boolCost false) _ _ _ r (indexed.guard-got file table H (tables h) p x n q z) k
 
     module _ (m n : ℕ) (a : m ≡ c-middle file p) (b : n ≡ c-past file p) where
       pub action-reads : isRead (list file N n maxNest m) ≡ true
@@ -184,7 +217,7 @@ module _ (file table : List ℕ) (H : Shape) (h : Ready file table H) where
 
       -- enable, the action, and the muxes
       pub normal-gates : (e g s t r : GatesAt) → PlaceCounted file p e
-          → HasGates g (boolCost (x .cell .guard)) → s ≡ listGates (H .bits) (list file N n maxNest m) → t ≡ both e g 1 0 → r ≡ both t s 0 (H .bits) → HasGates r (moverCost (H .bits) (cell (x .cell)))
+          → HasGates g (boolCost false (x .cell .guard)) → s ≡ listGates (H .bits) (list file N n maxNest m) → t ≡ both e g 1 0 → r ≡ both t s 0 (H .bits) → HasGates r (moverCost (H .bits) (cell (x .cell)))
       unfolding moverCost enableCost effectCost
       normal-gates e g s t r f k q u v =
           let is : NormalRead file (itemsEnd file) (names file) (matricesOffset file) (eventIn (x .parts .rows)) p (x .cell) = x .stands .1 .entry .1 in

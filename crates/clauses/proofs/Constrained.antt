@@ -15,6 +15,7 @@ well-formed-moved : WellFormed designMoved
 unfolding designA designMoved count encoding stepping
 well-formed-moved = record {
   narrow = omega arith;
+  mark = record { inside = omega arith; behind = omega arith; width = refl };
   some-mover = omega arith;
   few-movers = omega arith;
   movers = omega arith;
@@ -38,6 +39,7 @@ well-formed-noIdle : WellFormed designNoIdle
 unfolding designNoIdle count encoding stepping
 well-formed-noIdle = record {
   narrow = omega arith;
+  mark = record { inside = omega arith; behind = omega arith; width = refl };
   some-mover = omega arith;
   few-movers = omega arith;
   movers = omega arith;

@@ -21,21 +21,21 @@ use Rattle.clauses.proofs.Counting.{breakers, models}
 abbrev invariantA : Property
 invariantA = invariant (designA .invariant)
 
--- "S=21, P=80, w=3, G=371, F=475."
+-- "S=22, P=81, w=3, G=378, F=484."
 abbrev sizesA : ℕ → ℕ → ℕ → Sizes
-sizesA variables clauses words = record { stateBits = 21; propertyGates = 80; movers = 3; stepGates = 371; variables = variables; clauses = clauses; words = words }
+sizesA variables clauses words = record { stateBits = 22; propertyGates = 81; movers = 3; stepGates = 378; variables = variables; clauses = clauses; words = words }
 
-pub frame-A : F designA invariantA ≡ 475
+pub frame-A : F designA invariantA ≡ 484
 unfolding designA encoding
 frame-A = refl
 
--- "Bound 0: n=102, 295 clauses."
-pub size-A-0 : size bytesA noPiece 0 0 ≡ answer (sizesA 102 295 1038)
+-- "Bound 0: n=104, 299 clauses."
+pub size-A-0 : size bytesA noPiece 0 0 ≡ answer (sizesA 104 299 1050)
 unfolding bytesA checking encoding pieceRight gate admit onDesign sizesOf size
 size-A-0 = refl
 
--- "Bound 3: n=1527, 5413 clauses."
-pub size-A-3 : size bytesA noPiece 0 3 ≡ answer (sizesA 1527 5413 20136)
+-- "Bound 3: n=1556, 5522 clauses."
+pub size-A-3 : size bytesA noPiece 0 3 ≡ answer (sizesA 1556 5522 20550)
 unfolding bytesA checking encoding pieceRight gate admit onDesign sizesOf size
 size-A-3 = refl
 
@@ -44,6 +44,7 @@ well-formed-A : WellFormed designA
 unfolding designA count encoding stepping
 well-formed-A = record {
   narrow = omega arith;
+  mark = record { inside = omega arith; behind = omega arith; width = refl };
   some-mover = omega arith;
   few-movers = omega arith;
   movers = omega arith;

@@ -20,15 +20,18 @@ use Rattle.design.specs.declared.shape.Shape.{Shape}
 use Rattle.design.specs.Answers.{found}
 use Rattle.design.proofs.Forward.{bool-on, list-on, stmt-on}
 use Rattle.clauses.specs.Literal.{Literal}
-use Rattle.clauses.specs.Circuit.{Build, give, _>>=_, Bits}
-use Rattle.clauses.specs.Expression.{Slots, int!, bool! }
+use Rattle.clauses.specs.Circuit.{Build, give, _>>=_, Bits, WithMark}
+use Rattle.clauses.specs.Expression.{Slots, int!, bool!, markAt, withMark}
 use Rattle.clauses.specs.Action.{muxes!, statement!, statements! }
+use Rattle.clauses.specs.Formula.{total}
 use Rattle.clauses.specs.Writing.{fromCode, fromCodes, Emits}
-use Rattle.clauses.specs.FlatState.{slotsOf, layoutOf}
-use Rattle.clauses.specs.Encoders.{Writes, Here, Encodes, intsAt, boolsAt, assignsAt, stmtsAt, listsAt, IntHere, BoolHere}
+use Rattle.clauses.specs.FlatState.{widthsFrom, slotsOf, layoutOf, Slotted}
+use Rattle.clauses.specs.Encoders.{Writes, Here, Encodes, EncodesMarked, intsAt, boolsAt, intGates, boolGates, assignsAt, stmtsAt, listsAt, IntHere, BoolHere}
 use Rattle.clauses.specs.declared.gate.Cursor.{Cursor}
+use Rattle.clauses.specs.declared.gate.Pen.{Pen}
 use Rattle.clauses.proofs.EmitBuilds.{emits-same, emits-bind, Left, left-start, left-on, left-same, left-end}
 use Rattle.clauses.proofs.EmitReads.{provided-got, Bound, bind-got, got-same, OneRead, one-read}
+use Rattle.clauses.proofs.EmitStates.{integer-room, boolean-room}
 use Rattle.clauses.proofs.EmitExpressions.{Wrote, one-reads, one-emits}
 
 bad-got : {A : Type 0} {a : A} {n : ℕ} → bad ≡ got a n → ⊥
@@ -162,15 +165,16 @@ module _ (text : List ℕ) (names : Names) (end : ℕ) where
 
 -- what statements build
 module _ (l : Layout) (s : Slots) where
-  pub assign-tree : (v : ℕ) (e : IntExpr) → statement! (assign v e) l s ≡ (int! l s e >>= (λ (x : Bits). give (set s v x)))
+  pub assign-tree : (v : ℕ) (e : IntExpr) → statement! (assign v e) l s ≡ (int! true l s (markAt l s) e >>= (λ (x : WithMark Bits). give (set (withMark l (x .mark) s) v (x .result))))
   unfolding statement!
   assign-tree v e = refl
 
-  pub flag-tree : (v : ℕ) (e : BoolExpr) → statement! (assignB v e) l s ≡ (bool! l s e >>= (λ (x : Literal). give (set s v (x ∷ []))))
+  pub flag-tree : (v : ℕ) (e : BoolExpr) → statement! (assignB v e) l s ≡ (bool! true l s (markAt l s) e >>= (λ (x : WithMark Literal). give (set (withMark l (x .mark) s) v (x .result ∷ []))))
   unfolding statement!
   flag-tree v e = refl
 
-  if-tree : (c : BoolExpr) (a b : Stmts) → statement! (ifElse c a b) l s ≡ (bool! l s c >>= (λ (x : Literal). statements! a l s >>= (λ (y : Slots). statements! b l s >>= muxes! x y)))
+  if-tree : (c : BoolExpr) (a b : Stmts) → statement! (ifElse c a b) l s
+      ≡ (bool! true l s (markAt l s) c >>= (λ (x : WithMark Literal). statements! a l (withMark l (x .mark) s) >>= (λ (y : Slots). statements! b l (withMark l (x .mark) s) >>= muxes! (x .result) y)))
   unfolding statement!
   if-tree c a b = refl
 
@@ -182,17 +186,19 @@ module _ (l : Layout) (s : Slots) where
   unfolding statements!
   done-tree n = refl
 
-  -- an if, from its four parts
+  -- an if, from its four parts; `from` is the state with the condition's mark
   pub if-emits : {one : Reader BoolExpr} {lists : Reader Stmts} {at : ℕ} {t : Stmt} {k : ℕ} → IfRead one lists at t k
-      → {n : ℕ} {x0 x1 x2 x3 x4 : List ℤ} {cur : ℕ} {x : Literal} {y z r : Slots} {c1 v1 m1 c2 v2 m2 c3 v3 m3 c4 v4 : ℕ}
-      → Wrote one (bool! l s) at n x0 x1 cur x c1 v1 m1 → Wrote lists (λ (ts : Stmts). statements! ts l s) m1 v1 x1 x2 c1 y c2 v2 m2 → Wrote lists (λ (ts : Stmts). statements! ts l s) m2 v2 x2 x3 c2 z c3 v3 m3 → Emits v3 (muxes! x y z v3) x3 x4 c3 r c4 v4
-      → Emits n (statement! t l s n) x0 x4 cur r c4 v4 × (m3 ≡ k)
-  if-emits {lists = lists} {k = k} p {n = n} {x = x} {y = y} w1 w2 w3 u =
+      → {n : ℕ} {x0 x1 x2 x3 x4 : List ℤ} {cur : ℕ} (x : WithMark Literal) (from : Slots) {y z r : Slots} {c1 v1 m1 c2 v2 m2 c3 v3 m3 c4 v4 : ℕ} → from ≡ withMark l (x .mark) s
+      → Wrote one (bool! true l s (markAt l s)) at n x0 x1 cur x c1 v1 m1 → Wrote lists (λ (ts : Stmts). statements! ts l from) m1 v1 x1 x2 c1 y c2 v2 m2 → Wrote lists (λ (ts : Stmts). statements! ts l from) m2 v2 x2 x3 c2 z c3 v3 m3
+      → Emits v3 (muxes! (x .result) y z v3) x3 x4 c3 r c4 v4 → Emits n (statement! t l s n) x0 x4 cur r c4 v4 × (m3 ≡ k)
+  if-emits {lists = lists} {k = k} p {n = n} x from {y = y} {v1 = v1} {v2 = v2} e w1 w2 w3 u =
       let h1 = w1 (p .test) (p .first) (p .reads) in
       let h2 = w2 (p .yes) (p .second) (ap lists (h1 .1) ∙ p .then) in
-      let h3 = w3 (p .no) k (ap lists (h2 .1) ∙ p .else) in (
+      let h3 = w3 (p .no) k (ap lists (h2 .1) ∙ p .else) in
+      let same : (ts : Stmts) (j : ℕ) → statements! ts l from j ≡ statements! ts l (withMark l (x .mark) s) j = (λ ts j. ap (λ (z : Slots). statements! ts l z j) e) in (
         emits-same _ _ (ap (λ (b : Build Slots). b n) (sym (ap (λ (t : Stmt). statement! t l s) (p .tree) ∙ if-tree (p .test) (p .yes) (p .no))))
-            (emits-bind (bool! l s (p .test)) _ (h1 .0) (emits-bind (statements! (p .yes) l s) _ (h2 .0) (emits-bind (statements! (p .no) l s) (muxes! x y) (h3 .0) u))),
+            (emits-bind (bool! true l s (markAt l s) (p .test)) _ (h1 .0) (emits-bind (statements! (p .yes) l (withMark l (x .mark) s)) _ (emits-same _ _ (same (p .yes) v1) (h2 .0))
+            (emits-bind (statements! (p .no) l (withMark l (x .mark) s)) (muxes! (x .result) y) (emits-same _ _ (same (p .no) v2) (h3 .0)) u))),
         h3 .1,
       )
 
@@ -223,23 +229,41 @@ module _ (file : List ℕ) (shape : Shape) where
     pub assign-flag-here : (getD file (3 * getD file at 0) 0 ≡ 1 → ⊥) → BoolHere file file shape false (at + 1)
     assign-flag-here k = record { end = h .end; levels = maxDepth; inside = h .inside; read = one-reads (assign-flag file N (h .end) at _ _ reads-here k) }
 
+    -- its variable's literals; v is what the code read
+    module _ {codes : List ℕ} (s : Slotted false file shape codes) (v o : ℕ) (e : v ≡ getD file at 0) (q : o ≡ total (widthsFrom file 0 v)) where
+      pub assign-int-room : getD file (3 * v) 0 ≡ 1 → o + 16 ≤ length codes
+      assign-int-room k = integer-room file shape (getD file at 0) v o codes e (assign-here .1) q (s .bits) (subst (λ (j : ℕ). getD file (3 * j) 0 ≡ 1) e k)
+
+      pub assign-flag-room : (getD file (3 * v) 0 ≡ 1 → ⊥) → o < length codes
+      assign-flag-room k = boolean-room file shape (getD file at 0) v o codes e (assign-here .1) q (s .bits) (subst (λ (j : ℕ). getD file (3 * j) 0 ≡ 1 → ⊥) e k)
+
+  abbrev IG : List ℕ → Bool → Literal → IntExpr → Build (WithMark Bits)
+  IG codes = intGates file file shape false codes
+
+  abbrev BG : List ℕ → Bool → Literal → BoolExpr → Build (WithMark Literal)
+  BG codes = boolGates file file shape false codes
+
+  -- an assignment's value; k is the code of the state's mark
+  module _ {at : ℕ} (codes codes′ : List ℕ) (pen : Cursor) (k : ℕ) (e : fromCode k ≡ markAt (layoutOf shape) (SL codes)) (p1 : Pen) {xs ys : List ℤ} {m : ℕ} where
+    pub assign-int-node : (x : List ℕ) → getD file (3 * getD file at 0) 0 ≡ 1 → EncodesMarked file (intsAt file file shape false) (IG codes) (at + 1) (record { at = pen; marks = true; mark = k }) xs ys (fromCodes x) p1 m
+        → SL codes′ ≡ set (withMark (layoutOf shape) (fromCode (p1 .mark)) (SL codes)) (getD file at 0) (fromCodes x) → Encodes file (assignsAt file file shape) (SG codes) at pen xs ys (SL codes′) (p1 .at) m
+    assign-int-node x j w q = record {
+      encodes = λ end levels t n i h.
+          one-emits (intExpr file N end maxDepth) (assign (getD file at 0)) (int! true (layoutOf shape) (SL codes) (markAt (layoutOf shape) (SL codes))) (SG codes) (λ (b : WithMark Bits). set (withMark (layoutOf shape) (b .mark) (SL codes)) (getD file at 0) (b .result))
+          (assign-tree (layoutOf shape) (SL codes) (getD file at 0)) (assign-int file N end at t n h j) (SL codes′)
+          (λ a d z. let r = w .gates .encodes end maxDepth a d i z in (emits-same _ _ (ap (λ (l : Literal). int! true (layoutOf shape) (SL codes) l a (pen .var)) e) (r .0), r .1)) q;
+    }
+
+    pub assign-flag-node : (x : ℕ) → (getD file (3 * getD file at 0) 0 ≡ 1 → ⊥) → EncodesMarked file (boolsAt file file shape false) (BG codes) (at + 1) (record { at = pen; marks = true; mark = k }) xs ys (fromCode x) p1 m
+        → SL codes′ ≡ set (withMark (layoutOf shape) (fromCode (p1 .mark)) (SL codes)) (getD file at 0) (fromCode x ∷ []) → Encodes file (assignsAt file file shape) (SG codes) at pen xs ys (SL codes′) (p1 .at) m
+    assign-flag-node x j w q = record {
+      encodes = λ end levels t n i h.
+          one-emits (boolExpr file N end maxDepth) (assignB (getD file at 0)) (bool! true (layoutOf shape) (SL codes) (markAt (layoutOf shape) (SL codes))) (SG codes) (λ (b : WithMark Literal). set (withMark (layoutOf shape) (b .mark) (SL codes)) (getD file at 0) (b .result ∷ []))
+          (flag-tree (layoutOf shape) (SL codes) (getD file at 0)) (assign-flag file N end at t n h j) (SL codes′)
+          (λ a d z. let r = w .gates .encodes end maxDepth a d i z in (emits-same _ _ (ap (λ (l : Literal). bool! true (layoutOf shape) (SL codes) l a (pen .var)) e) (r .0), r .1)) q;
+    }
+
   module _ {at : ℕ} (codes codes′ : List ℕ) {pen p1 : Cursor} {xs ys : List ℤ} {m : ℕ} where
-    pub assign-int-node : (x : List ℕ) → getD file (3 * getD file at 0) 0 ≡ 1 → Encodes file (intsAt file file shape false) (int! (layoutOf shape) (SL codes)) (at + 1) pen xs ys (fromCodes x) p1 m
-        → SL codes′ ≡ set (SL codes) (getD file at 0) (fromCodes x) → Encodes file (assignsAt file file shape) (SG codes) at pen xs ys (SL codes′) p1 m
-    assign-int-node x k w e = record {
-      encodes = λ end levels t n i h.
-          one-emits (intExpr file N end maxDepth) (assign (getD file at 0)) (int! (layoutOf shape) (SL codes)) (SG codes) (λ (b : Bits). set (SL codes) (getD file at 0) b)
-          (assign-tree (layoutOf shape) (SL codes) (getD file at 0)) (assign-int file N end at t n h k) (SL codes′) (λ a j q. w .encodes end maxDepth a j i q) e;
-    }
-
-    pub assign-flag-node : (x : ℕ) → (getD file (3 * getD file at 0) 0 ≡ 1 → ⊥) → Encodes file (boolsAt file file shape false) (bool! (layoutOf shape) (SL codes)) (at + 1) pen xs ys (fromCode x) p1 m
-        → SL codes′ ≡ set (SL codes) (getD file at 0) (fromCode x ∷ []) → Encodes file (assignsAt file file shape) (SG codes) at pen xs ys (SL codes′) p1 m
-    assign-flag-node x k w e = record {
-      encodes = λ end levels t n i h.
-          one-emits (boolExpr file N end maxDepth) (assignB (getD file at 0)) (bool! (layoutOf shape) (SL codes)) (SG codes) (λ (b : Literal). set (SL codes) (getD file at 0) (b ∷ []))
-          (flag-tree (layoutOf shape) (SL codes) (getD file at 0)) (assign-flag file N end at t n h k) (SL codes′) (λ a j q. w .encodes end maxDepth a j i q) e;
-    }
-
     -- a statement that is an assignment
     pub stmt-assign-node : getD file at 0 ≡ 0x20 → Encodes file (assignsAt file file shape) (SG codes) (at + 1) pen xs ys (SL codes′) p1 m → Encodes file (stmtsAt file file shape) (SG codes) at pen xs ys (SL codes′) p1 m
     stmt-assign-node e w = record { encodes = λ end levels t n i h. w .encodes end levels t n i (stmt-assign file N end levels at t n h e) }
@@ -261,9 +285,9 @@ module _ (file : List ℕ) (shape : Shape) where
       pub if-test-here : BoolHere file file shape false (at + 1)
       if-test-here = record { end = h .end; levels = maxDepth; inside = h .inside; read = record { tree = parts .test; past = parts .first; reads = parts .reads } }
 
-      module _ (codes : List ℕ) {pen p1 : Cursor} {xs ys : List ℤ} {out : Literal} {m : ℕ} (w : Encodes file (boolsAt file file shape false) (bool! (layoutOf shape) (SL codes)) (at + 1) pen xs ys out p1 m) where
+      module _ (codes : List ℕ) {pen p1 : Pen} {xs ys : List ℤ} {out : Literal} {m : ℕ} (w : EncodesMarked file (boolsAt file file shape false) (BG codes) (at + 1) pen xs ys out p1 m) where
         first-at : m ≡ parts .first
-        first-at = w .encodes (h .end) maxDepth _ _ (h .inside) (parts .reads) .1
+        first-at = w .gates .encodes (h .end) maxDepth _ _ (h .inside) (parts .reads) .1
 
         pub if-first-here : Here file (listsAt file file shape) m
         if-first-here = record { end = h .end; levels = h .levels - 1; inside = h .inside; read = record { tree = parts .yes; past = parts .second; reads = ap (list file N (h .end) (h .levels - 1)) first-at ∙ parts .then } }
@@ -271,7 +295,7 @@ module _ (file : List ℕ) (shape : Shape) where
         pub if-first-on : at < m
         if-first-on = omega (arith, first-at, ahead-bool file N (h .end) maxDepth (at + 1) (parts .test) (parts .first) (parts .reads))
 
-        module _ {q1 : Cursor} {zs : List ℤ} {slots : Slots} {m2 : ℕ} (u : Encodes file (listsAt file file shape) (LG codes) m p1 ys zs slots q1 m2) where
+        module _ (marked : List ℕ) {q0 q1 : Cursor} {us zs : List ℤ} {slots : Slots} {m2 : ℕ} (u : Encodes file (listsAt file file shape) (LG marked) m q0 us zs slots q1 m2) where
           second-at : m2 ≡ parts .second
           second-at = u .encodes (h .end) (h .levels - 1) _ _ (h .inside) (ap (list file N (h .end) (h .levels - 1)) first-at ∙ parts .then) .1
 
@@ -281,12 +305,15 @@ module _ (file : List ℕ) (shape : Shape) where
           pub if-second-on : at < m2
           if-second-on = omega (arith, if-first-on, second-at, first-at, ahead-list file N (h .end) (h .levels - 1) (parts .first) (parts .yes) (parts .second) (parts .then))
 
-  pub if-node : {at : ℕ} (codes : List ℕ) (y z r : List ℕ) {x : Literal} {pen p1 p2 p3 p4 : Cursor} {x0 x1 x2 x3 x4 : List ℤ} {m1 m2 m3 : ℕ} → (getD file at 0 ≡ 0x20 → ⊥)
-      → Encodes file (boolsAt file file shape false) (bool! (layoutOf shape) (SL codes)) (at + 1) pen x0 x1 x p1 m1 → Encodes file (listsAt file file shape) (LG codes) m1 p1 x1 x2 (SL y) p2 m2
-      → Encodes file (listsAt file file shape) (LG codes) m2 p2 x2 x3 (SL z) p3 m3 → Writes p3 (muxes! x (SL y) (SL z)) x3 x4 (SL r) p4 → Encodes file (stmtsAt file file shape) (SG codes) at pen x0 x4 (SL r) p4 m3
-  if-node codes y z r ne w1 w2 w3 u = record {
+  -- `marked` is the state with the mark that the condition left
+  pub if-node : {at : ℕ} (codes marked : List ℕ) (y z r : List ℕ) (x : ℕ) (pen : Cursor) (k : ℕ) (p1 : Pen) {p2 p3 p4 : Cursor} {x0 x1 x2 x3 x4 : List ℤ} {m1 m2 m3 : ℕ} → (getD file at 0 ≡ 0x20 → ⊥)
+      → fromCode k ≡ markAt (layoutOf shape) (SL codes) → SL marked ≡ withMark (layoutOf shape) (fromCode (p1 .mark)) (SL codes)
+      → EncodesMarked file (boolsAt file file shape false) (BG codes) (at + 1) (record { at = pen; marks = true; mark = k }) x0 x1 (fromCode x) p1 m1 → Encodes file (listsAt file file shape) (LG marked) m1 (p1 .at) x1 x2 (SL y) p2 m2
+      → Encodes file (listsAt file file shape) (LG marked) m2 p2 x2 x3 (SL z) p3 m3 → Writes p3 (muxes! (fromCode x) (SL y) (SL z)) x3 x4 (SL r) p4 → Encodes file (stmtsAt file file shape) (SG codes) at pen x0 x4 (SL r) p4 m3
+  if-node codes marked y z r x pen k p1 ne e q w1 w2 w3 u = record {
     encodes = λ end levels t n i h.
-        if-emits (layoutOf shape) (SL codes) (stmt-if file N end levels _ t n h ne .1) (λ a j q. w1 .encodes end maxDepth a j i q) (λ a j q. w2 .encodes end (levels - 1) a j i q) (λ a j q. w3 .encodes end (levels - 1) a j i q) u;
+        if-emits (layoutOf shape) (SL codes) (stmt-if file N end levels _ t n h ne .1) (record { result = fromCode x; mark = fromCode (p1 .mark) }) (SL marked) q
+        (λ a j g. let d = w1 .gates .encodes end maxDepth a j i g in (emits-same _ _ (ap (λ (l : Literal). bool! true (layoutOf shape) (SL codes) l a (pen .var)) e) (d .0), d .1)) (λ a j g. w2 .encodes end (levels - 1) a j i g) (λ a j g. w3 .encodes end (levels - 1) a j i g) u;
   }
 
   -- the walk of a list

@@ -21,16 +21,16 @@ use Rattle.design.proofs.Indexed as indexed
 use Rattle.design.proofs.Widths.{total-append}
 use Rattle.design.specs.Sections.{NormalCell}
 use Rattle.clauses.specs.Literal.{Literal, positive, negate, trueLiteral, literalOf}
-use Rattle.clauses.specs.Circuit.{Built, give, _>>=_, and!, mux!, equal!, Bits}
-use Rattle.clauses.specs.Expression.{Slots, constantBits, integerAt, booleanAt, bool! }
+use Rattle.clauses.specs.Circuit.{Built, Build, give, _>>=_, and!, mux!, equal!, Bits}
+use Rattle.clauses.specs.Expression.{Slots, constantBits, integerAt, booleanAt, bool!, test! }
 use Rattle.clauses.specs.Action.{muxBits!, muxes!, statements!, statusAndEvent!, enable!, effect!, mover! }
 use Rattle.clauses.specs.Formula.{total, variablesFrom}
 use Rattle.clauses.specs.Writing.{fromCode, fromCodes, Emits}
 use Rattle.clauses.specs.FlatState.{widthsFrom, widthsIn, layoutOf, cut, slotsOf, readWidths, over, Slotted}
-use Rattle.clauses.specs.Encoders.{Writes, Here, listsAt, BoolHere, BoolEncoded, ListEncoded}
+use Rattle.clauses.specs.Encoders.{Writes, Gives, Here, listsAt, BoolHere, TestEncoded, ListEncoded}
 use Rattle.clauses.specs.Ready.{ShapedFile, Ready, resultFrom}
 use Rattle.clauses.specs.declared.gate.Cursor.{Cursor}
-use Rattle.clauses.specs.declared.expression.BoolOut.{BoolOut}
+use Rattle.clauses.specs.declared.gate.Out.{Out}
 use Rattle.clauses.specs.declared.action.Done.{Done}
 use Rattle.clauses.proofs.CellCounts.{sizes, kinds, tables}
 use Rattle.clauses.proofs.EmitWords.{code-yes}
@@ -85,11 +85,11 @@ module _ {file table : List ℕ} {shape : Shape} (h : Ready file table shape) wh
     }
 
     -- its gates
-    pub event-writes : (at : ℕ) → at ≡ place → (codes : List ℕ) {pen : Cursor} {xs ys : List ℤ} (r : BoolOut) → BoolEncoded file file shape false codes (at + 1) pen xs ys r
-        → (d : Design) (w : Parts file d) → Writes pen (bool! (layoutOf shape) (slotsOf file shape codes) (eventIn (w .rows) (c-matrix file p) (c-event file p))) xs ys (fromCode (r .lit)) (r .pen)
+    pub event-writes : (at : ℕ) → at ≡ place → (codes : List ℕ) {pen : Cursor} {xs ys : List ℤ} (r : Out) → TestEncoded file file shape false codes (at + 1) pen xs ys r
+        → (d : Design) (w : Parts file d) → Gives pen (test! (layoutOf shape) (slotsOf file shape codes) (eventIn (w .rows) (c-matrix file p) (c-event file p))) xs ys r
     event-writes at q codes {pen = pen} r k d w =
-        emits-same _ _ (ap₂ (λ (x y : ℕ). bool! (layoutOf shape) (slotsOf file shape codes) (eventIn (w .rows) x y) (pen .var)) a b)
-        (k .encodes (place + 1 + getD file place 0) maxDepth _ _ (omega (arith, event-inside, long)) (event-got d w at q) .0)
+        emits-same _ _ (ap₂ (λ (x y : ℕ). test! (layoutOf shape) (slotsOf file shape codes) (eventIn (w .rows) x y) (pen .var)) a b)
+        (k (place + 1 + getD file place 0) maxDepth _ _ (omega (arith, event-inside, long)) (event-got d w at q))
 
   -- a normal cell
   module _ (p : ℕ) (x : NormalCell file p) where
@@ -106,9 +106,9 @@ module _ {file table : List ℕ} {shape : Shape} (h : Ready file table shape) wh
     pub guard-here : (n : ℕ) → n ≡ c-guard file p → (n ≡ 0 → ⊥) → BoolHere file file shape false (p + 8)
     guard-here n e z = record { end = p + 8 + n; levels = maxDepth; inside = omega (arith, normal-fields .past, long); read = record { tree = x .cell .guard; past = c-middle file p; reads = indexed.guard-got file table shape (tables h) p x n e z } }
 
-    pub guard-writes : (n : ℕ) → n ≡ c-guard file p → (n ≡ 0 → ⊥) → (codes : List ℕ) {pen : Cursor} {xs ys : List ℤ} (r : BoolOut) → BoolEncoded file file shape false codes (p + 8) pen xs ys r
-        → Writes pen (bool! (layoutOf shape) (slotsOf file shape codes) (x .cell .guard)) xs ys (fromCode (r .lit)) (r .pen)
-    guard-writes n e z codes r k = k .encodes (p + 8 + n) maxDepth _ _ (omega (arith, normal-fields .past, long)) (indexed.guard-got file table shape (tables h) p x n e z) .0
+    pub guard-writes : (n : ℕ) → n ≡ c-guard file p → (n ≡ 0 → ⊥) → (codes : List ℕ) {pen : Cursor} {xs ys : List ℤ} (r : Out) → TestEncoded file file shape false codes (p + 8) pen xs ys r
+        → Gives pen (test! (layoutOf shape) (slotsOf file shape codes) (x .cell .guard)) xs ys r
+    guard-writes n e z codes r k = k (p + 8 + n) maxDepth _ _ (omega (arith, normal-fields .past, long)) (indexed.guard-got file table shape (tables h) p x n e z)
 
     pub action-here : (m : ℕ) → m ≡ c-middle file p → Here file (listsAt file file shape) m
     action-here m a = record { end = c-past file p; levels = maxNest; inside = omega (arith, normal-fields .past, long); read = record { tree = x .cell .action; past = c-past file p; reads = indexed.action-got file table shape (tables h) p x m (c-past file p) a refl } }
@@ -119,20 +119,27 @@ module _ {file table : List ℕ} {shape : Shape} (h : Ready file table shape) wh
 
 -- gates of a cell's parts
 pub event-emits : (l : Layout) (s : Slots) (m st : ℕ) (event : BoolExpr) (x k : Bits) (q v r : Literal) {n : ℕ} {x0 x1 x2 x3 : List ℤ} {c0 c1 c2 c3 v1 v2 v3 : ℕ} → x ≡ integerAt s (statusSlot l m) → k ≡ constantBits 16 st
-    → Emits n (equal! x k n) x0 x1 c0 q c1 v1 → Emits v1 (bool! l s event v1) x1 x2 c1 v c2 v2 → Emits v2 (and! q v v2) x2 x3 c2 r c3 v3 → Emits n (statusAndEvent! l s m st event n) x0 x3 c0 r c3 v3
+    → Emits n (equal! x k n) x0 x1 c0 q c1 v1 → Emits v1 (test! l s event v1) x1 x2 c1 v c2 v2 → Emits v2 (and! q v v2) x2 x3 c2 r c3 v3 → Emits n (statusAndEvent! l s m st event n) x0 x3 c0 r c3 v3
 unfolding statusAndEvent!
 event-emits l s m st event x k q v r {n = n} ex ek w1 w2 w3 =
-    emits-bind (equal! (integerAt s (statusSlot l m)) (constantBits 16 st)) _ (emits-same _ _ (ap₂ (λ (a b : Bits). equal! a b n) ex ek) w1) (emits-bind (bool! l s event) (and! q) w2 w3)
+    emits-bind (equal! (integerAt s (statusSlot l m)) (constantBits 16 st)) _ (emits-same _ _ (ap₂ (λ (a b : Bits). equal! a b n) ex ek) w1) (emits-bind (test! l s event) (and! q) w2 w3)
 
 pub enable-emits : (l : Layout) (s : Slots) (c : Cell) (a g r : Literal) {n : ℕ} {x0 x1 x2 x3 : List ℤ} {c0 c1 c2 c3 v1 v2 v3 : ℕ}
-    → Emits n (statusAndEvent! l s (c .matrix) (c .status) (c .event) n) x0 x1 c0 a c1 v1 → Emits v1 (bool! l s (c .guard) v1) x1 x2 c1 g c2 v2 → Emits v2 (and! a g v2) x2 x3 c2 r c3 v3 → Emits n (enable! l s (cell c) n) x0 x3 c0 r c3 v3
+    → Emits n (statusAndEvent! l s (c .matrix) (c .status) (c .event) n) x0 x1 c0 a c1 v1 → Emits v1 (test! l s (c .guard) v1) x1 x2 c1 g c2 v2 → Emits v2 (and! a g v2) x2 x3 c2 r c3 v3 → Emits n (enable! l s (cell c) n) x0 x3 c0 r c3 v3
 unfolding enable!
 enable-emits l s c a g r w1 w2 w3 =
-    emits-bind (statusAndEvent! l s (c .matrix) (c .status) (c .event)) _ w1 (emits-bind (bool! l s (c .guard)) (and! a) w2 w3)
+    emits-bind (statusAndEvent! l s (c .matrix) (c .status) (c .event)) _ w1 (emits-bind (test! l s (c .guard)) (and! a) w2 w3)
 
-pub guard-true : (l : Layout) (s : Slots) (g : BoolExpr) (n : ℕ) (xs : List ℤ) (cur : ℕ) → g ≡ constantB true → Emits n (bool! l s g n) xs xs cur (fromCode 2) cur n
-unfolding bool!
-guard-true l s g n xs cur e = emits-result _ (sym code-yes) (emits-same _ _ (sym (ap (λ (x : BoolExpr). bool! l s x n) e)) (emits-give n trueLiteral xs cur))
+-- an absent expression is true
+test-true : (l : Layout) (s : Slots) → test! l s (constantB true) ≡ give trueLiteral
+unfolding test! bool! give _>>=_
+test-true l s = refl
+
+pub test-none : (l : Layout) (s : Slots) (e : BoolExpr) → e ≡ constantB true → test! l s e ≡ give trueLiteral
+test-none l s e q = ap (test! l s) q ∙ test-true l s
+
+pub guard-true : (l : Layout) (s : Slots) (g : BoolExpr) (n : ℕ) (xs : List ℤ) (cur : ℕ) → g ≡ constantB true → Emits n (test! l s g n) xs xs cur (fromCode 2) cur n
+guard-true l s g n xs cur e = emits-result _ (sym code-yes) (emits-same _ _ (ap (λ (b : Build Literal). b n) (sym (test-none l s g e))) (emits-give n trueLiteral xs cur))
 
 -- the result of muxes is consecutive variables
 bits-out : (c : Literal) (xs ys : Bits) (n : ℕ) → length xs ≡ length ys → (muxBits! c xs ys n) .out ≡ variablesFrom n (length xs)

@@ -1,19 +1,20 @@
 -- Loops over words of sixteen literals. Assumes nothing.
-use Prim.Native.Nat.{ℕ, zero, suc, _+_, _-_, _<_, _≤_}
+use Prim.Native.Nat.{ℕ, zero, suc, _+_, _-_, _/_, _%_, _<_, _≤_}
 use mathlib.Core.Path.{_≡_, refl, sym, ap, ap₂, _∙_}
 use mathlib.Core.Bool.{false}
 use mathlib.Core.List.{List, [], _∷_, _++_, map}
 use native.Mathlib.Omega.{arith}
+use native.Mathlib.Numerals.{add-one, unary-clauses}
 use lib.ListN.{length, getD, take, drop, set, replicate, length-set}
 use lib.IntN.{ℤ}
 use Rattle.design.specs.Tree.{truth}
 use Rattle.clauses.specs.Literal.{Literal, negate, trueLiteral, falseLiteral}
-use Rattle.clauses.specs.Circuit.{Build, give, _>>=_, and!, xor!, or!, Bits, Summed, sum!, difference!, shift, addend, negateTop, less!, xors!, chain!, equal! }
+use Rattle.clauses.specs.Circuit.{Build, give, _>>=_, and!, xor!, or!, Bits, Summed, earlierOf, sum!, difference!, shift, addend, product!, negateTop, less!, xors!, chain!, equal! }
 use Rattle.clauses.specs.Writing.{fromCode, fromCodes, Emits}
 use Rattle.clauses.specs.Builders.{SumBit, sumBit! }
 use Rattle.clauses.proofs.EmitWords.{append-nil, code-no}
 use Rattle.clauses.proofs.EmitLists.{drop-one, drop-all, drop-none, take-all, codes-more}
-use Rattle.clauses.proofs.EmitBuilds.{emits-same, emits-result, emits-bind, emits-map, Left, left-start, left-on, left-map, left-same, left-result, left-end}
+use Rattle.clauses.proofs.EmitBuilds.{emits-same, emits-result, emits-give, emits-bind, emits-map, Left, left-start, left-on, left-map, left-same, left-result, left-end}
 
 pub bit-emits : (n : ℕ) (a b c p s u t k : Literal) {xs x1 x2 x3 x4 x5 : List ℤ} {c0 c1 c2 c3 c4 c5 v1 v2 v3 v4 v5 : ℕ}
     → Emits n (xor! a b n) xs x1 c0 p c1 v1 → Emits v1 (xor! p c v1) x1 x2 c1 s c2 v2 → Emits v2 (and! a b v2) x2 x3 c2 u c3 v3 → Emits v3 (and! p c v3) x3 x4 c3 t c4 v4 → Emits v4 (or! u t v4) x4 x5 c4 k c5 v5
@@ -23,43 +24,58 @@ bit-emits n a b c p s u t k w1 w2 w3 w4 w5 =
     emits-bind (xor! a b) _ w1 (emits-bind (xor! p c) _ w2 (emits-bind (and! a b) _ w3 (emits-bind (and! p c) _ w4 (emits-map (or! u t) (λ (z : Literal). record { bit = s; carry = z }) w5))))
 
 -- the sum
-abbrev cons : Literal → Summed → Summed
-cons s r = record { bits = s ∷ r .bits; carry = r .carry }
+abbrev cons : Literal → Literal → Summed → Summed
+cons c s r = record { bits = s ∷ r .bits; carry = r .carry; earlier = earlierOf c (r .bits) (r .earlier) }
 
-abbrev sofar : List ℕ → ℕ → Summed → Summed
-sofar out i r = record { bits = fromCodes (take i out) ++ r .bits; carry = r .carry }
+-- The carry into the last bit, where i bits are done: e, which went into the last of them, if none is left.
+abbrev held : ℕ → Literal → Summed → Literal
+held zero e r = r .earlier
+held (suc i) e r = earlierOf e (r .bits) (r .earlier)
+
+held-on : (i : ℕ) (e c s : Literal) (r : Summed) → held i e (cons c s r) ≡ held (i + 1) c r
+held-on zero e c s r = refl
+held-on (suc i) e c s r = ap (λ (k : ℕ). held k c r) (sym (add-one (suc i)))
+
+held-end : (i : ℕ) (e c : Literal) → 1 ≤ i → held i e (record { bits = []; carry = c; earlier = c }) ≡ e
+held-end zero e c h = absurd (omega arith)
+held-end (suc i) e c h = refl
+
+abbrev sofar : List ℕ → ℕ → Literal → Summed → Summed
+sofar out i e r = record { bits = fromCodes (take i out) ++ r .bits; carry = r .carry; earlier = held i e r }
 
 sum-step : (a b : List ℕ) (c : Literal) (i n : ℕ) → i < length a → i < length b
-    → sum! (fromCodes (drop i a)) (fromCodes (drop i b)) c n ≡ (sumBit! (fromCode (getD a i 0)) (fromCode (getD b i 0)) c >>= (λ (p : SumBit). sum! (fromCodes (drop (i + 1) a)) (fromCodes (drop (i + 1) b)) (p .carry) >>= (λ (r : Summed). give (cons (p .bit) r)))) n
+    → sum! (fromCodes (drop i a)) (fromCodes (drop i b)) c n ≡ (sumBit! (fromCode (getD a i 0)) (fromCode (getD b i 0)) c >>= (λ (p : SumBit). sum! (fromCodes (drop (i + 1) a)) (fromCodes (drop (i + 1) b)) (p .carry) >>= (λ (r : Summed). give (cons c (p .bit) r)))) n
 unfolding sum! sumBit! give _>>=_ and! xor! or!
 sum-step a b c i n h k = ap₂ (λ (x y : List ℕ). sum! (fromCodes x) (fromCodes y) c n) (drop-one a i h) (drop-one b i k)
 
-pub record Summing (a b : List ℕ) (c₀ : Literal) (n₀ : ℕ) (xs₀ : List ℤ) (cur₀ : ℕ) (xs : List ℤ) (out : List ℕ) (c : Literal) (cur n i : ℕ) : Type 0 where
+-- c is the carry, e the one before it
+pub record Summing (a b : List ℕ) (c₀ : Literal) (n₀ : ℕ) (xs₀ : List ℤ) (cur₀ : ℕ) (xs : List ℤ) (out : List ℕ) (c e : Literal) (cur n i : ℕ) : Type 0 where
   pub within : i ≤ 16
   pub size : length out ≡ 16
-  pub left : Left n₀ (sum! (fromCodes a) (fromCodes b) c₀ n₀) xs₀ cur₀ n (sum! (fromCodes (drop i a)) (fromCodes (drop i b)) c n) xs cur (sofar out i)
+  pub left : Left n₀ (sum! (fromCodes a) (fromCodes b) c₀ n₀) xs₀ cur₀ n (sum! (fromCodes (drop i a)) (fromCodes (drop i b)) c n) xs cur (sofar out i e)
 
 module _ (a b : List ℕ) (la : length a ≡ 16) (lb : length b ≡ 16) (c₀ : Literal) (n₀ : ℕ) (xs₀ : List ℤ) (cur₀ : ℕ) where
-  pub summing-start : (out : List ℕ) → length out ≡ 16 → Summing a b c₀ n₀ xs₀ cur₀ xs₀ out c₀ cur₀ n₀ 0
+  pub summing-start : (out : List ℕ) → length out ≡ 16 → Summing a b c₀ n₀ xs₀ cur₀ xs₀ out c₀ c₀ cur₀ n₀ 0
   summing-start out h = record { within = omega arith; size = h; left = left-start n₀ (sum! (fromCodes a) (fromCodes b) c₀ n₀) xs₀ cur₀ }
 
-  pub summing-on : {xs : List ℤ} (out : List ℕ) (c : Literal) {cur n i : ℕ} → i < 16 → Summing a b c₀ n₀ xs₀ cur₀ xs out c cur n i
-      → {ys : List ℤ} (s k : ℕ) {cur′ n′ : ℕ} → Emits n (sumBit! (fromCode (getD a i 0)) (fromCode (getD b i 0)) c n) xs ys cur (record { bit = fromCode s; carry = fromCode k }) cur′ n′ → Summing a b c₀ n₀ xs₀ cur₀ ys (set out i s) (fromCode k) cur′ n′ (i + 1)
-  summing-on out c {n = n} {i = i} h l s k w =
+  pub summing-on : {xs : List ℤ} (out : List ℕ) (c e : Literal) {cur n i : ℕ} → i < 16 → Summing a b c₀ n₀ xs₀ cur₀ xs out c e cur n i
+      → {ys : List ℤ} (s k : ℕ) {cur′ n′ : ℕ} → Emits n (sumBit! (fromCode (getD a i 0)) (fromCode (getD b i 0)) c n) xs ys cur (record { bit = fromCode s; carry = fromCode k }) cur′ n′ → Summing a b c₀ n₀ xs₀ cur₀ ys (set out i s) (fromCode k) c cur′ n′ (i + 1)
+  summing-on out c e {n = n} {i = i} h l s k w =
       let one = left-same _ _ (sum-step a b c i n (omega arith) (omega arith)) (l .left) in
       let two = left-on (sumBit! (fromCode (getD a i 0)) (fromCode (getD b i 0)) c) _ one w in
-      let three = left-map (sum! (fromCodes (drop (i + 1) a)) (fromCodes (drop (i + 1) b)) (fromCode k)) (cons (fromCode s)) two in
+      let three = left-map (sum! (fromCodes (drop (i + 1) a)) (fromCodes (drop (i + 1) b)) (fromCode k)) (cons c (fromCode s)) two in
       record {
         within = omega arith;
         size = length-set out i s ∙ l .size;
-        left = left-result _ _ (λ (x : Summed). ap (λ (bs : Bits). record { bits = bs; carry = x .carry }) (codes-more out i s (fromCode s) (x .bits) (omega (arith, l .size)) refl)) three;
+        left = left-result _ _ (λ (x : Summed). ap₂ (λ (bs : Bits) (q : Literal). record { bits = bs; carry = x .carry; earlier = q }) (codes-more out i s (fromCode s) (x .bits) (omega (arith, l .size)) refl) (held-on i e c (fromCode s) x)) three;
       }
 
-  pub summing-end : {xs : List ℤ} (out : List ℕ) (c : Literal) {cur n i : ℕ} → 16 ≤ i → Summing a b c₀ n₀ xs₀ cur₀ xs out c cur n i → Emits n₀ (sum! (fromCodes a) (fromCodes b) c₀ n₀) xs₀ xs cur₀ (record { bits = fromCodes out; carry = c }) cur n
+  pub summing-end : {xs : List ℤ} (out : List ℕ) (c e : Literal) {cur n i : ℕ} → 16 ≤ i → Summing a b c₀ n₀ xs₀ cur₀ xs out c e cur n i → Emits n₀ (sum! (fromCodes a) (fromCodes b) c₀ n₀) xs₀ xs cur₀ (record { bits = fromCodes out; carry = c; earlier = e }) cur n
   unfolding sum!
-  summing-end out c {n = n} {i = i} h l =
-      let e : sum! (fromCodes (drop i a)) (fromCodes (drop i b)) c n ≡ give (record { bits = []; carry = c }) n = ap (λ (x : List ℕ). sum! (fromCodes x) (fromCodes (drop i b)) c n) (drop-all a i (omega arith)) in
-      emits-result _ (ap (λ (bs : Bits). record { bits = bs; carry = c }) (append-nil (fromCodes (take i out)) ∙ ap fromCodes (take-all out i (omega (arith, l .size))))) (left-end (record { bits = []; carry = c }) (left-same _ _ e (l .left)))
+  summing-end out c e {n = n} {i = i} h l =
+      let none : Summed = record { bits = []; carry = c; earlier = c } in
+      let q : sum! (fromCodes (drop i a)) (fromCodes (drop i b)) c n ≡ give none n = ap (λ (x : List ℕ). sum! (fromCodes x) (fromCodes (drop i b)) c n) (drop-all a i (omega arith)) in
+      emits-result _ (ap₂ (λ (bs : Bits) (x : Literal). record { bits = bs; carry = c; earlier = x }) (append-nil (fromCodes (take i out)) ∙ ap fromCodes (take-all out i (omega (arith, l .size)))) (held-end i e c (omega arith))) (left-end none (left-same _ _ q (l .left)))
 
 -- A row of gates, one for each pair of bits: R is the row, G its gate.
 pub record Row (G : Literal → Literal → Build Literal) (R : Bits → Bits → Build Bits) : Type 0 where
@@ -218,3 +234,19 @@ unfolding equal!
 equal-emits n a b x c l {v =
     v} e w u = emits-bind (xors! a b) (λ (x : Bits). chain! trueLiteral (map negate x)) w (emits-same _ _ (ap (λ (y : Literal). chain! y (map negate x) v)
     e) u)
+
+-- a product: no sum is left, or the first one and then the rest
+pub product-done : (n left c : ℕ) (x y : Bits) {xs : List ℤ} {cur : ℕ} → left ≡ 0 → Emits n (product! left c x y n) xs xs cur y cur n
+unfolding product!
+product-done n left c x y {xs} {cur} e = emits-same _ _ (ap (λ (k : ℕ). product! k c x y n) (sym e)) (emits-give n y xs cur)
+
+product-step : (left c : ℕ) (x y : Bits) → (left ≡ 0 → ⊥) → product! left c x y ≡ (sum! y (addend (truth (c % 2)) x) falseLiteral >>= (λ (r : Summed). product! (left - 1) (c / 2) (shift falseLiteral x) (r .bits)))
+unfolding product!
+product-step zero c x y h = absurd (h refl)
+product-step (suc left) c x y h = simp unary-clauses
+
+pub product-on : (n left c : ℕ) (x y a x′ : Bits) (z : Literal) {xs ys zs : List ℤ} {cur cur′ v cur″ v″ : ℕ} (r : Summed) {out : Bits} → (left ≡ 0 → ⊥) → a ≡ addend (truth (c % 2)) x → z ≡ falseLiteral → x′ ≡ shift falseLiteral x
+    → Emits n (sum! y a z n) xs ys cur r cur′ v → Emits v (product! (left - 1) (c / 2) x′ (r .bits) v) ys zs cur′ out cur″ v″ → Emits n (product! left c x y n) xs zs cur out cur″ v″
+product-on n left c x y a x′ z {v = v} r h ea ez ex w u =
+    emits-same _ _ (ap (λ (b : Build Bits). b n) (sym (product-step left c x y h)))
+    (emits-bind (sum! y (addend (truth (c % 2)) x) falseLiteral) _ (emits-same _ _ (ap₂ (λ (p : Bits) (q : Literal). sum! y p q n) ea ez) w) (emits-same _ _ (ap (λ (q : Bits). product! (left - 1) (c / 2) q (r .bits) v) ex) u))

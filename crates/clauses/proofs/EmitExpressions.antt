@@ -1,8 +1,7 @@
 -- Gates of expressions: an operator after its operands, over the bytes. Assumes nothing.
-use Prim.Native.Nat.{ℕ, zero, suc, _+_, _-_, _*_, _/_, _%_, _<_, _≤_}
-use mathlib.Core.Path.{_≡_, refl, sym, ap, ap₂, subst, _∙_}
+use Prim.Native.Nat.{ℕ, _+_, _-_, _*_, _<_, _≤_}
+use mathlib.Core.Path.{_≡_, refl, sym, ap, subst, _∙_}
 use native.Mathlib.Omega.{arith}
-use native.Mathlib.Numerals.{unary-clauses}
 use mathlib.Core.Bool.{Bool, true, false, cond, not, _||_}
 use mathlib.Core.Logic.{_⊎_, ⊎-elim}
 use mathlib.Core.List.{List, []}
@@ -20,49 +19,60 @@ use Rattle.step.specs.Accepted.{isRead, past}
 use Rattle.step.proofs.Values.{integerByte, statusByte, booleanByte, arithmeticOf, logicOf, compareOf, int-forward, bool-forward}
 use Rattle.design.specs.State.{Layout, numberIn, statusSlot}
 use Rattle.clauses.specs.Literal.{Literal, negate, falseLiteral, literalOf}
-use Rattle.clauses.specs.Circuit.{Build, give, _>>=_, and!, or!, Bits, Summed, sum!, difference!, shift, addend, product!, equal!, less! }
-use Rattle.clauses.specs.Expression.{Slots, constantBits, integerAt, booleanAt, int!, bool! }
-use Rattle.clauses.specs.Writing.{fromCodes, Emits}
-use Rattle.clauses.specs.Builders.{arithmetic!, logic!, compare! }
+use Rattle.clauses.specs.Circuit.{Build, give, _>>=_, and!, or!, Bits, Summed, sum!, difference!, product!, equal!, less!, WithMark, mark! }
+use Rattle.clauses.specs.Expression.{Slots, constantBits, integerAt, booleanAt, sumPasses!, productPasses!, int!, bool!, test! }
+use Rattle.clauses.specs.Writing.{fromCode, fromCodes, Emits}
+use Rattle.clauses.specs.Builders.{beside!, arithmetic!, multiplied!, logic!, compare! }
 use Rattle.clauses.specs.FlatState.{readSlots, layoutOf, Slotted, Reads}
-use Rattle.clauses.specs.Encoders.{Writes, Here, Encodes, intsAt, boolsAt, IntHere, BoolHere}
+use Rattle.clauses.specs.Encoders.{Writes, WritesMarked, MarkWritten, Here, Encodes, EncodesMarked, intsAt, boolsAt, intGates, boolGates, IntHere, BoolHere, TestEncoded}
 use Rattle.clauses.specs.declared.gate.Cursor.{Cursor}
+use Rattle.clauses.specs.declared.gate.Pen.{Pen}
 use Rattle.clauses.specs.declared.expression.IntOut.{IntOut}
 use Rattle.clauses.proofs.EmitBuilds.{emits-same, emits-result, emits-give, emits-bind, emits-map}
+use Rattle.clauses.proofs.EmitMarks.{Moved, mark-moved}
 use Rattle.clauses.proofs.EmitSlots.{slotted-for}
 use Rattle.clauses.proofs.EmitReads.{OneRead, TwoRead, Named, above, int-inside, bool-inside, read-constant, read-variable, read-status, names-slot, is-next-status, read-arithmetic, read-product, read-truth, read-flag, is-flag, read-not, read-logic, read-compare}
 
 -- by the operator byte
-plus-is : (op : ℕ) (x y : Bits) → op ≡ 0x04 → arithmetic! op x y ≡ (sum! x y falseLiteral >>= (λ (r : Summed). give (r .bits)))
+abbrev marked : Bool → Literal → Summed → Build (WithMark Bits)
+marked marks m r = mark! marks m (sumPasses! r) >>= (λ (after : Literal). give (record { result = r .bits; mark = after }))
+
+plus-is : (op : ℕ) (marks : Bool) (x : Bits) (y : WithMark Bits) → op ≡ 0x04 → arithmetic! op marks x y ≡ (sum! x (y .result) falseLiteral >>= marked marks (y .mark))
 unfolding arithmetic!
-plus-is op x y e = ap (λ (t : Bool). cond t (sum! x y falseLiteral) (difference! x y) >>= (λ (r : Summed). give (r .bits))) (eq-eqb op 0x04 e)
+plus-is op marks x y e = ap (λ (t : Bool). cond t (sum! x (y .result) falseLiteral) (difference! x (y .result)) >>= marked marks (y .mark)) (eq-eqb op 0x04 e)
 
-minus-is : (op : ℕ) (x y : Bits) → (op ≡ 0x04 → ⊥) → arithmetic! op x y ≡ (difference! x y >>= (λ (r : Summed). give (r .bits)))
+minus-is : (op : ℕ) (marks : Bool) (x : Bits) (y : WithMark Bits) → (op ≡ 0x04 → ⊥) → arithmetic! op marks x y ≡ (difference! x (y .result) >>= marked marks (y .mark))
 unfolding arithmetic!
-minus-is op x y e = ap (λ (t : Bool). cond t (sum! x y falseLiteral) (difference! x y) >>= (λ (r : Summed). give (r .bits))) (ne-eqb op 0x04 e)
+minus-is op marks x y e = ap (λ (t : Bool). cond t (sum! x (y .result) falseLiteral) (difference! x (y .result)) >>= marked marks (y .mark)) (ne-eqb op 0x04 e)
 
-pub sum-emits : (n op : ℕ) (x y : Bits) (c : Literal) {xs ys : List ℤ} {cur : ℕ} {r : Summed} {cur′ v : ℕ} → op ≡ 0x04 → c ≡ falseLiteral → Emits n (sum! x y c n) xs ys cur r cur′ v → Emits n (arithmetic! op x y n) xs ys cur (r .bits) cur′ v
-sum-emits n op x y c e q w =
-    emits-same _ _ (ap (λ (b : Build Bits). b n) (sym (plus-is op x y e))) (emits-map (sum! x y falseLiteral) (λ (r : Summed). r .bits) (emits-same _ _ (ap (λ (z : Literal). sum! x y z n) q) w))
+-- an operator's gates, and the mark behind them
+module _ (op : ℕ) (x y : Bits) (pen after : Pen) {xs ys zs : List ℤ} (s : Summed) {cur v : ℕ} where
+  summed-emits : (build : Build Summed) → arithmetic! op (pen .marks) x (record { result = y; mark = fromCode (pen .mark) }) ≡ (build >>= marked (pen .marks) (fromCode (pen .mark)))
+      → Emits (pen .at .var) (build (pen .at .var)) xs ys (pen .at .cur) s cur v → MarkWritten (record { cur = cur; var = v }) pen (sumPasses! s) ys zs after
+      → WritesMarked pen (arithmetic! op (pen .marks) x (record { result = y; mark = fromCode (pen .mark) })) xs zs (s .bits) after
+  summed-emits build e w (u, k) = (
+    emits-same _ _ (ap (λ (b : Build (WithMark Bits)). b (pen .at .var)) (sym e)) (emits-bind build (marked (pen .marks) (fromCode (pen .mark))) w
+        (emits-map (mark! (pen .marks) (fromCode (pen .mark)) (sumPasses! s)) (λ (m : Literal). record { result = s .bits; mark = m }) u)),
+    k,
+  )
 
-pub minus-emits : (n op : ℕ) (x y : Bits) {xs ys : List ℤ} {cur : ℕ} {r : Summed} {cur′ v : ℕ} → (op ≡ 0x04 → ⊥) → Emits n (difference! x y n) xs ys cur r cur′ v → Emits n (arithmetic! op x y n) xs ys cur (r .bits) cur′ v
-minus-emits n op x y e w = emits-same _ _ (ap (λ (b : Build Bits). b n) (sym (minus-is op x y e))) (emits-map (difference! x y) (λ (r : Summed). r .bits) w)
+  pub sum-emits : (c : Literal) → op ≡ 0x04 → c ≡ falseLiteral → Emits (pen .at .var) (sum! x y c (pen .at .var)) xs ys (pen .at .cur) s cur v → MarkWritten (record { cur = cur; var = v }) pen (sumPasses! s) ys zs after
+      → WritesMarked pen (arithmetic! op (pen .marks) x (record { result = y; mark = fromCode (pen .mark) })) xs zs (s .bits) after
+  sum-emits c e q w u = summed-emits (sum! x y falseLiteral) (plus-is op (pen .marks) x _ e) (emits-same _ _ (ap (λ (z : Literal). sum! x y z (pen .at .var)) q) w) u
 
--- a product: no sum is left, or the first one and then the rest
-pub product-done : (n left c : ℕ) (x y : Bits) {xs : List ℤ} {cur : ℕ} → left ≡ 0 → Emits n (product! left c x y n) xs xs cur y cur n
-unfolding product!
-product-done n left c x y {xs} {cur} e = emits-same _ _ (ap (λ (k : ℕ). product! k c x y n) (sym e)) (emits-give n y xs cur)
+  pub minus-emits : (op ≡ 0x04 → ⊥) → Emits (pen .at .var) (difference! x y (pen .at .var)) xs ys (pen .at .cur) s cur v → MarkWritten (record { cur = cur; var = v }) pen (sumPasses! s) ys zs after
+      → WritesMarked pen (arithmetic! op (pen .marks) x (record { result = y; mark = fromCode (pen .mark) })) xs zs (s .bits) after
+  minus-emits e w u = summed-emits (difference! x y) (minus-is op (pen .marks) x _ e) w u
 
-product-step : (left c : ℕ) (x y : Bits) → (left ≡ 0 → ⊥) → product! left c x y ≡ (sum! y (addend (truth (c % 2)) x) falseLiteral >>= (λ (r : Summed). product! (left - 1) (c / 2) (shift falseLiteral x) (r .bits)))
-unfolding product!
-product-step zero c x y h = absurd (h refl)
-product-step (suc left) c x y h = simp unary-clauses
-
-pub product-on : (n left c : ℕ) (x y a x′ : Bits) (z : Literal) {xs ys zs : List ℤ} {cur cur′ v cur″ v″ : ℕ} (r : Summed) {out : Bits} → (left ≡ 0 → ⊥) → a ≡ addend (truth (c % 2)) x → z ≡ falseLiteral → x′ ≡ shift falseLiteral x
-    → Emits n (sum! y a z n) xs ys cur r cur′ v → Emits v (product! (left - 1) (c / 2) x′ (r .bits) v) ys zs cur′ out cur″ v″ → Emits n (product! left c x y n) xs zs cur out cur″ v″
-product-on n left c x y a x′ z {v = v} r h ea ez ex w u =
-    emits-same _ _ (ap (λ (b : Build Bits). b n) (sym (product-step left c x y h)))
-    (emits-bind (sum! y (addend (truth (c % 2)) x) falseLiteral) _ (emits-same _ _ (ap₂ (λ (p : Bits) (q : Literal). sum! y p q n) ea ez) w) (emits-same _ _ (ap (λ (q : Bits). product! (left - 1) (c / 2) q (r .bits) v) ex) u))
+pub product-emits : (k : ℕ) (x z : Bits) (pen p1 after : Pen) {xs ys zs : List ℤ} (r : Bits) {c v : ℕ} → z ≡ constantBits 16 0 → Emits (pen .at .var) (product! 16 k x z (pen .at .var)) xs ys (pen .at .cur) r c v
+    → Moved pen (record { cur = c; var = v }) p1 → MarkWritten (p1 .at) p1 (productPasses! k x) ys zs after → WritesMarked pen (multiplied! k (pen .marks) (record { result = x; mark = fromCode (pen .mark) })) xs zs r after
+unfolding multiplied!
+product-emits k x z pen p1 after r ez w m u =
+    let (a, b) = mark-moved (productPasses! k x) pen p1 after m u in (
+      emits-bind (product! 16 k x (constantBits 16 0)) _ (emits-same _ _ (ap (λ (q : Bits). product! 16 k x q (pen .at .var)) ez) w)
+          (emits-map (mark! (pen .marks) (fromCode (pen .mark)) (productPasses! k x)) (λ (m : Literal). record { result = r; mark = m }) a),
+      b,
+    )
 
 pub logic-and : (op : ℕ) (x y : Literal) (n : ℕ) → op ≡ 0x13 → logic! op x y n ≡ and! x y n
 unfolding logic!
@@ -111,64 +121,70 @@ module _ {A B R Q : Type 0} (one : Reader A) (f : A → B) (build : A → Build 
   pub one-emits : {n : ℕ} {xs ys : List ℤ} {cur : ℕ} {a : R} {c v m : ℕ} (r : Q) → Wrote one build at n xs ys cur a c v m → r ≡ g a → Emits n (build′ e n) xs ys cur r c v × (m ≡ k)
   one-emits {ys = ys} {a = a} {c = c} {v = v} r w q = then-emits one f build build′ (λ x. give (g x)) law p w (emits-result r (sym q) (emits-give v (g a) ys c))
 
--- two operands, then an operator
-module _ {A B R Q : Type 0} (one : Reader A) (f : A → A → B) (build : A → Build R) (build′ : B → Build Q) (g : R → R → Build Q) (law : (a b : A) → build′ (f a b) ≡ (build a >>= (λ x. build b >>= g x))) {at : ℕ} {e : B} {k : ℕ} (p : TwoRead one f at e k) where
-  pub two-emits : {n : ℕ} {xs ys : List ℤ} {cur : ℕ} {a : R} {c v m : ℕ} {zs us : List ℤ} {b : R} {c′ v′ m′ : ℕ} {r : Q} {c″ v″ : ℕ} → Wrote one build at n xs ys cur a c v m → Wrote one build m v ys zs c b c′ v′ m′ → Emits v′ (g a b v′) zs us c′ r c″ v″ → Emits n (build′ e n) xs us cur r c″ v″ × (m′ ≡ k)
+-- two operands, then an operator; the second one's gates may go by the first one's result
+module _ {A B R Q : Type 0} (one : Reader A) (f : A → A → B) (build : A → Build R) (second : R → A → Build R) (build′ : B → Build Q) (g : R → R → Build Q) (law : (a b : A) → build′ (f a b) ≡ (build a >>= (λ x. second x b >>= g x)))
+    {at : ℕ} {e : B} {k : ℕ} (p : TwoRead one f at e k) where
+  pub two-emits : {n : ℕ} {xs ys : List ℤ} {cur : ℕ} {a : R} {c v m : ℕ} {zs us : List ℤ} {b : R} {c′ v′ m′ : ℕ} {r : Q} {c″ v″ : ℕ} → Wrote one build at n xs ys cur a c v m → Wrote one (second a) m v ys zs c b c′ v′ m′ → Emits v′ (g a b v′) zs us c′ r c″ v″ → Emits n (build′ e n) xs us cur r c″ v″ × (m′ ≡ k)
   two-emits {n = n} {a = a} w w′ u =
       let h = w (p .first) (p .middle) (p .reads) in
       let h′ = w′ (p .second) k (ap one (h .1) ∙ p .then) in
-      (emits-same _ _ (ap (λ (b : Build Q). b n) (sym (ap build′ (p .tree) ∙ law (p .first) (p .second)))) (emits-bind (build (p .first)) (λ x. build (p .second) >>= g x) (h .0) (emits-bind (build (p .second)) (g a) (h′ .0) u)), h′ .1)
+      (emits-same _ _ (ap (λ (b : Build Q). b n) (sym (ap build′ (p .tree) ∙ law (p .first) (p .second)))) (emits-bind (build (p .first)) (λ x. second x (p .second) >>= g x) (h .0) (emits-bind (second a (p .second)) (g a) (h′ .0) u)), h′ .1)
 
-module _ (l : Layout) (s : Slots) where
-  pub arithmetic-tree : (op : ℕ) (a b : IntExpr) → int! l s (arithmeticOf op a b) ≡ (int! l s a >>= (λ (x : Bits). int! l s b >>= arithmetic! op x))
+module _ (l : Layout) (s : Slots) (marks : Bool) (m : Literal) where
+  pub arithmetic-tree : (op : ℕ) (a b : IntExpr) → int! marks l s m (arithmeticOf op a b) ≡ (int! marks l s m a >>= (λ (x : WithMark Bits). int! marks l s (x .mark) b >>= arithmetic! op marks (x .result)))
   unfolding int! arithmetic!
   arithmetic-tree op a b = go (eqb op 0x04)
     where
-      go : (t : Bool) → int! l s (cond t sum difference a b) ≡ (int! l s a >>= (λ (x : Bits). int! l s b >>= (λ (y : Bits). cond t (sum! x y falseLiteral) (difference! x y) >>= (λ (r : Summed). give (r .bits)))))
+      go : (t : Bool) → int! marks l s m (cond t sum difference a b)
+          ≡ (int! marks l s m a >>= (λ (x : WithMark Bits). int! marks l s (x .mark) b >>= (λ (y : WithMark Bits). cond t (sum! (x .result) (y .result) falseLiteral) (difference! (x .result) (y .result)) >>= marked marks (y .mark))))
       go true = refl
       go false = refl
 
-  pub logic-tree : (op : ℕ) (a b : BoolExpr) → bool! l s (logicOf op a b) ≡ (bool! l s a >>= (λ (x : Literal). bool! l s b >>= logic! op x))
-  unfolding bool! logic!
+  pub logic-tree : (op : ℕ) (a b : BoolExpr)
+      → bool! marks l s m (logicOf op a b) ≡ (bool! marks l s m a >>= (λ (x : WithMark Literal). bool! marks l s (x .mark) b >>= (λ (y : WithMark Literal). beside! (y .mark) (logic! op (x .result) (y .result)))))
+  unfolding bool! logic! beside!
   logic-tree op a b = go (eqb op 0x13)
     where
-      go : (t : Bool) → bool! l s (cond t andB orB a b) ≡ (bool! l s a >>= (λ (x : Literal). bool! l s b >>= (λ (y : Literal). cond t (and! x y) (or! x y))))
+      go : (t : Bool) → bool! marks l s m (cond t andB orB a b)
+          ≡ (bool! marks l s m a >>= (λ (x : WithMark Literal). bool! marks l s (x .mark) b >>= (λ (y : WithMark Literal). beside! (y .mark) (cond t (and! (x .result) (y .result)) (or! (x .result) (y .result))))))
       go true = refl
       go false = refl
 
-  pub compare-tree : (op : ℕ) (a b : IntExpr) → bool! l s (compareOf op a b) ≡ (int! l s a >>= (λ (x : Bits). int! l s b >>= compare! op x))
-  unfolding bool! compare!
+  pub compare-tree : (op : ℕ) (a b : IntExpr)
+      → bool! marks l s m (compareOf op a b) ≡ (int! marks l s m a >>= (λ (x : WithMark Bits). int! marks l s (x .mark) b >>= (λ (y : WithMark Bits). beside! (y .mark) (compare! op (x .result) (y .result)))))
+  unfolding bool! compare! beside!
   compare-tree op a b = go (eqb op 0x15)
     where
-      go : (t : Bool) → bool! l s (cond t equal less a b) ≡ (int! l s a >>= (λ (x : Bits). int! l s b >>= (λ (y : Bits). cond t (equal! x y) (less! x y))))
+      go : (t : Bool) → bool! marks l s m (cond t equal less a b)
+          ≡ (int! marks l s m a >>= (λ (x : WithMark Bits). int! marks l s (x .mark) b >>= (λ (y : WithMark Bits). beside! (y .mark) (cond t (equal! (x .result) (y .result)) (less! (x .result) (y .result))))))
       go true = refl
       go false = refl
 
-  pub product-tree : (c : ℕ) (a : IntExpr) → int! l s (product c a) ≡ (int! l s a >>= (λ (x : Bits). product! 16 c x (constantBits 16 0)))
-  unfolding int!
+  pub product-tree : (c : ℕ) (a : IntExpr) → int! marks l s m (product c a) ≡ (int! marks l s m a >>= multiplied! c marks)
+  unfolding int! multiplied!
   product-tree c a = refl
 
-  pub not-tree : (a : BoolExpr) → bool! l s (notB a) ≡ (bool! l s a >>= (λ (x : Literal). give (negate x)))
+  pub not-tree : (a : BoolExpr) → bool! marks l s m (notB a) ≡ (bool! marks l s m a >>= (λ (x : WithMark Literal). give (record { result = negate (x .result); mark = x .mark })))
   unfolding bool!
   not-tree a = refl
 
-  pub constant-give : (c : ℕ) → int! l s (constant c) ≡ give (constantBits 16 c)
+  pub constant-give : (c : ℕ) → int! marks l s m (constant c) ≡ give (record { result = constantBits 16 c; mark = m })
   unfolding int!
   constant-give c = refl
 
-  pub variable-give : (v : ℕ) → int! l s (variable v) ≡ give (integerAt s v)
+  pub variable-give : (v : ℕ) → int! marks l s m (variable v) ≡ give (record { result = integerAt s v; mark = m })
   unfolding int!
   variable-give v = refl
 
-  pub status-give : (m : ℕ) → int! l s (status m) ≡ give (integerAt s (statusSlot l m))
+  pub status-give : (k : ℕ) → int! marks l s m (status k) ≡ give (record { result = integerAt s (statusSlot l k); mark = m })
   unfolding int!
-  status-give m = refl
+  status-give k = refl
 
-  pub truth-give : (b : Bool) → bool! l s (constantB b) ≡ give (literalOf b)
+  pub truth-give : (b : Bool) → bool! marks l s m (constantB b) ≡ give (record { result = literalOf b; mark = m })
   unfolding bool!
   truth-give b = refl
 
-  pub flag-give : (v : ℕ) → bool! l s (variableB v) ≡ give (booleanAt s v)
+  pub flag-give : (v : ℕ) → bool! marks l s m (variableB v) ≡ give (record { result = booleanAt s v; mark = m })
   unfolding bool!
   flag-give v = refl
 
@@ -179,29 +195,19 @@ Pair {A} {B} inner outer f at = (end levels : ℕ) (e : B) (n : ℕ) → outer e
 pub first-here : {A B : Type 0} {text : List ℕ} (inner : ℕ → ℕ → Reader A) (outer : ℕ → ℕ → Reader B) (f : A → A → B) {at : ℕ} → Pair inner outer f at → Here text outer at → Here text inner (at + 1)
 first-here inner outer f pair h = record { end = h .end; levels = h .levels - 1; inside = h .inside; read = two-reads (pair (h .end) (h .levels) _ _ (h .read .reads)) }
 
-module _ {A B R : Type 0} {text : List ℕ} (inner : ℕ → ℕ → Reader A) (outer : ℕ → ℕ → Reader B) (f : A → A → B) (build : A → Build R) {at : ℕ} (pair : Pair inner outer f at)
-    {pen : Cursor} {xs ys : List ℤ} {out : R} {p1 : Cursor} {m : ℕ} (w : Encodes text inner build (at + 1) pen xs ys out p1 m) (h : Here text outer at) where
+module _ {A B R : Type 0} {text : List ℕ} (inner : ℕ → ℕ → Reader A) (outer : ℕ → ℕ → Reader B) (f : A → A → B) {at : ℕ} (pair : Pair inner outer f at)
+    {build : Bool → Literal → A → Build (WithMark R)} {pen : Pen} {xs ys : List ℤ} {out : R} {p1 : Pen} {m : ℕ} (w : EncodesMarked text inner build (at + 1) pen xs ys out p1 m) (h : Here text outer at) where
   abbrev here : TwoRead (inner (h .end) (h .levels - 1)) f (at + 1) (h .read .tree) (h .read .past)
   here = pair (h .end) (h .levels) _ _ (h .read .reads)
 
   abbrev middle : m ≡ here .middle
-  middle = w .encodes (h .end) (h .levels - 1) _ _ (h .inside) (here .reads) .1
+  middle = w .gates .encodes (h .end) (h .levels - 1) _ _ (h .inside) (here .reads) .1
 
   pub second-here : Here text inner m
   second-here = record { end = h .end; levels = h .levels - 1; inside = h .inside; read = two-then here middle }
 
   pub second-on : ((end levels j : ℕ) (e : A) (n : ℕ) → inner end levels j ≡ got e n → j ≤ n) → at < m
   second-on ahead = omega (arith, ahead (h .end) (h .levels - 1) (at + 1) (here .first) (here .middle) (here .reads), middle)
-
-pub pair-node : {A B R Q : Type 0} {text : List ℕ} (inner : ℕ → ℕ → Reader A) (outer : ℕ → ℕ → Reader B) (f : A → A → B) {at : ℕ} → Pair inner outer f at
-    → (build : A → Build R) (build′ : B → Build Q) (g : R → R → Build Q) → ((a b : A) → build′ (f a b) ≡ (build a >>= (λ x. build b >>= g x)))
-    → {pen p1 p2 p3 : Cursor} {x0 x1 x2 x3 : List ℤ} (a b : R) {r : Q} {m1 m2 m3 : ℕ}
-    → Encodes text inner build (at + 1) pen x0 x1 a p1 m1 → Encodes text inner build m1 p1 x1 x2 b p2 m2 → Writes p2 (g a b) x2 x3 r p3 × (m3 ≡ m2) → Encodes text outer build′ at pen x0 x3 r p3 m3
-pair-node inner outer f pair build build′ g law a b w1 w2 u = record {
-  encodes = λ end levels t n i h.
-      let k = two-emits (inner end (levels - 1)) f build build′ g law (pair end levels t n h) (λ e m q. w1 .encodes end (levels - 1) e m i q) (λ e m q. w2 .encodes end (levels - 1) e m i q) (u .0) in
-      (k .0, u .1 ∙ k .1);
-}
 
 -- the same with one operand, which starts at `from`
 abbrev pub Only : {A B : Type 0} → (ℕ → ℕ → Reader A) → (ℕ → ℕ → Reader B) → (A → B) → ℕ → ℕ → Type 0
@@ -210,35 +216,70 @@ Only {A} {B} inner outer f at from = (end levels : ℕ) (e : B) (n : ℕ) → ou
 pub only-here : {A B : Type 0} {text : List ℕ} (inner : ℕ → ℕ → Reader A) (outer : ℕ → ℕ → Reader B) (f : A → B) {at from : ℕ} → Only inner outer f at from → Here text outer at → Here text inner from
 only-here inner outer f one h = record { end = h .end; levels = h .levels - 1; inside = h .inside; read = one-reads (one (h .end) (h .levels) _ _ (h .read .reads)) }
 
-pub then-node : {A B R Q : Type 0} {text : List ℕ} (inner : ℕ → ℕ → Reader A) (outer : ℕ → ℕ → Reader B) (f : A → B) {at from : ℕ} → Only inner outer f at from
-    → (build : A → Build R) (build′ : B → Build Q) (g : R → Build Q) → ((a : A) → build′ (f a) ≡ (build a >>= g))
-    → {pen p1 p2 : Cursor} {x0 x1 x2 : List ℤ} (a : R) {r : Q} {m1 m2 : ℕ} → Encodes text inner build from pen x0 x1 a p1 m1 → Writes p1 (g a) x1 x2 r p2 × (m2 ≡ m1) → Encodes text outer build′ at pen x0 x2 r p2 m2
-then-node inner outer f one build build′ g law a w u = record {
-  encodes = λ end levels t n i h.
-      let k = then-emits (inner end (levels - 1)) f build build′ g law (one end levels t n h) (λ e m q. w .encodes end (levels - 1) e m i q) (u .0) in
-      (k .0, u .1 ∙ k .1);
-}
+-- The gates of an operator from those of its operands. A pen goes through all of them.
+module _ {A B R Q : Type 0} {text : List ℕ} (inner : ℕ → ℕ → Reader A) (outer : ℕ → ℕ → Reader B) (build : Bool → Literal → A → Build (WithMark R)) (build′ : Bool → Literal → B → Build (WithMark Q)) {at : ℕ} where
+  pub pair-node : (f : A → A → B) → Pair inner outer f at
+      → (g : Bool → R → WithMark R → Build (WithMark Q)) → ((marks : Bool) (m : Literal) (a b : A) → build′ marks m (f a b) ≡ (build marks m a >>= (λ (x : WithMark R). build marks (x .mark) b >>= g marks (x .result))))
+      → (pen p1 p2 p3 : Pen) {x0 x1 x2 x3 : List ℤ} (a b : R) {r : Q} {m1 m2 m3 : ℕ}
+      → EncodesMarked text inner build (at + 1) pen x0 x1 a p1 m1 → EncodesMarked text inner build m1 p1 x1 x2 b p2 m2 → WritesMarked p2 (g (p2 .marks) a (record { result = b; mark = fromCode (p2 .mark) })) x2 x3 r p3 × (m3 ≡ m2)
+      → EncodesMarked text outer build′ at pen x0 x3 r p3 m3
+  pair-node f pair g law pen p1 p2 p3 {x1 = x1} {x2 = x2} a b {m1 = m1} {m2 = m2} w1 w2 (u, q) =
+      let two = w2 .marks ∙ w1 .marks in
+      let mid : WithMark R = record { result = a; mark = fromCode (p1 .mark) } in
+      let out : WithMark R = record { result = b; mark = fromCode (p2 .mark) } in
+      let then = subst (λ (t : Bool). Encodes text inner (build t (fromCode (p1 .mark))) m1 (p1 .at) x1 x2 out (p2 .at) m2) (w1 .marks) (w2 .gates) in
+      record {
+        marks = u .1 ∙ two;
+        gates = record {
+          encodes = λ end levels t n i h.
+              let k = two-emits (inner end (levels - 1)) f (build (pen .marks) (fromCode (pen .mark))) (λ (x : WithMark R). build (pen .marks) (x .mark)) (build′ (pen .marks) (fromCode (pen .mark))) (λ (x : WithMark R). g (pen .marks) (x .result))
+              (law (pen .marks) (fromCode (pen .mark))) (pair end levels t n h) (λ e j z. w1 .gates .encodes end (levels - 1) e j i z) (λ e j z. then .encodes end (levels - 1) e j i z)
+              (emits-same _ _ (ap (λ (t : Bool). g t a out (p2 .at .var)) two) (u .0)) in
+              (k .0, q ∙ k .1);
+        };
+      }
 
-pub only-node : {A B R Q : Type 0} {text : List ℕ} (inner : ℕ → ℕ → Reader A) (outer : ℕ → ℕ → Reader B) (f : A → B) {at from : ℕ} → Only inner outer f at from
-    → (build : A → Build R) (build′ : B → Build Q) (g : R → Q) → ((a : A) → build′ (f a) ≡ (build a >>= (λ x. give (g x))))
-    → {pen p1 : Cursor} {xs ys : List ℤ} (a : R) {m : ℕ} (r : Q) → Encodes text inner build from pen xs ys a p1 m → r ≡ g a → Encodes text outer build′ at pen xs ys r p1 m
-only-node inner outer f one build build′ g law a r w q = record {
-  encodes = λ end levels t n i h. one-emits (inner end (levels - 1)) f build build′ g law (one end levels t n h) r (λ e m k. w .encodes end (levels - 1) e m i k) q;
-}
+  pub then-node : (f : A → B) {from : ℕ} → Only inner outer f at from
+      → (g : Bool → WithMark R → Build (WithMark Q)) → ((marks : Bool) (m : Literal) (a : A) → build′ marks m (f a) ≡ (build marks m a >>= g marks))
+      → (pen p1 p2 : Pen) {x0 x1 x2 : List ℤ} (a : R) {r : Q} {m1 m2 : ℕ} → EncodesMarked text inner build from pen x0 x1 a p1 m1 → WritesMarked p1 (g (p1 .marks) (record { result = a; mark = fromCode (p1 .mark) })) x1 x2 r p2 × (m2 ≡ m1)
+      → EncodesMarked text outer build′ at pen x0 x2 r p2 m2
+  then-node f one g law pen p1 p2 a w (u, q) = record {
+    marks = u .1 ∙ w .marks;
+    gates = record {
+      encodes = λ end levels t n i h.
+          let k = then-emits (inner end (levels - 1)) f (build (pen .marks) (fromCode (pen .mark))) (build′ (pen .marks) (fromCode (pen .mark))) (g (pen .marks)) (law (pen .marks) (fromCode (pen .mark))) (one end levels t n h)
+          (λ e m z. w .gates .encodes end (levels - 1) e m i z) (emits-same _ _ (ap (λ (t : Bool). g t (record { result = a; mark = fromCode (p1 .mark) }) (p1 .at .var)) (w .marks)) (u .0)) in
+          (k .0, q ∙ k .1);
+    };
+  }
+
+  pub only-node : (f : A → B) {from : ℕ} → Only inner outer f at from
+      → (g : R → Q) → ((marks : Bool) (m : Literal) (a : A) → build′ marks m (f a) ≡ (build marks m a >>= (λ (x : WithMark R). give (record { result = g (x .result); mark = x .mark }))))
+      → (pen p1 : Pen) {xs ys : List ℤ} (a : R) {m : ℕ} (r : Q) → EncodesMarked text inner build from pen xs ys a p1 m → r ≡ g a → EncodesMarked text outer build′ at pen xs ys r p1 m
+  only-node f one g law pen p1 a r w q = record {
+    marks = w .marks;
+    gates = record {
+      encodes = λ end levels t n i h. one-emits (inner end (levels - 1)) f (build (pen .marks) (fromCode (pen .mark))) (build′ (pen .marks) (fromCode (pen .mark))) (λ (x : WithMark R). record { result = g (x .result); mark = x .mark })
+          (law (pen .marks) (fromCode (pen .mark))) (one end levels t n h) (record { result = r; mark = fromCode (p1 .mark) }) (λ e m k. w .gates .encodes end (levels - 1) e m i k) (ap (λ (z : Q). record { result = z; mark = fromCode (p1 .mark) }) q);
+    };
+  }
 
 -- what is handed out by its parts
-pub int-outs : {A : Type 0} {text : List ℕ} {reader : ℕ → ℕ → Reader A} {build : A → Build Bits} {at : ℕ} {pen : Cursor} {xs ys : List ℤ} (r : IntOut) {lits : List ℕ} {after : Cursor} {next : ℕ}
-    → (r .lits ≡ lits) × (r .pen ≡ after) × (r .next ≡ next) → Encodes text reader build at pen xs ys (fromCodes lits) after next → Encodes text reader build at pen xs ys (fromCodes (r .lits)) (r .pen) (r .next)
+pub int-outs : {A : Type 0} {text : List ℕ} {reader : ℕ → ℕ → Reader A} {build : Bool → Literal → A → Build (WithMark Bits)} {at : ℕ} {pen : Pen} {xs ys : List ℤ} (r : IntOut) {lits : List ℕ} {after : Pen} {next : ℕ}
+    → (r .lits ≡ lits) × (r .pen ≡ after) × (r .next ≡ next) → EncodesMarked text reader build at pen xs ys (fromCodes lits) after next → EncodesMarked text reader build at pen xs ys (fromCodes (r .lits)) (r .pen) (r .next)
 int-outs {text = text} {reader = reader} {build = build} {at = at} {pen = pen} {xs = xs} {ys = ys} r {lits} {after} {next} (a, b, c) w =
-    subst (λ (l : List ℕ). Encodes text reader build at pen xs ys (fromCodes l) (r .pen) (r .next)) (sym a)
-    (subst (λ (p : Cursor). Encodes text reader build at pen xs ys (fromCodes lits) p (r .next)) (sym b)
-    (subst (λ (n : ℕ). Encodes text reader build at pen xs ys (fromCodes lits) after n) (sym c) w))
+    subst (λ (l : List ℕ). EncodesMarked text reader build at pen xs ys (fromCodes l) (r .pen) (r .next)) (sym a)
+    (subst (λ (p : Pen). EncodesMarked text reader build at pen xs ys (fromCodes lits) p (r .next)) (sym b)
+    (subst (λ (n : ℕ). EncodesMarked text reader build at pen xs ys (fromCodes lits) after n) (sym c) w))
 
--- what goes on from a value that is handed on by its parts
-pub from-parts : (build : Bits → Build Bits) {xs ys : List ℤ} {out : Bits} {after : Cursor} {m : ℕ} (s : IntOut) {lits : List ℕ} {pen : Cursor} {next : ℕ}
-    → (s .lits ≡ lits) × (s .pen ≡ pen) × (s .next ≡ next) → Writes (s .pen) (build (fromCodes (s .lits))) xs ys out after × (m ≡ s .next) → Writes pen (build (fromCodes lits)) xs ys out after × (m ≡ next)
-from-parts build {xs = xs} {ys = ys} {out = out} {after = after} s {lits} {pen} {next} (a, b, c) (w, q) =
-    (subst (λ (l : List ℕ). Writes pen (build (fromCodes l)) xs ys out after) a (subst (λ (p : Cursor). Writes p (build (fromCodes (s .lits))) xs ys out after) b w), q ∙ c)
+-- a leaf: nothing is written, and the mark is the pen's
+abbrev beside : {A : Type 0} → ℕ → A → WithMark A
+beside m out = record { result = out; mark = fromCode m }
+
+leaf-node : {A B : Type 0} {text : List ℕ} (reader : ℕ → ℕ → Reader A) (build : Bool → Literal → A → Build (WithMark B)) {at : ℕ} {pen : Pen} {xs : List ℤ} {out : B} {next : ℕ}
+    → ((end levels : ℕ) (t : A) (n : ℕ) → end ≤ length text → reader end levels at ≡ got t n → Writes (pen .at) (build (pen .marks) (fromCode (pen .mark)) t) xs xs (beside (pen .mark) out) (pen .at) × (next ≡ n))
+    → EncodesMarked text reader build at pen xs xs out pen next
+leaf-node reader build w = record { marks = refl; gates = record { encodes = w } }
 
 -- the number of a slot that the text names
 numbered-is : (text file : List ℕ) (shape : Shape) (later : Bool) (end : ℕ) (next : Bool) (i : ℕ) → numbered text (withLater later (namesOf file shape)) end next i ≡ numberIn (layoutOf shape) next i
@@ -336,56 +377,60 @@ module _ (text file : List ℕ) (shape : Shape) (later : Bool) (at : ℕ) where
     abbrev SL : Slots
     SL = readSlots later file shape codes
 
-    -- a product: c is its constant as the code reads it, z what the sums start from
-    pub product-node : op ≡ 8 → (c : ℕ) (z : Bits) → c ≡ at16 text (at + 1) → z ≡ constantBits 16 0 → {pen p1 p2 : Cursor} {x0 x1 x2 : List ℤ} (a : Bits) {r : Bits} {m1 m2 : ℕ}
-        → Encodes text (intsAt text file shape later) (int! (layoutOf shape) SL) (at + 3) pen x0 x1 a p1 m1 → Writes p1 (product! 16 c a z) x1 x2 r p2 × (m2 ≡ m1)
-        → Encodes text (intsAt text file shape later) (int! (layoutOf shape) SL) at pen x0 x2 r p2 m2
-    product-node q c z ec ez {p1 = p1} a w (u, e) =
-        then-node (intsAt text file shape later) (intsAt text file shape later) (product (at16 text (at + 1))) (product-one q) (int! (layoutOf shape) SL) (int! (layoutOf shape) SL)
-        (λ (x : Bits). product! 16 (at16 text (at + 1)) x (constantBits 16 0)) (product-tree (layoutOf shape) SL _) a w (emits-same _ _ (ap₂ (λ (k : ℕ) (y : Bits). product! 16 k a y (p1 .var)) ec ez) u, e)
+    abbrev IG : Bool → Literal → IntExpr → Build (WithMark Bits)
+    IG = intGates text file shape later codes
+
+    abbrev BG : Bool → Literal → BoolExpr → Build (WithMark Literal)
+    BG = boolGates text file shape later codes
+
+    -- a product: c is its constant as the code reads it
+    pub product-node : op ≡ 8 → (c : ℕ) → c ≡ at16 text (at + 1) → (pen p1 p2 : Pen) {x0 x1 x2 : List ℤ} (a : Bits) {r : Bits} {m1 m2 : ℕ}
+        → EncodesMarked text (intsAt text file shape later) IG (at + 3) pen x0 x1 a p1 m1 → WritesMarked p1 (multiplied! c (p1 .marks) (record { result = a; mark = fromCode (p1 .mark) })) x1 x2 r p2 × (m2 ≡ m1)
+        → EncodesMarked text (intsAt text file shape later) IG at pen x0 x2 r p2 m2
+    product-node q c ec pen p1 p2 a w ((u, k), e) =
+        then-node (intsAt text file shape later) (intsAt text file shape later) IG IG (product (at16 text (at + 1))) (product-one q) (multiplied! (at16 text (at + 1)))
+        (λ marks m. product-tree (layoutOf shape) SL marks m _) pen p1 p2 a w ((emits-same _ _ (ap (λ (j : ℕ). multiplied! j (p1 .marks) (record { result = a; mark = fromCode (p1 .mark) }) (p1 .at .var)) ec) u, k), e)
+
+    -- an expression that marks nothing
+    pub test-node : (pen : Cursor) (none : ℕ) {xs ys : List ℤ} (r : ℕ) (after : Pen) {next : ℕ} → fromCode none ≡ falseLiteral → EncodesMarked text (boolsAt text file shape later) BG at (record { at = pen; marks = false; mark = none }) xs ys (fromCode r) after next
+        → TestEncoded text file shape later codes at pen xs ys (record { lit = r; cur = after .at .cur; var = after .at .var })
+    unfolding test!
+    test-node pen none r after e w end levels t n i h =
+        emits-map (bool! false (layoutOf shape) SL falseLiteral t) (λ (x : WithMark Literal). x .result)
+        (emits-same _ _ (ap (λ (m : Literal). bool! false (layoutOf shape) SL m t (pen .var)) e) (w .gates .encodes end levels t n i h .0))
 
     -- leaves: nothing is written
-    pub constant-leaf : {pen : Cursor} {xs : List ℤ} {out : Bits} {next x : ℕ} → op ≡ 1 → x ≡ ix + 256 * getD text (at + 1 + 1) 0 → out ≡ constantBits 16 x → next ≡ at + 3
-        → Encodes text (intsAt text file shape later) (int! (layoutOf shape) SL) at pen xs xs out pen next
-    constant-leaf q ex o l = record {
-      encodes = λ end levels t n i h.
-          let k = read-constant text N end levels at t n h q in
-          leaf-emits (intExpr text N end levels) (int! (layoutOf shape) SL) _ _ h (k .1) (constant-give (layoutOf shape) SL _) (o ∙ ap (constantBits 16) ex) (l ∙ sym (k .2));
-    }
+    pub constant-leaf : {pen : Pen} {xs : List ℤ} {out : Bits} {next x : ℕ} → op ≡ 1 → x ≡ ix + 256 * getD text (at + 1 + 1) 0 → out ≡ constantBits 16 x → next ≡ at + 3
+        → EncodesMarked text (intsAt text file shape later) IG at pen xs xs out pen next
+    constant-leaf {pen} q ex o l = leaf-node (intsAt text file shape later) IG (λ end levels t n i h.
+        let k = read-constant text N end levels at t n h q in
+        leaf-emits (intExpr text N end levels) (IG (pen .marks) (fromCode (pen .mark))) _ _ h (k .1) (constant-give (layoutOf shape) SL _ _ _) (ap (beside (pen .mark)) (o ∙ ap (constantBits 16) ex)) (l ∙ sym (k .2)))
 
-    pub truth-leaf : {pen : Cursor} {xs : List ℤ} {out : Literal} {next : ℕ} → op ≡ 0x10 → out ≡ literalOf (truth ix) → next ≡ at + 2
-        → Encodes text (boolsAt text file shape later) (bool! (layoutOf shape) SL) at pen xs xs out pen next
-    truth-leaf q o l = record {
-      encodes = λ end levels t n i h.
-          let k = read-truth text N end levels at t n h q in
-          leaf-emits (boolExpr text N end levels) (bool! (layoutOf shape) SL) _ _ h (k .1) (truth-give (layoutOf shape) SL _) o (l ∙ sym (k .2));
-    }
+    pub truth-leaf : {pen : Pen} {xs : List ℤ} {out : Literal} {next : ℕ} → op ≡ 0x10 → out ≡ literalOf (truth ix) → next ≡ at + 2
+        → EncodesMarked text (boolsAt text file shape later) BG at pen xs xs out pen next
+    truth-leaf {pen} q o l = leaf-node (boolsAt text file shape later) BG (λ end levels t n i h.
+        let k = read-truth text N end levels at t n h q in
+        leaf-emits (boolExpr text N end levels) (BG (pen .marks) (fromCode (pen .mark))) _ _ h (k .1) (truth-give (layoutOf shape) SL _ _ _) (ap (beside (pen .mark)) o) (l ∙ sym (k .2)))
 
     -- a slot, of the state or of the next one; its literals are known where it may be read
     number : (next : Bool) (v end : ℕ) → v ≡ ix → numberIn (layoutOf shape) next v ≡ numbered text N end next ix
     number next v end ev = ap (numberIn (layoutOf shape) next) ev ∙ sym (numbered-is text file shape later end next ix)
 
-    module _ (next : Bool) {pen : Cursor} {xs : List ℤ} {past v : ℕ} (ev : v ≡ ix) (l : past ≡ at + 2) where
+    module _ (next : Bool) {pen : Pen} {xs : List ℤ} {past v : ℕ} (ev : v ≡ ix) (l : past ≡ at + 2) where
       pub variable-leaf : {out : Bits} → op ≡ integerByte next → ((not next || later) ≡ true → out ≡ integerAt SL (numberIn (layoutOf shape) next v))
-          → Encodes text (intsAt text file shape later) (int! (layoutOf shape) SL) at pen xs xs out pen past
-      variable-leaf q o = record {
-        encodes = λ end levels t n i h.
-            let (k, kind, tree) = read-variable text N end levels at t n h next q in
-            leaf-emits (intExpr text N end levels) (int! (layoutOf shape) SL) _ _ h tree (variable-give (layoutOf shape) SL _) (o (k .allowed) ∙ ap (integerAt SL) (number next v end ev)) (l ∙ sym (k .ends));
-      }
+          → EncodesMarked text (intsAt text file shape later) IG at pen xs xs out pen past
+      variable-leaf q o = leaf-node (intsAt text file shape later) IG (λ end levels t n i h.
+          let (k, kind, tree) = read-variable text N end levels at t n h next q in
+          leaf-emits (intExpr text N end levels) (IG (pen .marks) (fromCode (pen .mark))) _ _ h tree (variable-give (layoutOf shape) SL _ _ _) (ap (beside (pen .mark)) (o (k .allowed) ∙ ap (integerAt SL) (number next v end ev))) (l ∙ sym (k .ends)))
 
       pub status-leaf : {out : Bits} → op ≡ statusByte next → ((not next || later) ≡ true → out ≡ integerAt SL (shape .variables + numberIn (layoutOf shape) next v))
-          → Encodes text (intsAt text file shape later) (int! (layoutOf shape) SL) at pen xs xs out pen past
-      status-leaf q o = record {
-        encodes = λ end levels t n i h.
-            let (k, tree) = read-status text N end levels at t n h next q in
-            leaf-emits (intExpr text N end levels) (int! (layoutOf shape) SL) _ _ h tree (status-give (layoutOf shape) SL _) (o (k .allowed) ∙ ap (λ (j : ℕ). integerAt SL (shape .variables + j)) (number next v end ev)) (l ∙ sym (k .ends));
-      }
+          → EncodesMarked text (intsAt text file shape later) IG at pen xs xs out pen past
+      status-leaf q o = leaf-node (intsAt text file shape later) IG (λ end levels t n i h.
+          let (k, tree) = read-status text N end levels at t n h next q in
+          leaf-emits (intExpr text N end levels) (IG (pen .marks) (fromCode (pen .mark))) _ _ h tree (status-give (layoutOf shape) SL _ _ _) (ap (beside (pen .mark)) (o (k .allowed) ∙ ap (λ (j : ℕ). integerAt SL (shape .variables + j)) (number next v end ev))) (l ∙ sym (k .ends)))
 
       pub flag-leaf : {out : Literal} → op ≡ booleanByte next → ((not next || later) ≡ true → out ≡ booleanAt SL (numberIn (layoutOf shape) next v))
-          → Encodes text (boolsAt text file shape later) (bool! (layoutOf shape) SL) at pen xs xs out pen past
-      flag-leaf q o = record {
-        encodes = λ end levels t n i h.
-            let (k, kind, tree) = read-flag text N end levels at t n h next q in
-            leaf-emits (boolExpr text N end levels) (bool! (layoutOf shape) SL) _ _ h tree (flag-give (layoutOf shape) SL _) (o (k .allowed) ∙ ap (booleanAt SL) (number next v end ev)) (l ∙ sym (k .ends));
-      }
+          → EncodesMarked text (boolsAt text file shape later) BG at pen xs xs out pen past
+      flag-leaf q o = leaf-node (boolsAt text file shape later) BG (λ end levels t n i h.
+          let (k, kind, tree) = read-flag text N end levels at t n h next q in
+          leaf-emits (boolExpr text N end levels) (BG (pen .marks) (fromCode (pen .mark))) _ _ h tree (flag-give (layoutOf shape) SL _ _ _) (ap (beside (pen .mark)) (o (k .allowed) ∙ ap (booleanAt SL) (number next v end ev))) (l ∙ sym (k .ends)))

@@ -9,7 +9,7 @@ use lib.Seq.{take-at, drop-at, take-append-le, drop-append-le, getD-take, length
 use lib.IntN.{ℤ}
 use Rattle.design.specs.Tree.{Design, Mover, movers}
 use Rattle.design.specs.State.{Layout, widths}
-use Rattle.design.specs.WellFormed.{MoversOk, WellFormed}
+use Rattle.design.specs.WellFormed.{HasMark, MoversOk, WellFormed}
 use Rattle.design.specs.Sections.{Parts}
 use Rattle.design.proofs.Places.{read}
 use Rattle.design.specs.Limits.{maxBits, pairBits}
@@ -177,8 +177,9 @@ module _ {file : List ℕ} {shape : Shape} (h : ShapedFile file shape) (d : Desi
       let wide : map length s ≡ ws = ap (map length) es ∙ state-wide d v in
       let b = movers! (layoutOf shape) s (movers d) n in
       let c = subst (λ (y : Layout). MoversOk ws y (movers d)) L (wf .movers) in
-      let costs = movers-costs ws (layoutOf shape) s wide (movers d) n c in
-      let one : flat (getD (b .out) k []) ≡ variablesFrom (firstMux (total ws) (movers d) k n) (S d) = movers-out ws (layoutOf shape) s wide (movers d) k n (omega arith) c ∙ ap (variablesFrom (firstMux (total ws) (movers d) k n)) (S-is d) in
+      let mark = subst (HasMark ws) L (wf .mark) in
+      let costs = movers-costs ws (layoutOf shape) mark s wide (movers d) n c in
+      let one : flat (getD (b .out) k []) ≡ variablesFrom (firstMux (total ws) (movers d) k n) (S d) = movers-out ws (layoutOf shape) mark s wide (movers d) k n (omega arith) c ∙ ap (variablesFrom (firstMux (total ws) (movers d) k n)) (S-is d) in
       let two : flat (getD (b .out) k []) ≡ variablesFrom (getD firsts k 0) (S d) =
       ap (λ (o : List Slots). flat (getD o k [])) (sym out) ∙ ap flat (map-at (resultFrom file shape) (take all firsts) k (omega (arith, length-take-le all firsts few)) ∙ ap (resultFrom file shape) (getD-take all firsts k 0 l))
       ∙ result-bits h d w (getD firsts k 0) in

@@ -11,7 +11,7 @@ use lib.ListN.{length, getD, drop, take, replicate, length-map}
 use lib.Seq.{drop-cons}
 use lib.IntN.{ℤ, pos}
 use Rattle.design.specs.Tree.{Variable, boolean, Design}
-use Rattle.design.specs.State.{width, statusWidth, widths, start}
+use Rattle.design.specs.State.{width, statusWidth, markWidth, widths, start}
 use Rattle.design.specs.DesignFile.{Item, item, need, kind, at8, at16, variableAt}
 use Rattle.design.specs.Check.{Checked, check, itemsEnd, variableCount, matrixCount}
 use Rattle.design.specs.Places.{Accepted}
@@ -117,11 +117,12 @@ zero-units : (xs ys : Bits) → unitsOf (xs ++ ys) 0 ≡ unitsOf xs 0 ++ unitsOf
 zero-units [] ys = refl
 zero-units (x ∷ xs) ys = ap (λ (l : List Clause). (negate x ∷ []) ∷ l) (zero-units xs ys)
 
-status-units : (m x : ℕ) → initialUnits (slotsFrom x (replicate m statusWidth)) (replicate m 0) ≡ unitsOf (variablesFrom x (4 * m)) 0
-status-units zero x = refl
-status-units (suc m) x =
-    ap (λ (l : List Clause). unitsOf (variablesFrom x 4) 0 ++ l) (status-units m (x + 4)) ∙ sym (zero-units (variablesFrom x 4) (variablesFrom (x + 4) (4 * m)))
-    ∙ ap (λ (l : Bits). unitsOf l 0) (sym (variables-append x 4 (4 * m)) ∙ ap (variablesFrom x) (let q : 4 + 4 * m ≡ 4 * suc m = omega arith in q))
+-- the statuses and, behind them, the mark
+behind-units : (m x : ℕ) → initialUnits (slotsFrom x (replicate m statusWidth ++ (markWidth ∷ []))) (replicate m 0 ++ (0 ∷ [])) ≡ unitsOf (variablesFrom x (4 * m + 1)) 0
+behind-units zero x = refl
+behind-units (suc m) x =
+    ap (λ (l : List Clause). unitsOf (variablesFrom x 4) 0 ++ l) (behind-units m (x + 4)) ∙ sym (zero-units (variablesFrom x 4) (variablesFrom (x + 4) (4 * m + 1)))
+    ∙ ap (λ (l : Bits). unitsOf l 0) (sym (variables-append x 4 (4 * m + 1)) ∙ ap (variablesFrom x) (let q : 4 + (4 * m + 1) ≡ 4 * suc m + 1 = omega arith in q))
 
 -- slots after slots
 units-apart : (x : ℕ) (ws rs vs us : List ℕ) → length ws ≡ length vs → initialUnits (slotsFrom x (ws ++ rs)) (vs ++ us) ≡ initialUnits (slotsFrom x ws) vs ++ initialUnits (slotsFrom (x + total ws) rs) us
@@ -137,16 +138,18 @@ module _ (file : List ℕ) (h : Accepted file) (nv nm : ℕ) (e : nv ≡ variabl
   first-small = let b = variables-inside file h in let t = read file h .all in (omega (arith, variables-small file 0 nv, t .variables), omega (arith, t .matrices), omega (arith, t .variables), omega (arith, t .long))
 
   pub first-puts : {x0 x1 x2 x3 : List ℤ} {c0 c1 c2 c3 : ℕ} (y : ℕ) → y ≡ 2 + x → Puts (clauseWords (fromCode 2 ∷ [])) x0 x1 c0 c1 → ((d : Design) (w : Parts file d) → Puts (unitsIn 2 (d .variables)) x1 x2 c1 c2)
-      → (y + 4 * nm ≤ variableLimit → Puts (words (unitsOf (variablesFrom y (4 * nm)) 0)) x2 x3 c2 c3) → (d : Design) (w : Parts file d) (p : Property) → Puts (words (firstPart d p)) x0 x3 c0 c3
+      → (y + (4 * nm + 1) ≤ variableLimit → Puts (words (unitsOf (variablesFrom y (4 * nm + 1)) 0)) x2 x3 c2 c3) → (d : Design) (w : Parts file d) (p : Property) → Puts (words (firstPart d p)) x0 x3 c0 c3
   unfolding firstPart stateAt start widths
   first-puts y ey p1 p2 p3 d w p =
       let vs = d .variables in
       let from : 2 + total (widthsIn vs) ≡ y = ap (λ (k : ℕ). 2 + k) (ap total (sym (widths-run file (itemsEnd file) 0 0 _ vs refl (w .variable-run)) ∙ ap (widthsFrom file 0) (w .variable-count ∙ sym e)) ∙ sym at) ∙ sym ey in
       let count : length (d .statuses) ≡ nm = matrix-count file d w ∙ sym q in
-      let both : words (initialUnits (slotsFrom 2 (widthsIn vs ++ replicate (length (d .statuses)) statusWidth)) (valuesIn vs ++ replicate (length (d .statuses)) 0)) ≡ unitsIn 2 vs ++ words (unitsOf (variablesFrom y (4 * nm)) 0) =
-      ap words (units-apart 2 (widthsIn vs) (replicate (length (d .statuses)) statusWidth) (valuesIn vs) (replicate (length (d .statuses)) 0) (length-map vs (λ (z : Variable). width (z .kind)) ∙ sym (length-map vs (λ (z : Variable). z .initial))))
-      ∙ words-append (initialUnits (slotsFrom 2 (widthsIn vs)) (valuesIn vs)) (initialUnits (slotsFrom (2 + total (widthsIn vs)) (replicate (length (d .statuses)) statusWidth)) (replicate (length (d .statuses)) 0))
-      ∙ ap (λ (l : List Clause). unitsIn 2 vs ++ words l) (status-units (length (d .statuses)) (2 + total (widthsIn vs)) ∙ ap₂ (λ (i j : ℕ). unitsOf (variablesFrom i (4 * j)) 0) from count) in
+      let ws : List ℕ = replicate (length (d .statuses)) statusWidth ++ (markWidth ∷ []) in
+      let zs : List ℕ = replicate (length (d .statuses)) 0 ++ (0 ∷ []) in
+      let both : words (initialUnits (slotsFrom 2 (widthsIn vs ++ ws)) (valuesIn vs ++ zs)) ≡ unitsIn 2 vs ++ words (unitsOf (variablesFrom y (4 * nm + 1)) 0) =
+      ap words (units-apart 2 (widthsIn vs) ws (valuesIn vs) zs (length-map vs (λ (z : Variable). width (z .kind)) ∙ sym (length-map vs (λ (z : Variable). z .initial))))
+      ∙ words-append (initialUnits (slotsFrom 2 (widthsIn vs)) (valuesIn vs)) (initialUnits (slotsFrom (2 + total (widthsIn vs)) ws) zs)
+      ∙ ap (λ (l : List Clause). unitsIn 2 vs ++ words l) (behind-units (length (d .statuses)) (2 + total (widthsIn vs)) ∙ ap₂ (λ (i j : ℕ). unitsOf (variablesFrom i (4 * j + 1)) 0) from count) in
       let one = puts-same (ap (λ (l : Literal). clauseWords (l ∷ [])) code-yes) p1 in
       puts-same (ap (λ (v : ℕ). words ((trueLiteral ∷ []) ∷ initialUnits (slotsFrom v (widths d)) (start d))) (sym (frame-zero d p 0)))
       (puts-then one (puts-same (sym both) (puts-then (p2 d w) (p3 (omega (arith, first-small))))))

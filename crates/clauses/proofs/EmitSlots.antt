@@ -9,12 +9,12 @@ use lib.Dec.{eqb}
 use borrow.Author.Tests.{eq-eqb, ne-eqb}
 use lib.ListN.{length, getD, take, drop, set, replicate, length-append, length-set, length-replicate, length-drop, getD-replicate, List·getD-append}
 use lib.Seq.{take-suc, drop-drop, getD-drop, take-append-le, take-append-add, getD-append-add, length-take-le}
-use Rattle.design.proofs.Widths.{widthAt, total-append}
+use Rattle.design.proofs.Widths.{widthAt, total-append, state-size}
 use Rattle.design.specs.Tree.{truth}
 use Rattle.design.specs.State.{layoutOf, numberIn}
 use Rattle.design.specs.declared.shape.Shape.{Shape}
 use Rattle.clauses.specs.Literal.{Literal, literalOf}
-use Rattle.clauses.specs.Expression.{pad, constantBits, lowest}
+use Rattle.clauses.specs.Expression.{pad, constantBits, lowest, booleanAt}
 use Rattle.clauses.specs.Formula.{total}
 use Rattle.clauses.specs.Writing.{fromCode, fromCodes}
 use Rattle.clauses.specs.FlatState.{widthsFrom, widthsOf, widthsIn, cut, slotsOf, readWidths, readSlots, Slotted}
@@ -58,28 +58,51 @@ total-fours (suc m) zero h = absurd (omega arith)
 total-fours (suc m) (suc n) h = omega (arith, total-fours m n (omega arith))
 
 module _ (file : List ℕ) (nv nm : ℕ) where
-  pub widths-length : length (widthsOf file nv nm) ≡ nv + nm
+  -- the widths behind the variables'
+  abbrev behind : List ℕ
+  behind = replicate nm 4 ++ (1 ∷ [])
+
+  behind-length : length behind ≡ nm + 1
+  behind-length = length-append (replicate nm 4) (1 ∷ []) ∙ omega (arith, length-replicate {A = ℕ} nm 4)
+
+  pub widths-length : length (widthsOf file nv nm) ≡ nv + nm + 1
   unfolding widthsOf
-  widths-length = length-append (widthsFrom file 0 nv) (replicate nm 4) ∙ omega (arith, from-length file 0 nv, length-replicate {A = ℕ} nm 4)
+  widths-length = length-append (widthsFrom file 0 nv) behind ∙ omega (arith, from-length file 0 nv, behind-length)
 
   pub variable-width : (v : ℕ) → v < nv → getD (widthsOf file nv nm) v 0 ≡ widthAt file v
   unfolding widthsOf
-  variable-width v h = List·getD-append (widthsFrom file 0 nv) (replicate nm 4) 0 v (omega (arith, from-length file 0 nv)) ∙ from-get file 0 nv v h ∙ ap (widthAt file) (let q : 0 + v ≡ v = omega arith in q)
+  variable-width v h = List·getD-append (widthsFrom file 0 nv) behind 0 v (omega (arith, from-length file 0 nv)) ∙ from-get file 0 nv v h ∙ ap (widthAt file) (let q : 0 + v ≡ v = omega arith in q)
 
   pub variable-start : (v : ℕ) → v < nv → total (take v (widthsOf file nv nm)) ≡ total (widthsFrom file 0 v)
   unfolding widthsOf
-  variable-start v h = ap total (take-append-le v (widthsFrom file 0 nv) (replicate nm 4) (omega (arith, from-length file 0 nv)) ∙ from-take file 0 nv v (omega arith))
+  variable-start v h = ap total (take-append-le v (widthsFrom file 0 nv) behind (omega (arith, from-length file 0 nv)) ∙ from-take file 0 nv v (omega arith))
+
+  -- a slot behind the variables', and where it begins
+  behind-width : (m : ℕ) → getD (widthsOf file nv nm) (nv + m) 0 ≡ getD behind m 0
+  unfolding widthsOf
+  behind-width m = ap (λ (k : ℕ). getD (widthsFrom file 0 nv ++ behind) (k + m) 0) (sym (from-length file 0 nv)) ∙ getD-append-add (widthsFrom file 0 nv) behind m 0
+
+  behind-start : (m : ℕ) → m ≤ nm → total (take (nv + m) (widthsOf file nv nm)) ≡ total (widthsFrom file 0 nv) + 4 * m
+  unfolding widthsOf
+  behind-start m h =
+      ap (λ (k : ℕ). total (take (k + m) (widthsFrom file 0 nv ++ behind))) (sym (from-length file 0 nv))
+      ∙ ap total (take-append-add (widthsFrom file 0 nv) behind m ∙ ap (λ (l : List ℕ). widthsFrom file 0 nv ++ l) (take-append-le m (replicate nm 4) (1 ∷ []) (omega (arith, length-replicate {A = ℕ} nm 4))))
+      ∙ total-append (widthsFrom file 0 nv) (take m (replicate nm 4)) ∙ ap (λ (k : ℕ). total (widthsFrom file 0 nv) + k) (total-fours m nm h)
 
   pub status-width : (m : ℕ) → m < nm → getD (widthsOf file nv nm) (nv + m) 0 ≡ 4
-  unfolding widthsOf
-  status-width m h = ap (λ (k : ℕ). getD (widthsFrom file 0 nv ++ replicate nm 4) (k + m) 0) (sym (from-length file 0 nv)) ∙ getD-append-add (widthsFrom file 0 nv) (replicate nm 4) m 0 ∙ getD-replicate nm m 4 0 h
+  status-width m h = behind-width m ∙ List·getD-append (replicate nm 4) (1 ∷ []) 0 m (omega (arith, length-replicate {A = ℕ} nm 4)) ∙ getD-replicate nm m 4 0 h
 
   pub status-start : (m : ℕ) → m < nm → total (take (nv + m) (widthsOf file nv nm)) ≡ total (widthsFrom file 0 nv) + 4 * m
-  unfolding widthsOf
-  status-start m h =
-      ap (λ (k : ℕ). total (take (k + m) (widthsFrom file 0 nv ++ replicate nm 4))) (sym (from-length file 0 nv))
-      ∙ ap total (take-append-add (widthsFrom file 0 nv) (replicate nm 4) m)
-      ∙ total-append (widthsFrom file 0 nv) (take m (replicate nm 4)) ∙ ap (λ (k : ℕ). total (widthsFrom file 0 nv) + k) (total-fours m nm (omega arith))
+  status-start m h = behind-start m (omega arith)
+
+  -- the mark is the last bit
+  pub mark-width : getD (widthsOf file nv nm) (nv + nm) 0 ≡ 1
+  mark-width =
+      behind-width nm ∙ ap (λ (k : ℕ). getD behind k 0) (let q : nm ≡ length (replicate nm 4) + 0 = omega (arith, length-replicate {A = ℕ} nm 4) in q)
+      ∙ getD-append-add (replicate nm 4) (1 ∷ []) 0 0
+
+  pub mark-start : total (take (nv + nm) (widthsOf file nv nm)) + 1 ≡ total (widthsOf file nv nm)
+  mark-start = omega (arith, behind-start nm (omega arith), state-size file nv nm (total (widthsFrom file 0 nv)) refl)
 
   pub variable-room : (v o w : ℕ) → v < nv → o ≡ total (widthsFrom file 0 v) → w ≡ widthAt file v → o + w ≤ total (widthsOf file nv nm)
   variable-room v o w h e q = omega (arith, cut-room (widthsOf file nv nm) v (omega (arith, widths-length)), variable-width v h, variable-start v h)
@@ -98,7 +121,7 @@ module _ (file : List ℕ) (shape : Shape) where
   abbrev ws : List ℕ
   ws = widthsIn file shape
 
-  read-slot : (codes : List ℕ) (later next : Bool) → (not next || later) ≡ true → (v : ℕ) → v < nv + nm
+  read-slot : (codes : List ℕ) (later next : Bool) → (not next || later) ≡ true → (v : ℕ) → v < nv + nm + 1
       → getD (readSlots later file shape codes) (numberIn (layoutOf shape) next v) [] ≡ take (getD ws v 0) (drop (cond next (total ws) 0 + total (take v ws)) (fromCodes codes))
   unfolding slotsOf
   read-slot codes false false e v h =
@@ -113,13 +136,13 @@ module _ (file : List ℕ) (shape : Shape) where
       ∙ cut-get (ws ++ ws) (length ws + v) (fromCodes codes) (omega (arith, length-append ws ws, widths-length file nv nm))
       ∙ ap₂ (λ (a b : ℕ). take a (drop b (fromCodes codes))) (getD-append-add ws ws v 0) (ap total (take-append-add ws ws v) ∙ total-append ws (take v ws))
 
-  read-room : (next : Bool) (v : ℕ) → v < nv + nm → cond next (total ws) 0 + total (take v ws) + getD ws v 0 ≤ total (readWidths next file shape)
+  read-room : (next : Bool) (v : ℕ) → v < nv + nm + 1 → cond next (total ws) 0 + total (take v ws) + getD ws v 0 ≤ total (readWidths next file shape)
   read-room false v h = omega (arith, cut-room ws v (omega (arith, widths-length file nv nm)))
   read-room true v h = omega (arith, cut-room ws v (omega (arith, widths-length file nv nm)), total-append ws ws)
 
   status-number : (next : Bool) (m : ℕ) → numberIn (layoutOf shape) next (nv + m) ≡ nv + numberIn (layoutOf shape) next m
   status-number false m = refl
-  status-number true m = let q : nv + nm + (nv + m) ≡ nv + (nv + nm + m) = omega arith in q
+  status-number true m = let q : nv + nm + 1 + (nv + m) ≡ nv + (nv + nm + 1 + m) = omega arith in q
 
   -- who may read the next state may read the state
   pub slotted-for : {codes : List ℕ} (next later : Bool) → (not next || later) ≡ true → Slotted later file shape codes → Slotted next file shape codes
@@ -160,6 +183,29 @@ module _ {file : List ℕ} {shape : Shape} {codes : List ℕ} (next : Bool) (s :
         ap (λ (k : ℕ). getD (readSlots later file shape codes) k []) (sym (status-number file shape next m))
         ∙ read-slot file shape codes later next l (shape .variables + m) (omega arith)
         ∙ ap₂ (λ (a b : ℕ). take a (drop b (fromCodes codes))) (status-width file (shape .variables) (shape .matrices) m h) (sym (ap₂ _+_ start status-place))
+
+-- the one literal of a Boolean
+pub lowest-one : (bits : List ℕ) (o : ℕ) → o < length bits → lowest (take 1 (drop o (fromCodes bits))) ≡ fromCode (getD bits o 0)
+lowest-one [] o h = absurd (omega arith)
+lowest-one (x ∷ l) zero h = refl
+lowest-one (x ∷ l) (suc o) h = lowest-one l o (omega arith)
+
+-- the mark of a state, and of the next one: each is the last of its bits
+module _ {file : List ℕ} {shape : Shape} {codes : List ℕ} where
+  pub bits-some : {later : Bool} → Slotted later file shape codes → 0 < shape .bits
+  bits-some s = omega (arith, s .sum, mark-start file (shape .variables) (shape .matrices))
+
+  pub mark-read : (next : Bool) → Slotted next file shape codes → {o : ℕ} → o ≡ cond next (shape .bits) 0 + (shape .bits - 1) → (later : Bool) → (not next || later) ≡ true
+      → (o < length codes) × (fromCode (getD codes o 0) ≡ booleanAt (readSlots later file shape codes) (numberIn (layoutOf shape) next (shape .variables + shape .matrices)))
+  mark-read next s {o} q later l =
+      let nv = shape .variables in
+      let nm = shape .matrices in
+      let last : shape .bits - 1 ≡ total (take (nv + nm) (widthsIn file shape)) = omega (arith, s .sum, mark-start file nv nm) in
+      let e : o ≡ cond next (total (widthsIn file shape)) 0 + total (take (nv + nm) (widthsIn file shape)) = q ∙ ap₂ _+_ (ap (λ (k : ℕ). cond next k 0) (s .sum)) last in
+      let inside : o < length codes = omega (arith, e, s .bits, read-room file shape next (nv + nm) (omega arith), mark-width file nv nm) in (
+        inside,
+        sym (ap lowest (read-slot file shape codes later next l (nv + nm) (omega arith) ∙ ap₂ (λ (a b : ℕ). take a (drop b (fromCodes codes))) (mark-width file nv nm) (sym e)) ∙ lowest-one codes o inside),
+      )
 
 pub integer-width : (file : List ℕ) (v : ℕ) → getD file (3 * v) 0 ≡ 1 → _≡_ {A = ℕ} 16 (cond (eqb (getD file (3 * v) 0) 1) 16 1)
 integer-width file v e = ap {B = ℕ} (λ (t : Bool). cond t 16 1) (sym (eq-eqb (getD file (3 * v) 0) 1 e))
@@ -209,12 +255,6 @@ loading-end bits off w out i room small h l =
     let lx : length (take w (drop off bits)) ≡ w = length-take-le w (drop off bits) (omega (arith, length-drop off bits)) in
     let q : length (take w (drop off bits)) + (16 - w) ≡ 16 = omega arith in
     ap fromCodes (l .same ∙ ap (λ (j : ℕ). take j (drop off bits) ++ replicate (16 - j) 3) e) ∙ pad-codes (take w (drop off bits)) (16 - w) ∙ ap₂ (λ (j : ℕ) (r : List Literal). pad j r) q (codes-take w (drop off bits) ∙ ap (take w) (codes-drop off bits))
-
--- the one literal of a Boolean
-pub lowest-one : (bits : List ℕ) (o : ℕ) → o < length bits → lowest (take 1 (drop o (fromCodes bits))) ≡ fromCode (getD bits o 0)
-lowest-one [] o h = absurd (omega arith)
-lowest-one (x ∷ l) zero h = refl
-lowest-one (x ∷ l) (suc o) h = lowest-one l o (omega arith)
 
 -- the literals of a number
 pub record Counting (x : ℕ) (out : List ℕ) (n i : ℕ) : Type 0 where

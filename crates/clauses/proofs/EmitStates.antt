@@ -1,7 +1,7 @@
 -- The flat state: a slot set, and all bits muxed. Assumes nothing.
 use Prim.Native.Nat.{ℕ, zero, suc, _+_, _-_, _*_, _<_, _≤_}
 use mathlib.Core.Path.{_≡_, refl, sym, ap, ap₂, _∙_}
-use mathlib.Core.Bool.{Bool, cond}
+use mathlib.Core.Bool.{Bool, false, cond}
 use mathlib.Core.List.{List, [], _∷_, _++_, append-assoc}
 use native.Mathlib.Omega.{arith}
 use native.Mathlib.Numerals.{add-one}
@@ -13,16 +13,16 @@ use Rattle.design.specs.declared.shape.Shape.{Shape}
 use Rattle.clauses.specs.Literal.{Literal, positive}
 use Rattle.clauses.specs.Gate.{Gate, mux}
 use Rattle.clauses.specs.Circuit.{Built, give, _>>=_, mux!, Bits}
-use Rattle.clauses.specs.Expression.{Slots}
+use Rattle.clauses.specs.Expression.{Slots, withMark}
 use Rattle.clauses.specs.Action.{muxBits!, muxes! }
 use Rattle.clauses.specs.Formula.{total}
 use Rattle.clauses.specs.Writing.{fromCode, fromCodes, Emits}
-use Rattle.clauses.specs.FlatState.{widthsFrom, widthsOf, widthsIn, cut, slotsOf, over, Slotted}
+use Rattle.clauses.specs.FlatState.{layoutOf, widthsFrom, widthsOf, widthsIn, cut, slotsOf, over, Slotted}
 use Rattle.clauses.proofs.EmitWords.{append-nil}
 use Rattle.clauses.proofs.EmitLists.{codes-append, codes-length, codes-take, codes-drop, take-all, take-none}
 use Rattle.clauses.proofs.EmitBuilds.{emits-same, emits-result, emits-map}
 use Rattle.clauses.proofs.EmitCircuits.{Row, Rowing, rowing-start, rowing-on, rowing-end}
-use Rattle.clauses.proofs.EmitSlots.{set-seam, variable-width, variable-start, variable-room, integer-width, boolean-width, status-width, status-start, widths-length}
+use Rattle.clauses.proofs.EmitSlots.{set-seam, variable-width, variable-start, variable-room, integer-width, boolean-width, status-width, status-start, mark-width, mark-start, widths-length}
 
 pub cut-set : (ws : List ℕ) (v : ℕ) (xs g : List Literal) → v < length ws → length g ≡ getD ws v 0 → total ws ≤ length xs
     → cut ws (take (total (take v ws)) xs ++ (g ++ drop (total (take v ws) + length g) xs)) ≡ set (cut ws xs) v g
@@ -167,7 +167,7 @@ module _ (file : List ℕ) (shape : Shape) where
   abbrev nm : ℕ
   nm = shape .matrices
 
-  slot-over : (v o : ℕ) (x codes : List ℕ) → v < nv + nm → o ≡ total (take v (widthsIn file shape)) → length x ≡ getD (widthsIn file shape) v 0 → total (widthsIn file shape) ≤ length codes
+  slot-over : (v o : ℕ) (x codes : List ℕ) → v < nv + nm + 1 → o ≡ total (take v (widthsIn file shape)) → length x ≡ getD (widthsIn file shape) v 0 → total (widthsIn file shape) ≤ length codes
       → slotsOf file shape (over o x codes) ≡ set (slotsOf file shape codes) v (fromCodes x)
   unfolding slotsOf
   slot-over v o x codes h q l room =
@@ -182,6 +182,13 @@ module _ (file : List ℕ) (shape : Shape) where
   pub status-over : (m o : ℕ) (x codes : List ℕ) → m < nm → o ≡ total (widthsFrom file 0 nv) + 4 * m → length x ≡ 4 → total (widthsIn file shape) ≤ length codes
       → slotsOf file shape (over o x codes) ≡ set (slotsOf file shape codes) (nv + m) (fromCodes x)
   status-over m o x codes h e l room = slot-over (nv + m) o x codes (omega arith) (e ∙ sym (status-start file nv nm m h)) (l ∙ sym (status-width file nv nm m h)) room
+
+  -- the mark's slot set
+  pub mark-over : {later : Bool} {codes : List ℕ} → Slotted later file shape codes → total (widthsIn file shape) ≤ length codes → (m : ℕ)
+      → slotsOf file shape (set codes (shape .bits - 1) m) ≡ withMark (layoutOf shape) (fromCode m) (slotsOf file shape codes)
+  mark-over {codes = codes} s room m =
+      let o : shape .bits - 1 ≡ total (take (nv + nm) (widthsIn file shape)) = omega (arith, s .sum, mark-start file nv nm) in
+      ap (slotsOf file shape) (set-over (shape .bits - 1) m codes (omega (arith, s .sum, mark-start file nv nm))) ∙ slot-over (nv + nm) (shape .bits - 1) (m ∷ []) codes (omega arith) o (sym (mark-width file nv nm)) room
 
 -- the muxes of all bits, T in number
 pub record Muxing (T : ℕ) (c : Literal) (a b : List ℕ) (n₀ : ℕ) (xs₀ : List ℤ) (cur₀ : ℕ) (xs : List ℤ) (s : List ℕ) (cur n i : ℕ) : Type 0 where
@@ -236,3 +243,17 @@ module _ (file : List ℕ) (shape : Shape) (v v′ o : ℕ) (codes : List ℕ) (
   pub boolean-set : (x : ℕ) (s : List ℕ) → (getD file (3 * v) 0 ≡ 1 → ⊥) → s ≡ set codes o x → slotsOf file shape s ≡ set (slotsOf file shape codes) v (fromCode x ∷ [])
   boolean-set x s k w =
       ap (slotsOf file shape) (w ∙ set-over o x codes (boolean-room k)) ∙ variable-over file shape v o (x ∷ []) codes h start (boolean-width file v k) room
+
+-- the mark set and then a variable's slot, as an assignment does
+module _ (file : List ℕ) (shape : Shape) (v v′ o : ℕ) {codes : List ℕ} (e : v′ ≡ v) (h : v < shape .variables) (q : o ≡ total (widthsFrom file 0 v′)) (slots : Slotted false file shape codes) (m : ℕ) where
+  abbrev marked : List ℕ
+  marked = set codes (shape .bits - 1) m
+
+  room-again : total (widthsIn file shape) ≤ length marked
+  room-again = omega (arith, slots .bits, length-set codes (shape .bits - 1) m)
+
+  pub integer-marked : (x s : List ℕ) → getD file (3 * v) 0 ≡ 1 → length x ≡ 16 → s ≡ over o (take 16 x) marked → slotsOf file shape s ≡ set (withMark (layoutOf shape) (fromCode m) (slotsOf file shape codes)) v (fromCodes x)
+  integer-marked x s k l w = integer-set file shape v v′ o marked e h q room-again x s k l w ∙ ap (λ (r : Slots). set r v (fromCodes x)) (mark-over file shape slots (slots .bits) m)
+
+  pub boolean-marked : (x : ℕ) (s : List ℕ) → (getD file (3 * v) 0 ≡ 1 → ⊥) → s ≡ set marked o x → slotsOf file shape s ≡ set (withMark (layoutOf shape) (fromCode m) (slotsOf file shape codes)) v (fromCode x ∷ [])
+  boolean-marked x s k w = boolean-set file shape v v′ o marked e h q room-again x s k w ∙ ap (λ (r : Slots). set r v (fromCode x ∷ [])) (mark-over file shape slots (slots .bits) m)

@@ -7,20 +7,20 @@ use Prim.Native.Nat.{ℕ, zero, suc, _+_, _*_, _-_, _<_, _≤_}
 use native.Mathlib.Omega.{arith}
 use native.Mathlib.Numerals.{add-one}
 use lib.ListN.{getD, length, set, take, drop, getElem?, length-set}
-use lib.Seq.{drop-cons, take-suc-set, getD-take}
+use lib.Seq.{drop-cons, take-suc-set, getD-take, getD-append-add}
 use lib.Dec.{eqb}
 use lib.IntN.{ℤ}
 use borrow.Author.Tests.{eqb-true, eq-eqb, ne-eqb}
 use Rattle.design.specs.Tree.{BoolExpr, constantB, done, Cell, InvalidCell, Design, Mover, cell, raise, movers}
 use Rattle.design.specs.Limits.{maxBytes, maxMovers, maxDepth}
-use Rattle.design.specs.State.{Layout, layout}
+use Rattle.design.specs.State.{Layout, layout, laterSlot, widths}
 use Rattle.design.specs.Reading.{got}
 use Rattle.design.specs.Expression.{withLater, boolExpr}
 use Rattle.design.specs.DesignFile.{Entry, normal, invalid, c-matrix, c-status, c-event, c-kind, c-past}
 use Rattle.design.specs.Check.{namesOf, hasConstraint, itemsEnd, constraintOffset, variableCount, matricesOffset, cellsOffset, cellCount, invariantOffset, invalids, names, eventIn}
 use Rattle.design.specs.Places.{pastCells, normalPlaces, CellsIndexed}
 use Rattle.design.specs.Sections.{Parts, EntryRead, Standing, CellFields}
-use Rattle.design.proofs.Widths.{layout-is as layout-by-counts}
+use Rattle.design.proofs.Widths.{layout-is as layout-by-counts, widths-are as widths-by-bytes}
 use Rattle.design.proofs.Indexed as indexed
 use Rattle.design.proofs.Places.{Read as Tree, read, cell-fields, cell-stands, normal-stands}
 use Rattle.design.specs.declared.shape.Shape.{Shape}
@@ -33,20 +33,20 @@ use Rattle.design.specs.Places.{externalsFrom}
 use Rattle.design.proofs.Externals.{mover-count, cell-mover, raise-mover}
 use Rattle.clauses.specs.Literal.{Literal, negate, trueLiteral}
 use Rattle.clauses.specs.Circuit.{Build, give, _>>=_, and! }
-use Rattle.clauses.specs.Expression.{Slots, bool! }
+use Rattle.clauses.specs.Expression.{Slots, lowest, booleanAt, test!, markAt}
 use Rattle.clauses.specs.Action.{statusAndEvent!, mover!, movers!, noInvalid! }
-use Rattle.clauses.specs.Formula.{property!, stepProperty! }
+use Rattle.clauses.specs.Formula.{slotsFrom, unmarked!, property!, stepProperty!, stateAt}
 use Rattle.clauses.specs.Writing.{fromCode, Emits}
 use Rattle.clauses.specs.Builders.{link! }
 use Rattle.clauses.specs.FlatState.{slotsOf, readSlots, layoutOf}
 use Rattle.clauses.specs.Ready.{ShapedFile, resultFrom}
-use Rattle.clauses.specs.Encoders.{Writes, Gives, BoolHere, BoolEncoded}
+use Rattle.clauses.specs.Encoders.{Writes, Gives, BoolHere, TestEncoded}
 use Rattle.clauses.specs.declared.gate.Cursor.{Cursor}
 use Rattle.clauses.specs.declared.gate.Out.{Out}
-use Rattle.clauses.specs.declared.expression.BoolOut.{BoolOut}
 use Rattle.clauses.proofs.EmitWords.{append-nil}
 use Rattle.clauses.proofs.EmitLists.{drop-all}
 use Rattle.clauses.proofs.EmitBuilds.{emits-same, emits-result, emits-give, emits-bind, Left, left-start, left-on, left-map, left-same, left-result, left-end}
+use Rattle.clauses.proofs.EmitSlots.{widths-length}
 use Rattle.clauses.proofs.EmitStates.{built-same}
 use Rattle.clauses.proofs.CellCounts.{sizes}
 
@@ -309,6 +309,17 @@ module _ (file piece : List ℕ) (d : Design) (s : Slots) where
   property-none (suc zero) h z = absurd (z refl)
   property-none (suc (suc p)) h z = refl
 
+  property-0 : (p : ℕ) → p ≡ 0 → unmarked! d s (test! (layout d) s (expressionOf file piece d)) ≡ property! d (propertyOf file piece d p) s
+  unfolding property! propertyOf
+  property-0 zero e = refl
+  property-0 (suc p) e = absurd (omega arith)
+
+  property-1 : (p : ℕ) → p ≡ 1 → unmarked! d s (noInvalid! (layout d) s trueLiteral (d .invalid)) ≡ property! d (propertyOf file piece d p) s
+  unfolding property! propertyOf
+  property-1 zero e = absurd (omega arith)
+  property-1 (suc zero) e = refl
+  property-1 (suc (suc p)) e = absurd (omega arith)
+
   module _ (next : Slots) where
     pub step-property-none : (p : ℕ) → p < 2 → stepProperty! d (propertyOf file piece d p) s next ≡ give trueLiteral
     unfolding stepProperty! propertyOf
@@ -316,35 +327,58 @@ module _ (file piece : List ℕ) (d : Design) (s : Slots) where
     step-property-none (suc zero) h = refl
     step-property-none (suc (suc p)) h = absurd (omega arith)
 
-    pub step-property-is : (p : ℕ) → 2 ≤ p → stepProperty! d (propertyOf file piece d p) s next ≡ bool! (layout d) (s ++ next) (d .constraint)
+    step-property-is : (p : ℕ) → 2 ≤ p → unmarked! d next (test! (layout d) (s ++ next) (d .constraint)) ≡ stepProperty! d (propertyOf file piece d p) s next
     unfolding stepProperty! propertyOf
     step-property-is zero h = absurd (omega arith)
     step-property-is (suc zero) h = absurd (omega arith)
     step-property-is (suc (suc p)) h = refl
 
-    -- a file without a constraint
-    pub step-property-true : (p : ℕ) → 2 ≤ p → d .constraint ≡ constantB true → stepProperty! d (propertyOf file piece d p) s next ≡ give trueLiteral
-    unfolding bool!
-    step-property-true p h e = step-property-is p h ∙ ap (bool! (layout d) (s ++ next)) e
+-- a property's end: x is its literal so far, `mark` the code of the mark
+pub unmarked-gives : (d : Design) (s : Slots) (property : Build Literal) {pen : Cursor} {xs ys zs : List ℤ} (x r : Out) (mark : ℕ) → fromCode mark ≡ markAt (layout d) s → Gives pen property xs ys x
+    → Gives (record { cur = x .cur; var = x .var }) (and! (fromCode (x .lit)) (negate (fromCode mark))) ys zs r → Gives pen (unmarked! d s property) xs zs r
+unfolding unmarked!
+unmarked-gives d s property x r mark e w u =
+    emits-bind property (λ (y : Literal). and! y (negate (markAt (layout d) s))) w (emits-same _ _ (ap (λ (l : Literal). and! (fromCode (x .lit)) (negate l) (x .var)) e) u)
+
+-- the mark of the later one of two states
+later-mark : (l : Layout) (s next : Slots) → length s ≡ l .end → booleanAt (s ++ next) (laterSlot l (l .mark)) ≡ markAt l next
+later-mark l s next e = ap lowest (ap (λ (k : ℕ). getD (s ++ next) (k + l .mark) []) (sym e) ∙ getD-append-add s next (l .mark) [])
+
+slots-length : (v : ℕ) (ws : List ℕ) → length (slotsFrom v ws) ≡ length ws
+slots-length v [] = refl
+slots-length v (w ∷ ws) = ap suc (slots-length (v + w) ws)
 
 -- the expressions of an accepted file, and the layout
 module _ {file : List ℕ} {shape : Shape} (h : ShapedFile file shape) where
   pub layout-is : (d : Design) (w : Parts file d) → layout d ≡ layoutOf shape
   layout-is d w = sym (layout-by-counts file d w (shape .variables) (shape .matrices) (h .counts .variables) (h .counts .matrices))
 
-  property-0 : (piece : List ℕ) (d : Design) (w : Parts file d) (p : ℕ) (s : Slots) (n : ℕ) → p ≡ 0 → bool! (layoutOf shape) s (expressionOf file piece d) n ≡ property! d (propertyOf file piece d p) s n
-  unfolding property! propertyOf
-  property-0 piece d w zero s n e = ap (λ (l : Layout). bool! l s (expressionOf file piece d) n) (sym (layout-is d w))
-  property-0 piece d w (suc p) s n e = absurd (omega arith)
-
-  pub property-1 : (piece : List ℕ) (d : Design) (w : Parts file d) (p : ℕ) (s : Slots) (n : ℕ) → p ≡ 1 → noInvalid! (layoutOf shape) s trueLiteral (d .invalid) n ≡ property! d (propertyOf file piece d p) s n
-  unfolding property! propertyOf
-  property-1 piece d w zero s n e = absurd (omega arith)
-  property-1 piece d w (suc zero) s n e = ap (λ (l : Layout). noInvalid! l s trueLiteral (d .invalid) n) (sym (layout-is d w))
-  property-1 piece d w (suc (suc p)) s n e = absurd (omega arith)
+  -- a state's slots: as many as the layout has
+  pub state-length : (d : Design) (w : Parts file d) (v : ℕ) → length (stateAt d v) ≡ layout d .end
+  unfolding stateAt
+  state-length d w v =
+      slots-length v (widths d) ∙ ap length (sym (widths-by-bytes file d w (shape .variables) (shape .matrices) (h .counts .variables) (h .counts .matrices)))
+      ∙ widths-length file (shape .variables) (shape .matrices) ∙ ap (λ (l : Layout). l .end) (sym (layout-is d w))
 
   pub cell-in : (p i : ℕ) → i < cellCount file → p ≡ pastCells file i (cellsOffset file) → CellFields file p
   cell-in p i l e = let t = read file (h .accepted) in scan-fields file shape [] (t .tree) (t .all .parts) p i l e
+
+  -- A property's gates over the literals of a state, whose mark's code is `mark`; x is what comes before its end.
+  module _ (piece codes : List ℕ) (p mark : ℕ) (k : fromCode mark ≡ markAt (layoutOf shape) (slotsOf file shape codes)) (d : Design) (w : Parts file d) where
+    mark-here : fromCode mark ≡ markAt (layout d) (slotsOf file shape codes)
+    mark-here = k ∙ ap (λ (l : Layout). markAt l (slotsOf file shape codes)) (sym (layout-is d w))
+
+    pub property-1-gives : p ≡ 1 → {pen : Cursor} {xs ys zs : List ℤ} (x r : Out) → Gives pen (noInvalid! (layoutOf shape) (slotsOf file shape codes) trueLiteral (d .invalid)) xs ys x
+        → Gives (record { cur = x .cur; var = x .var }) (and! (fromCode (x .lit)) (negate (fromCode mark))) ys zs r → Gives pen (property! d (propertyOf file piece d p) (slotsOf file shape codes)) xs zs r
+    property-1-gives z {pen} x r g u =
+        emits-same _ _ (ap (λ (b : Build Literal). b (pen .var)) (property-1 file piece d (slotsOf file shape codes) p z))
+        (unmarked-gives d (slotsOf file shape codes) _ x r mark mark-here (emits-same _ _ (ap (λ (l : Layout). noInvalid! l (slotsOf file shape codes) trueLiteral (d .invalid) (pen .var)) (sym (layout-is d w))) g) u)
+
+    property-0-gives : p ≡ 0 → {pen : Cursor} {xs ys zs : List ℤ} (x r : Out) → Gives pen (test! (layoutOf shape) (slotsOf file shape codes) (expressionOf file piece d)) xs ys x
+        → Gives (record { cur = x .cur; var = x .var }) (and! (fromCode (x .lit)) (negate (fromCode mark))) ys zs r → Gives pen (property! d (propertyOf file piece d p) (slotsOf file shape codes)) xs zs r
+    property-0-gives z {pen} x r g u =
+        emits-same _ _ (ap (λ (b : Build Literal). b (pen .var)) (property-0 file piece d (slotsOf file shape codes) p z))
+        (unmarked-gives d (slotsOf file shape codes) _ x r mark mark-here (emits-same _ _ (ap (λ (l : Layout). test! l (slotsOf file shape codes) (expressionOf file piece d) (pen .var)) (sym (layout-is d w))) g) u)
 
   -- the gates of property 0's expression, in the piece or in the file
   module _ (piece : List ℕ) (p : ℕ) (right : pieceRight file piece p ≡ true) (z : p ≡ 0) (text : List ℕ) (e : text ≡ expressionText file piece) where
@@ -356,10 +390,10 @@ module _ {file : List ℕ} {shape : Shape} (h : ShapedFile file shape) where
         let t = read file (h .accepted) in
         record { end = length text; levels = maxDepth; inside = omega arith; read = record { tree = expressionOf file piece (t .tree); past = length text; reads = text-got (t .tree) (t .all .parts) } }
 
-    pub expression-writes : (codes : List ℕ) {pen : Cursor} {xs ys : List ℤ} (r : BoolOut) → BoolEncoded text file shape false codes 0 pen xs ys r
-        → (d : Design) (w : Parts file d) → Writes pen (property! d (propertyOf file piece d p) (slotsOf file shape codes)) xs ys (fromCode (r .lit)) (r .pen)
-    expression-writes codes {pen = pen} r k d w =
-        emits-same _ _ (property-0 piece d w p (slotsOf file shape codes) (pen .var) z) (k .encodes (length text) maxDepth _ _ (omega arith) (text-got d w) .0)
+    pub expression-gives : (codes : List ℕ) {pen : Cursor} {xs ys zs : List ℤ} (x r : Out) (mark : ℕ) → fromCode mark ≡ markAt (layoutOf shape) (slotsOf file shape codes) → TestEncoded text file shape false codes 0 pen xs ys x
+        → Gives (record { cur = x .cur; var = x .var }) (and! (fromCode (x .lit)) (negate (fromCode mark))) ys zs r
+        → (d : Design) (w : Parts file d) → Gives pen (property! d (propertyOf file piece d p) (slotsOf file shape codes)) xs zs r
+    expression-gives codes x r mark k t u d w = property-0-gives piece codes p mark k d w z x r (t (length text) maxDepth _ _ (omega arith) (text-got d w)) u
 
   -- the constraint's gates, over two states
   module _ (c : hasConstraint file ≡ true) (at : ℕ) (a : at ≡ constraintOffset file) where
@@ -371,12 +405,21 @@ module _ {file : List ℕ} {shape : Shape} (h : ShapedFile file shape) where
         let t = read file (h .accepted) in
         record { end = itemsEnd file; levels = maxDepth; inside = omega arith; read = record { tree = t .tree .constraint; past = itemsEnd file; reads = constraint-got (t .tree) (t .all .parts) } }
 
-    pub constraint-writes : (p : ℕ) → 2 ≤ p → (codes : List ℕ) {pen : Cursor} {xs ys : List ℤ} (r : BoolOut) → BoolEncoded file file shape true codes at pen xs ys r
-        → (d : Design) (w : Parts file d) (piece : List ℕ) (s next : Slots) → readSlots true file shape codes ≡ s ++ next → Writes pen (stepProperty! d (propertyOf file piece d p) s next) xs ys (fromCode (r .lit)) (r .pen)
-    constraint-writes p l codes {pen = pen} r k d w piece s next e =
-        emits-same _ _
-        (ap₂ (λ (x : Layout) (y : Slots). bool! x y (d .constraint) (pen .var)) (sym (layout-is d w)) e ∙ ap (λ (b : Build Literal). b (pen .var)) (sym (step-property-is file piece d s next p l)))
-        (k .encodes (itemsEnd file) maxDepth _ _ (omega arith) (constraint-got d w) .0)
+    pub constraint-gives : (codes : List ℕ) {pen : Cursor} {xs ys : List ℤ} (r : Out) → TestEncoded file file shape true codes at pen xs ys r
+        → (d : Design) (w : Parts file d) → Gives pen (test! (layoutOf shape) (readSlots true file shape codes) (d .constraint)) xs ys r
+    constraint-gives codes r t d w = t (itemsEnd file) maxDepth _ _ (omega arith) (constraint-got d w)
+
+  pub step-property-gives : (p : ℕ) → 2 ≤ p → (codes : List ℕ) {pen : Cursor} {xs ys zs : List ℤ} (x r : Out) (mark : ℕ) → fromCode mark ≡ booleanAt (readSlots true file shape codes) (laterSlot (layoutOf shape) (layoutOf shape .mark))
+      → ((d : Design) (w : Parts file d) → Gives pen (test! (layoutOf shape) (readSlots true file shape codes) (d .constraint)) xs ys x)
+      → Gives (record { cur = x .cur; var = x .var }) (and! (fromCode (x .lit)) (negate (fromCode mark))) ys zs r
+      → (d : Design) (w : Parts file d) (piece : List ℕ) (v after : ℕ) → readSlots true file shape codes ≡ stateAt d v ++ stateAt d after
+      → Gives pen (stepProperty! d (propertyOf file piece d p) (stateAt d v) (stateAt d after)) xs zs r
+  step-property-gives p l codes {pen = pen} x r mark k t u d w piece v after e =
+      let s = stateAt d v in
+      let next = stateAt d after in
+      let q : fromCode mark ≡ markAt (layout d) next = k ∙ ap₂ (λ (z : Slots) (y : Layout). booleanAt z (laterSlot y (y .mark))) e (sym (layout-is d w)) ∙ later-mark (layout d) s next (state-length d w v) in
+      emits-same _ _ (ap (λ (b : Build Literal). b (pen .var)) (step-property-is file piece d s next p l))
+      (unmarked-gives d next (test! (layout d) (s ++ next) (d .constraint)) x r mark q (emits-same _ _ (ap₂ (λ (y : Layout) (z : Slots). test! y z (d .constraint) (pen .var)) (sym (layout-is d w)) e) (t d w)) u)
 
   pub mover-total : {cells : List ℕ} → CellsIndexed file cells (shape .normals) → (d : Design) (w : Parts file d) → length (movers d) ≡ shape .normals + shape .externals
   mover-total x d w = omega (arith, mover-count file d w, x .count, h .externals, ap (λ (n : ℕ). length (externalsFrom file 0 n)) (h .counts .variables))

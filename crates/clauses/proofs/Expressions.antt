@@ -7,19 +7,22 @@ use Prim.Native.Nat.{ℕ, zero, suc, _+_, _-_, _*_, _/_, _^_, _%_, _<_, _≤_}
 use native.Mathlib.Nat.{pow-suc}
 use native.Mathlib.Omega.{arith}
 use lib.Dec.{ltb, eqb}
+use lib.IntN.{_+ℤ_, _-ℤ_, _*ℤ_}
 use lib.ListN.{length, getD, List·getD-map}
 use Rattle.design.specs.Tree.{IntExpr, BoolExpr, constant, variable, status, sum, difference, product, constantB, variableB, notB, andB, orB, equal, less, bit, truth}
 use Rattle.design.specs.State.{State, Layout, statusSlot}
 use Rattle.design.specs.WellFormed.{Narrow, IntOk, BoolOk}
-use Rattle.step.specs.Pattern.{plus, minus, times, below}
-use Rattle.step.specs.Evaluation.{evalInt, evalBool}
-use Rattle.clauses.specs.Literal.{literalOf}
+use Rattle.step.specs.Pattern.{plus, minus, times, below, signed, wrap, outside}
+use Rattle.step.specs.Evaluation.{evalInt, evalBool, passesInt, passesBool}
+use Rattle.clauses.specs.Literal.{Literal, falseLiteral, literalOf}
 use Rattle.clauses.specs.Meaning.{Assignment, literalTrue}
-use Rattle.clauses.specs.Circuit.{Bits}
-use Rattle.clauses.specs.Expression.{Slots, constantBits, pad, integerAt, lowest, booleanAt, int!, bool! }
-use Rattle.clauses.proofs.Gates.{negate-true}
-use Rattle.clauses.proofs.Correct.{LiteralBelow, Correct, correct-give, correct-bind, correct-means, and-correct, or-correct, negate-below}
-use Rattle.clauses.proofs.Arithmetic.{BitsBelow, bits-up, Word, word-up, number, add-correct, difference-correct, bit-truth, product-correct, less-correct, equal-correct}
+use Rattle.clauses.specs.Circuit.{Build, Bits, Summed, WithMark, mark! }
+use Rattle.clauses.specs.Expression.{Slots, constantBits, pad, integerAt, lowest, booleanAt, sumPasses!, leastOperand, largestOperand, productPasses!, int!, bool!, test! }
+use Rattle.clauses.proofs.Gates.{differ, negate-true}
+use Rattle.clauses.proofs.Correct.{LiteralBelow, Correct, correct-give, correct-bind, correct-means, and-correct, xor-correct, or-correct, negate-below}
+use Rattle.clauses.proofs.Arithmetic.{BitsBelow, bits-up, Word, word-up, number, number-lt, sum-ends, difference-ends, bit-truth, product-correct, less-correct}
+use Rattle.clauses.proofs.Equality.{equal-correct}
+use Rattle.clauses.proofs.Operands.{sum-outside, difference-outside, wrap-small, pattern-outside}
 
 -- the state that an assignment gives literals
 abbrev pub stateOf : Assignment → Slots → State
@@ -114,10 +117,10 @@ fits-append {ws = ws} {us = us} {n = n} {s = s} {u = u} f g =
       wide = map-append length s u ∙ ap₂ _++_ (f .wide) (g .wide);
     }
 
-width-at : (ws : List ℕ) (n : ℕ) (s : Slots) (v : ℕ) → Fits ws n s → length (getD s v []) ≡ getD ws v 0
+pub width-at : (ws : List ℕ) (n : ℕ) (s : Slots) (v : ℕ) → Fits ws n s → length (getD s v []) ≡ getD ws v 0
 width-at ws n s v f = sym (List·getD-map length s v []) ∙ ap (λ l. getD l v 0) (f .wide)
 
-value-at : (ρ : Assignment) (s : Slots) (v : ℕ) → getD (stateOf ρ s) v 0 ≡ number ρ (getD s v [])
+pub value-at : (ρ : Assignment) (s : Slots) (v : ℕ) → getD (stateOf ρ s) v 0 ≡ number ρ (getD s v [])
 value-at ρ s v = List·getD-map (number ρ) s v []
 
 -- a slot read as an integer
@@ -163,51 +166,180 @@ times-is c b = ap (λ (x : ℕ). x % 65536) (omega arith)
 below-is : (a b : ℕ) → ltb ((a + 2 ^ 15) % 2 ^ 16) ((b + 2 ^ 15) % 2 ^ 16) ≡ below a b
 below-is a b = refl
 
-module _ (ws : List ℕ) (l : Layout) (s : Slots) where
-  pub int-correct : (e : IntExpr) (n : ℕ) → Fits ws n s → IntOk ws l e
-      → Correct n (int! l s e n) (Word 16) (λ ρ r. number ρ r ≡ evalInt l (stateOf ρ s) e)
-  unfolding int! evalInt
-  int-correct (constant c) n f k = correct-give _ (constant-word n 16 c (f .known)) λ ρ one. number-constant ρ one 16 c k
-  int-correct (variable v) n f k = correct-give _ (integer-word v f) λ ρ one. integer-value ws n s v f ρ one
-  int-correct (status m) n f k = correct-give _ (integer-word (statusSlot l m) f) λ ρ one. integer-value ws n s (statusSlot l m) f ρ one
-  int-correct (sum a b) n f k =
-      correct-bind _ _ (int-correct a n f (k .0)) λ x n₁ l₁ bx.
-      correct-bind _ _ (int-correct b n₁ (fits-up l₁ f) (k .1)) λ y n₂ l₂ by.
-      correct-bind _ _ (add-correct 16 x y n₂ (omega (arith, f .known)) (word-up l₂ bx) by) λ r n₃ l₃ br.
-      correct-give _ br λ ρ one er ey ex. er ∙ plus-is (number ρ x) (number ρ y) ∙ ap₂ plus ex ey
-  int-correct (difference a b) n f k =
-      correct-bind _ _ (int-correct a n f (k .0)) λ x n₁ l₁ bx.
-      correct-bind _ _ (int-correct b n₁ (fits-up l₁ f) (k .1)) λ y n₂ l₂ by.
-      correct-bind _ _ (difference-correct 16 x y n₂ (omega (arith, f .known)) (word-up l₂ bx) by) λ r n₃ l₃ br.
-      correct-give _ br λ ρ one er ey ex. er ∙ minus-is (number ρ x) (number ρ y) ∙ ap₂ minus ex ey
-  int-correct (product c a) n f k =
-      correct-bind _ _ (int-correct a n f (k .1)) λ x n₁ l₁ bx.
-      let h : 1 < n₁ = omega (arith, f .known) in
-      correct-means (product-correct 16 16 c x (constantBits 16 0) n₁ h (k .0) bx (constant-word n₁ 16 0 h)) λ ρ r one e ex.
-      e ∙ rw (number-constant ρ one 16 0 (omega arith)) (times-is c (number ρ x)) ∙ ap (times c) ex
+-- What an expression's gates come to: its result has a shape and a meaning, and the mark behind them is the mark so far, or true where the expression marks and passes the end.
+pub record MarkedShape {A : Type 0} (Q : ℕ → A → Type 0) (k : ℕ) (r : WithMark A) : Type 0 where
+  pub result : Q k (r .result)
+  pub mark : LiteralBelow k (r .mark)
 
-  pub bool-correct : (e : BoolExpr) (n : ℕ) → Fits ws n s → BoolOk ws l e
-      → Correct n (bool! l s e n) LiteralBelow (λ ρ r. literalTrue ρ r ≡ evalBool l (stateOf ρ s) e)
-  unfolding bool! evalBool
-  bool-correct (constantB b) n f k = correct-give _ (literalOf-below n b (f .known)) λ ρ one. literalOf-true ρ one b
-  bool-correct (variableB v) n f k = correct-give _ (boolean-below v f) λ ρ one. boolean-value ws n s v f k ρ
-  bool-correct (notB a) n f k =
-      correct-bind _ _ (bool-correct a n f k) λ x n₁ l₁ bx.
-      correct-give _ (negate-below n₁ x bx) λ ρ one ex. negate-true ρ x ∙ ap not ex
-  bool-correct (andB a b) n f k =
-      correct-bind _ _ (bool-correct a n f (k .0)) λ x n₁ l₁ bx.
-      correct-bind _ _ (bool-correct b n₁ (fits-up l₁ f) (k .1)) λ y n₂ l₂ by.
-      correct-means (and-correct x y n₂ (omega arith) by) λ ρ r one e ey ex. e ∙ ap₂ _&&_ ex ey
-  bool-correct (orB a b) n f k =
-      correct-bind _ _ (bool-correct a n f (k .0)) λ x n₁ l₁ bx.
-      correct-bind _ _ (bool-correct b n₁ (fits-up l₁ f) (k .1)) λ y n₂ l₂ by.
-      correct-means (or-correct x y n₂ (omega arith) by) λ ρ r one e ey ex. e ∙ ap₂ _||_ ex ey
-  bool-correct (equal a b) n f k =
-      correct-bind _ _ (int-correct a n f (k .0)) λ x n₁ l₁ bx.
-      correct-bind _ _ (int-correct b n₁ (fits-up l₁ f) (k .1)) λ y n₂ l₂ by.
-      correct-means (equal-correct 16 x y n₂ (omega (arith, f .known)) (word-up l₂ bx) by) λ ρ r one e ey ex. e ∙ ap₂ eqb ex ey
-  bool-correct (less a b) n f k =
-      correct-bind _ _ (int-correct a n f (k .0)) λ x n₁ l₁ bx.
-      correct-bind _ _ (int-correct b n₁ (fits-up l₁ f) (k .1)) λ y n₂ l₂ by.
-      correct-means (less-correct 15 x y n₂ (omega (arith, f .known)) (word-up l₂ bx) by) λ ρ r one e ey ex.
-      e ∙ below-is (number ρ x) (number ρ y) ∙ ap₂ below ex ey
+pub record MarkedMeans {A : Type 0} (R : A → Type 0) (ρ : Assignment) (soFar : Literal) (marks passes : Bool) (r : WithMark A) : Type 0 where
+  pub result : R (r .result)
+  pub mark : literalTrue ρ (r .mark) ≡ literalTrue ρ soFar || (marks && passes)
+
+mark-none : (m k : Bool) → m ≡ m || (k && false)
+mark-none true k = refl
+mark-none false true = refl
+mark-none false false = refl
+
+mark-two : (m k a b : Bool) → (m || (k && a)) || (k && b) ≡ m || (k && (a || b))
+mark-two true k a b = refl
+mark-two false true a b = refl
+mark-two false false a b = refl
+
+-- the mark behind two expressions, and behind an operation on one or two
+one-mark : {A : Type 0} {R : A → Type 0} {ρ : Assignment} {m : Literal} {marks a : Bool} {x : WithMark A} → MarkedMeans R ρ m marks a x
+    → (t : Literal) (o : Bool) → literalTrue ρ t ≡ literalTrue ρ (x .mark) || (marks && o) → literalTrue ρ t ≡ literalTrue ρ m || (marks && (a || o))
+one-mark {ρ = ρ} {m = m} {marks = marks} {a = a} ex t o et = et ∙ ap (λ b. b || (marks && o)) (ex .mark) ∙ mark-two (literalTrue ρ m) marks a o
+
+two-marks : {A B : Type 0} {R : A → Type 0} {Q : B → Type 0} {ρ : Assignment} {m : Literal} {marks a b : Bool} {x : WithMark A} {y : WithMark B}
+    → MarkedMeans R ρ m marks a x → MarkedMeans Q ρ (x .mark) marks b y → literalTrue ρ (y .mark) ≡ literalTrue ρ m || (marks && (a || b))
+two-marks {b = b} {y = y} ex ey = one-mark ex (y .mark) b (ey .mark)
+
+operation-mark : {A B : Type 0} {R : A → Type 0} {Q : B → Type 0} {ρ : Assignment} {m : Literal} {marks a b : Bool} {x : WithMark A} {y : WithMark B}
+    → MarkedMeans R ρ m marks a x → MarkedMeans Q ρ (x .mark) marks b y
+    → (t : Literal) (o : Bool) → literalTrue ρ t ≡ literalTrue ρ (y .mark) || (marks && o) → literalTrue ρ t ≡ literalTrue ρ m || (marks && ((a || b) || o))
+operation-mark {ρ = ρ} {m = m} {marks = marks} {a = a} {b = b} ex ey t o et =
+    et ∙ ap (λ c. c || (marks && o)) (two-marks ex ey) ∙ mark-two (literalTrue ρ m) marks (a || b) o
+
+mark-correct : (marks : Bool) (m : Literal) (test : Build Literal) (passes : Assignment → Bool) (n : ℕ) → LiteralBelow n m
+    → Correct n (test n) LiteralBelow (λ ρ x. literalTrue ρ x ≡ passes ρ)
+    → Correct n (mark! marks m test n) LiteralBelow (λ ρ x. literalTrue ρ x ≡ literalTrue ρ m || (marks && passes ρ))
+unfolding mark!
+mark-correct false m test passes n b c = correct-give _ b λ ρ one. mark-none (literalTrue ρ m) false
+mark-correct true m test passes n b c =
+    correct-bind _ _ c λ x k l bx.
+    correct-means (or-correct m x k (omega arith) bx) λ ρ r one e ex. e ∙ ap (λ t. literalTrue ρ m || t) ex
+
+-- the last two carries of a sum or difference
+sumPasses-correct : (r : Summed) (n : ℕ) → LiteralBelow n (r .earlier) → LiteralBelow n (r .carry)
+    → Correct n (sumPasses! r n) LiteralBelow (λ ρ x. literalTrue ρ x ≡ differ (literalTrue ρ (r .earlier)) (literalTrue ρ (r .carry)))
+unfolding sumPasses!
+sumPasses-correct r n p q = xor-correct (r .earlier) (r .carry) n p q
+
+number-small : {n : ℕ} (xs : Bits) (ρ : Assignment) → Word 16 n xs → number ρ xs < 65536
+number-small xs ρ x = rw (x .wide) at (number-lt ρ xs)
+
+-- the operand against the least and the largest
+pub productPasses-correct : (c : ℕ) (xs : Bits) (n : ℕ) → 1 < n → Word 16 n xs
+    → Correct n (productPasses! c xs n) LiteralBelow (λ ρ x. literalTrue ρ x ≡ outside (signed c *ℤ signed (number ρ xs)))
+unfolding productPasses!
+productPasses-correct c xs n h bx =
+    let l = wrap (leastOperand (signed c)) in
+    let g = wrap (largestOperand (signed c)) in
+    correct-bind _ _ (less-correct 15 xs (constantBits 16 l) n h bx (constant-word n 16 l h)) λ a n₁ l₁ ba.
+    let h₁ : 1 < n₁ = omega arith in
+    correct-bind _ _ (less-correct 15 (constantBits 16 g) xs n₁ h₁ (constant-word n₁ 16 g h₁) (word-up l₁ bx)) λ b n₂ l₂ bb.
+    correct-means (or-correct a b n₂ (omega arith) bb) λ ρ r one e eb ea.
+    let el : number ρ (constantBits 16 l) ≡ l = number-constant ρ one 16 l (wrap-small (leastOperand (signed c))) in
+    let eg : number ρ (constantBits 16 g) ≡ g = number-constant ρ one 16 g (wrap-small (largestOperand (signed c))) in
+    e
+    ∙ ap₂ _||_ (ea ∙ below-is (number ρ xs) (number ρ (constantBits 16 l)) ∙ ap (below (number ρ xs)) el)
+    (eb ∙ below-is (number ρ (constantBits 16 g)) (number ρ xs) ∙ ap (λ y. below y (number ρ xs)) eg)
+    ∙ pattern-outside c (number ρ xs) (number-small xs ρ bx)
+
+module _ (ws : List ℕ) (l : Layout) (s : Slots) (marks : Bool) where
+  abbrev pub IntMeans : Literal → IntExpr → Assignment → WithMark Bits → Type 0
+  IntMeans m e ρ r = MarkedMeans (λ xs. number ρ xs ≡ evalInt l (stateOf ρ s) e) ρ m marks (passesInt l (stateOf ρ s) e) r
+
+  pub int-correct : (e : IntExpr) (m : Literal) (n : ℕ) → Fits ws n s → LiteralBelow n m → IntOk ws l e
+      → Correct n (int! marks l s m e n) (MarkedShape (Word 16)) (IntMeans m e)
+  unfolding int! evalInt passesInt
+  int-correct (constant c) m n f b k =
+      correct-give _ (record { result = constant-word n 16 c (f .known); mark = b }) λ ρ one.
+      record { result = number-constant ρ one 16 c k; mark = mark-none (literalTrue ρ m) marks }
+  int-correct (variable v) m n f b k =
+      correct-give _ (record { result = integer-word v f; mark = b }) λ ρ one.
+      record { result = integer-value ws n s v f ρ one; mark = mark-none (literalTrue ρ m) marks }
+  int-correct (status q) m n f b k =
+      correct-give _ (record { result = integer-word (statusSlot l q) f; mark = b }) λ ρ one.
+      record { result = integer-value ws n s (statusSlot l q) f ρ one; mark = mark-none (literalTrue ρ m) marks }
+  int-correct (sum a b) m n f bm k =
+      correct-bind _ _ (int-correct a m n f bm (k .0)) λ x n₁ l₁ bx.
+      correct-bind _ _ (int-correct b (x .mark) n₁ (fits-up l₁ f) (bx .mark) (k .1)) λ y n₂ l₂ by.
+      correct-bind _ _ (sum-ends 15 (x .result) (y .result) n₂ (omega (arith, f .known)) (word-up l₂ (bx .result)) (by .result)) λ r n₃ l₃ br.
+      correct-bind _ _ (mark-correct marks (y .mark) (sumPasses! r) _ n₃ (omega (arith, by .mark)) (sumPasses-correct r n₃ (br .earlier) (br .carry))) λ t n₄ l₄ bt.
+      correct-give _ (record { result = word-up l₄ (br .bits); mark = bt }) λ ρ one et er ey ex.
+      let X = number ρ (x .result) in
+      let Y = number ρ (y .result) in
+      record {
+        result = er .wraps ∙ plus-is X Y ∙ ap₂ plus (ex .result) (ey .result);
+        mark = operation-mark ex ey t _ (et ∙ ap (λ o. literalTrue ρ (y .mark) || (marks && o)) (er .passes
+            ∙ sum-outside X Y (number-small (x .result) ρ (bx .result)) (number-small (y .result) ρ (by .result))
+            ∙ ap₂ (λ u v. outside (signed u +ℤ signed v)) (ex .result) (ey .result)));
+      }
+  int-correct (difference a b) m n f bm k =
+      correct-bind _ _ (int-correct a m n f bm (k .0)) λ x n₁ l₁ bx.
+      correct-bind _ _ (int-correct b (x .mark) n₁ (fits-up l₁ f) (bx .mark) (k .1)) λ y n₂ l₂ by.
+      correct-bind _ _ (difference-ends 15 (x .result) (y .result) n₂ (omega (arith, f .known)) (word-up l₂ (bx .result)) (by .result)) λ r n₃ l₃ br.
+      correct-bind _ _ (mark-correct marks (y .mark) (sumPasses! r) _ n₃ (omega (arith, by .mark)) (sumPasses-correct r n₃ (br .earlier) (br .carry))) λ t n₄ l₄ bt.
+      correct-give _ (record { result = word-up l₄ (br .bits); mark = bt }) λ ρ one et er ey ex.
+      let X = number ρ (x .result) in
+      let Y = number ρ (y .result) in
+      record {
+        result = er .wraps ∙ minus-is X Y ∙ ap₂ minus (ex .result) (ey .result);
+        mark = operation-mark ex ey t _ (et ∙ ap (λ o. literalTrue ρ (y .mark) || (marks && o)) (er .passes
+            ∙ difference-outside X Y (number-small (x .result) ρ (bx .result)) (number-small (y .result) ρ (by .result))
+            ∙ ap₂ (λ u v. outside (signed u -ℤ signed v)) (ex .result) (ey .result)));
+      }
+  int-correct (product c a) m n f bm k =
+      correct-bind _ _ (int-correct a m n f bm (k .1)) λ x n₁ l₁ bx.
+      let h : 1 < n₁ = omega (arith, f .known) in
+      correct-bind _ _ (product-correct 16 16 c (x .result) (constantBits 16 0) n₁ h (k .0) (bx .result) (constant-word n₁ 16 0 h)) λ r n₂ l₂ br.
+      correct-bind _ _ (mark-correct marks (x .mark) (productPasses! c (x .result)) _ n₂ (omega (arith, bx .mark))
+      (productPasses-correct c (x .result) n₂ (omega arith) (word-up l₂ (bx .result)))) λ t n₃ l₃ bt.
+      correct-give _ (record { result = word-up l₃ br; mark = bt }) λ ρ one et er ex.
+      record {
+        result = er ∙ rw (number-constant ρ one 16 0 (omega arith)) (times-is c (number ρ (x .result))) ∙ ap (times c) (ex .result);
+        mark = one-mark ex t _ (et ∙ ap (λ u. literalTrue ρ (x .mark) || (marks && outside (signed c *ℤ signed u))) (ex .result));
+      }
+
+  abbrev pub BoolMeans : Literal → BoolExpr → Assignment → WithMark Literal → Type 0
+  BoolMeans m e ρ r = MarkedMeans (λ x. literalTrue ρ x ≡ evalBool l (stateOf ρ s) e) ρ m marks (passesBool l (stateOf ρ s) e) r
+
+  pub bool-correct : (e : BoolExpr) (m : Literal) (n : ℕ) → Fits ws n s → LiteralBelow n m → BoolOk ws l e
+      → Correct n (bool! marks l s m e n) (MarkedShape LiteralBelow) (BoolMeans m e)
+  unfolding bool! evalBool passesBool
+  bool-correct (constantB b) m n f bm k =
+      correct-give _ (record { result = literalOf-below n b (f .known); mark = bm }) λ ρ one.
+      record { result = literalOf-true ρ one b; mark = mark-none (literalTrue ρ m) marks }
+  bool-correct (variableB v) m n f bm k =
+      correct-give _ (record { result = boolean-below v f; mark = bm }) λ ρ one.
+      record { result = boolean-value ws n s v f k ρ; mark = mark-none (literalTrue ρ m) marks }
+  bool-correct (notB a) m n f bm k =
+      correct-bind _ _ (bool-correct a m n f bm k) λ x n₁ l₁ bx.
+      correct-give _ (record { result = negate-below n₁ (x .result) (bx .result); mark = bx .mark }) λ ρ one ex.
+      record { result = negate-true ρ (x .result) ∙ ap not (ex .result); mark = ex .mark }
+  bool-correct (andB a b) m n f bm k =
+      correct-bind _ _ (bool-correct a m n f bm (k .0)) λ x n₁ l₁ bx.
+      correct-bind _ _ (bool-correct b (x .mark) n₁ (fits-up l₁ f) (bx .mark) (k .1)) λ y n₂ l₂ by.
+      correct-bind _ _ (and-correct (x .result) (y .result) n₂ (omega (arith, bx .result)) (by .result)) λ r n₃ l₃ br.
+      correct-give _ (record { result = br; mark = omega (arith, by .mark) }) λ ρ one er ey ex.
+      record { result = er ∙ ap₂ _&&_ (ex .result) (ey .result); mark = two-marks ex ey }
+  bool-correct (orB a b) m n f bm k =
+      correct-bind _ _ (bool-correct a m n f bm (k .0)) λ x n₁ l₁ bx.
+      correct-bind _ _ (bool-correct b (x .mark) n₁ (fits-up l₁ f) (bx .mark) (k .1)) λ y n₂ l₂ by.
+      correct-bind _ _ (or-correct (x .result) (y .result) n₂ (omega (arith, bx .result)) (by .result)) λ r n₃ l₃ br.
+      correct-give _ (record { result = br; mark = omega (arith, by .mark) }) λ ρ one er ey ex.
+      record { result = er ∙ ap₂ _||_ (ex .result) (ey .result); mark = two-marks ex ey }
+  bool-correct (equal a b) m n f bm k =
+      correct-bind _ _ (int-correct a m n f bm (k .0)) λ x n₁ l₁ bx.
+      correct-bind _ _ (int-correct b (x .mark) n₁ (fits-up l₁ f) (bx .mark) (k .1)) λ y n₂ l₂ by.
+      correct-bind _ _ (equal-correct 16 (x .result) (y .result) n₂ (omega (arith, f .known)) (word-up l₂ (bx .result)) (by .result)) λ r n₃ l₃ br.
+      correct-give _ (record { result = br; mark = omega (arith, by .mark) }) λ ρ one er ey ex.
+      record { result = er ∙ ap₂ eqb (ex .result) (ey .result); mark = two-marks ex ey }
+  bool-correct (less a b) m n f bm k =
+      correct-bind _ _ (int-correct a m n f bm (k .0)) λ x n₁ l₁ bx.
+      correct-bind _ _ (int-correct b (x .mark) n₁ (fits-up l₁ f) (bx .mark) (k .1)) λ y n₂ l₂ by.
+      correct-bind _ _ (less-correct 15 (x .result) (y .result) n₂ (omega (arith, f .known)) (word-up l₂ (bx .result)) (by .result)) λ r n₃ l₃ br.
+      correct-give _ (record { result = br; mark = omega (arith, by .mark) }) λ ρ one er ey ex.
+      record {
+        result = er ∙ below-is (number ρ (x .result)) (number ρ (y .result)) ∙ ap₂ below (ex .result) (ey .result);
+        mark = two-marks ex ey;
+      }
+
+-- an expression that marks nothing
+pub test-correct : (ws : List ℕ) (l : Layout) (s : Slots) (e : BoolExpr) (n : ℕ) → Fits ws n s → BoolOk ws l e
+    → Correct n (test! l s e n) LiteralBelow (λ ρ r. literalTrue ρ r ≡ evalBool l (stateOf ρ s) e)
+unfolding test!
+test-correct ws l s e n f k =
+    correct-bind _ _ (bool-correct ws l s false e falseLiteral n f (omega (arith, f .known)) k) λ x n₁ l₁ bx.
+    correct-give _ (bx .result) λ ρ one ex. ex .result

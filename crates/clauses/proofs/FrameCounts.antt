@@ -91,13 +91,13 @@ module _ (file : List ℕ) (d : Design) (w : Parts file d) (bits : ℕ) (b : bit
   step-wides p =
       omega (arith, movers-wides (S d) (map cell (d .cells)) (externals 0 (d .variables)), ap (λ (x : Cost). x .wides) cells-are, ap (λ (x : Cost). x .wides) raises-are, raises-wides bits raised)
 
-  pub property-cells : (piece : List ℕ) (p : ℕ) → p ≡ 1 → propertyCost d (propertyOf file piece d p) ≡ entriesCost bits true (w .entries)
+  pub property-cells : (piece : List ℕ) (p : ℕ) → p ≡ 1 → propertyCost d (propertyOf file piece d p) ≡ addCosts (entriesCost bits true (w .entries)) (cost 1 0)
   unfolding propertyCost propertyOf
   property-cells piece zero z = absurd (omega arith)
-  property-cells piece (suc zero) z = ap invalidCost (w .invalid) ∙ sym (entries-invalid bits (w .entries))
+  property-cells piece (suc zero) z = ap (λ (c : Cost). addCosts c (cost 1 0)) (ap invalidCost (w .invalid) ∙ sym (entries-invalid bits (w .entries)))
   property-cells piece (suc (suc p)) z = absurd (omega arith)
 
-  pub property-expression : (piece : List ℕ) (p : ℕ) → p ≡ 0 → propertyCost d (propertyOf file piece d p) ≡ boolCost (expressionOf file piece d)
+  pub property-expression : (piece : List ℕ) (p : ℕ) → p ≡ 0 → propertyCost d (propertyOf file piece d p) ≡ addCosts (boolCost false (expressionOf file piece d)) (cost 1 0)
   unfolding propertyCost propertyOf
   property-expression piece zero z = refl
   property-expression piece (suc p) z = absurd (omega arith)
@@ -123,7 +123,7 @@ module _ (file piece : List ℕ) (d : Design) where
   step-property-none (suc zero) h = refl
   step-property-none (suc (suc p)) h = absurd (omega arith)
 
-  pub step-property-cost : (p : ℕ) → 2 ≤ p → stepPropertyCost (propertyOf file piece d p) ≡ boolCost (d .constraint)
+  pub step-property-cost : (p : ℕ) → 2 ≤ p → stepPropertyCost (propertyOf file piece d p) ≡ addCosts (boolCost false (d .constraint)) (cost 1 0)
   unfolding stepPropertyCost propertyOf
   step-property-cost zero h = absurd (omega arith)
   step-property-cost (suc zero) h = absurd (omega arith)

@@ -16,8 +16,8 @@ use Rattle.design.specs.Expression.{Names, intExpr, boolExpr}
 use Rattle.step.specs.Accepted.{isRead, past}
 use Rattle.step.proofs.Accepted.{two, three}
 use Rattle.step.proofs.Values.{arithmeticOf, logicOf, compareOf, integerByte, statusByte, booleanByte, int-forward, bool-forward, i-two, i-product, product-first, b-one, b-logic, b-compare, int-constant, int-variable, int-status, bool-constant, bool-variable, int-second, logic-second, compare-second}
-use Rattle.clauses.specs.Cost.{Cost, cost, addCosts, intCost, boolCost}
-use Rattle.clauses.specs.FrameSizes.{noGates, gatesAt, both}
+use Rattle.clauses.specs.Cost.{Cost, cost, addCosts, sumCost, productCost, equalCost, sumMarkCost, productMarkCost, intCost, boolCost}
+use Rattle.clauses.specs.FrameSizes.{gatesAt, both, more, bothWith, moreWith}
 use Rattle.clauses.specs.declared.cost.GatesAt.{GatesAt}
 
 abbrev pub gates : ℕ → ℕ → ℕ → GatesAt
@@ -39,12 +39,9 @@ module _ {A C : Type 0} (f : A → C) (cA : A → Cost) (cC : C → Cost) (law :
 
 -- one operand, and so many gates more
 module _ {A C : Type 0} (f : A → C) (cA : A → Cost) (cC : C → Cost) (u v : ℕ) (law : (a : A) → cC (f a) ≡ addCosts (cA a) (cost u v)) where
-  pub more-gates : (x : Read A) → isRead (bind x (λ a n. got (f a) n)) ≡ true → (m : ℕ) (r s : GatesAt) → r ≡ noGates m → s ≡ gatesAt cA x → both r s u v ≡ gatesAt cC (bind x (λ a n. got (f a) n))
-  more-gates (got a n) h m r s e k =
-      let p : 0 + cA a .ands + u ≡ cA a .ands + u = omega arith in
-      let q : 0 + cA a .wides + v ≡ cA a .wides + v = omega arith in
-      ap₂ (λ (y z : GatesAt). both y z u v) e k ∙ ap₂ (λ (x y : ℕ). gates x y n) p q ∙ ap (λ (c : Cost). gates (c .ands) (c .wides) n) (sym (law a))
-  more-gates bad h m r s e k = absurd (false≢true h)
+  pub more-gates : (x : Read A) → isRead (bind x (λ a n. got (f a) n)) ≡ true → (r : GatesAt) → r ≡ gatesAt cA x → more r u v ≡ gatesAt cC (bind x (λ a n. got (f a) n))
+  more-gates (got a n) h r e = ap (λ (y : GatesAt). more y u v) e ∙ ap (λ (c : Cost). gates (c .ands) (c .wides) n) (sym (law a))
+  more-gates bad h r e = absurd (false≢true h)
 
 -- two operands, and so many gates more
 module _ {A B C : Type 0} (f : A → B → C) (cA : A → Cost) (cB : B → Cost) (cC : C → Cost) (u v : ℕ) (law : (a : A) (b : B) → cC (f a b) ≡ addCosts (addCosts (cA a) (cB b)) (cost u v)) where
@@ -87,25 +84,27 @@ module _ {A B C : Type 0} (f : A → B → B → C) (cA : A → Cost) (cB : B �
       let w′ : t ≡ gatesAt cB (q (gatesAt cB (q (gatesAt cA x .next)) .next)) = w ∙ ap (λ (y : GatesAt). gatesAt cB (q (y .next))) k′ in
       ap₂ (λ (y z : GatesAt). both y z u v) (ap₂ (λ (y z : GatesAt). both y z 0 0) e k′) w′ ∙ join-all x q h
 
--- the costs of the operators
-arithmetic-cost : (t : Bool) (a b : IntExpr) → intCost (cond t sum difference a b) ≡ addCosts (addCosts (intCost a) (intCost b)) (cost 48 32)
-unfolding intCost
-arithmetic-cost true a b = refl
-arithmetic-cost false a b = refl
+-- the costs of the operators; `marks` says whether the expression marks
+module _ (marks : Bool) where
+  arithmetic-cost : (t : Bool) (a b : IntExpr) → intCost marks (cond t sum difference a b) ≡ addCosts (addCosts (intCost marks a) (intCost marks b)) (addCosts sumCost (sumMarkCost marks))
+  unfolding intCost
+  arithmetic-cost true a b = refl
+  arithmetic-cost false a b = refl
 
-product-cost : (c : ℕ) (a : IntExpr) → intCost (product c a) ≡ addCosts (intCost a) (cost 768 512)
-unfolding intCost
-product-cost c a = refl
+  product-cost : (c : ℕ) (a : IntExpr) → intCost marks (product c a) ≡ addCosts (intCost marks a) (addCosts productCost (productMarkCost marks))
+  unfolding intCost
+  product-cost c a = refl
 
-logic-cost : (t : Bool) (a b : BoolExpr) → boolCost (cond t andB orB a b) ≡ addCosts (addCosts (boolCost a) (boolCost b)) (cost 1 0)
-unfolding boolCost
-logic-cost true a b = refl
-logic-cost false a b = refl
+  logic-cost : (t : Bool) (a b : BoolExpr) → boolCost marks (cond t andB orB a b) ≡ addCosts (addCosts (boolCost marks a) (boolCost marks b)) (cost 1 0)
+  unfolding boolCost
+  logic-cost true a b = refl
+  logic-cost false a b = refl
 
-compare-cost : (t : Bool) (u v : ℕ) → cost u v ≡ cond t (cost 16 16) (cost 48 32) → (a b : IntExpr) → boolCost (cond t equal less a b) ≡ addCosts (addCosts (intCost a) (intCost b)) (cost u v)
-unfolding boolCost
-compare-cost true u v e a b = ap (addCosts (addCosts (intCost a) (intCost b))) (sym e)
-compare-cost false u v e a b = ap (addCosts (addCosts (intCost a) (intCost b))) (sym e)
+  compare-cost : (t : Bool) (u v : ℕ) → cost u v ≡ cond t equalCost sumCost → (a b : IntExpr)
+      → boolCost marks (cond t equal less a b) ≡ addCosts (addCosts (intCost marks a) (intCost marks b)) (cost u v)
+  unfolding boolCost
+  compare-cost true u v e a b = ap (addCosts (addCosts (intCost marks a) (intCost marks b))) (sym e)
+  compare-cost false u v e a b = ap (addCosts (addCosts (intCost marks a) (intCost marks b))) (sym e)
 
 one-of-two : (b k : ℕ) → k ≤ b → b < k + 2 → (b ≡ k) ⊎ (b ≡ k + 1)
 one-of-two b k p q = ⊎-elim (λ e. inl (sym e)) (λ l. inr (omega arith)) (eq-or-lt-of-le p)
@@ -124,31 +123,31 @@ module _ (text : List ℕ) (N : Names) (end d at : ℕ) where
   abbrev op : ℕ
   op = getD text at 0
 
-  -- a leaf that ends at n
+  -- a leaf that ends at n; it has no gates, whether the expression marks or not
   abbrev IntLeaf : ℕ → Type 0
-  IntLeaf n = (n ≤ end) × (gates 0 0 n ≡ gatesAt intCost (I d at))
+  IntLeaf n = (n ≤ end) × ((marks : Bool) → gates 0 0 n ≡ gatesAt (intCost marks) (I d at))
 
   abbrev BoolLeaf : ℕ → Type 0
-  BoolLeaf n = (n ≤ end) × (gates 0 0 n ≡ gatesAt boolCost (B d at))
+  BoolLeaf n = (n ≤ end) × ((marks : Bool) → gates 0 0 n ≡ gatesAt (boolCost marks) (B d at))
 
   module _ (h : isRead (I d at) ≡ true) where
-    pub int-next : (r : GatesAt) → r ≡ gatesAt intCost (I d at) → at ≤ r .next
-    int-next r e = int-forward text N end d at (r .next) h (gates-past intCost (I d at) r e)
+    pub int-next : (marks : Bool) (r : GatesAt) → r ≡ gatesAt (intCost marks) (I d at) → at ≤ r .next
+    int-next marks r e = int-forward text N end d at (r .next) h (gates-past (intCost marks) (I d at) r e)
 
     pub int-number : op ≡ 0x01 → IntLeaf (at + 3)
     unfolding intCost
-    int-number e = let k = int-constant text N end d at h e in (omega (arith, k .0), no-gates intCost (I d at) _ _ (at + 3) (k .1) refl (omega arith))
+    int-number e = let k = int-constant text N end d at h e in (omega (arith, k .0), λ marks. no-gates (intCost marks) (I d at) _ _ (at + 3) (k .1) refl (omega arith))
 
     -- an integer or a status, of the state or of the next one
     pub int-name : (next : Bool) → integerByte next ≤ op → op < integerByte next + 2 → IntLeaf (at + 2)
     unfolding intCost
     int-name next p q =
         ⊎-elim
-        (λ e. let k = int-variable text N end d at h next e in (omega (arith, k .0), no-gates intCost (I d at) _ _ (at + 2) (k .2) refl (omega arith)))
-        (λ e. let k = int-status text N end d at h next (e ∙ status-byte next) in (omega (arith, k .0), no-gates intCost (I d at) _ _ (at + 2) (k .2) refl (omega arith)))
+        (λ e. let k = int-variable text N end d at h next e in (omega (arith, k .0), λ marks. no-gates (intCost marks) (I d at) _ _ (at + 2) (k .2) refl (omega arith)))
+        (λ e. let k = int-status text N end d at h next (e ∙ status-byte next) in (omega (arith, k .0), λ marks. no-gates (intCost marks) (I d at) _ _ (at + 2) (k .2) refl (omega arith)))
         (one-of-two op (integerByte next) p q)
 
-    -- a product: its operand, and the gates of sixteen sums more
+    -- a product: its operand, and its own gates
     module _ (e : op ≡ 0x08) where
       pub product-inside : at + 3 ≤ end
       product-inside = omega (arith, i-product text N end d at h e .0)
@@ -159,60 +158,60 @@ module _ (text : List ℕ) (N : Names) (end d at : ℕ) where
       pub product-operand : isRead (I (d - 1) (at + 3)) ≡ true
       product-operand = ap (λ (j : ℕ). isRead (I (d - 1) j)) (sym behind) ∙ product-first text N end d at h e
 
-      pub product-joined : (m : ℕ) (r s : GatesAt) → r ≡ noGates m → s ≡ gatesAt intCost (I (d - 1) (at + 3)) → both r s 768 512 ≡ gatesAt intCost (I d at)
-      product-joined m r s k l =
+      pub product-joined : (marks : Bool) (r : GatesAt) → r ≡ gatesAt (intCost marks) (I (d - 1) (at + 3)) → moreWith r (addCosts productCost (productMarkCost marks)) ≡ gatesAt (intCost marks) (I d at)
+      product-joined marks r l =
           let q = i-product text N end d at h e .1 in
-          let p : s ≡ gatesAt intCost (I (d - 1) (at + 1 + 2)) = l ∙ ap (λ (j : ℕ). gatesAt intCost (I (d - 1) j)) (sym behind) in
-          more-gates (product (at16 text (at + 1))) intCost intCost 768 512 (product-cost (at16 text (at + 1))) (I (d - 1) (at + 1 + 2)) (sym (ap isRead q) ∙ h) m r s k p ∙ sym (ap (gatesAt intCost) q)
+          let p : r ≡ gatesAt (intCost marks) (I (d - 1) (at + 1 + 2)) = l ∙ ap (λ (j : ℕ). gatesAt (intCost marks) (I (d - 1) j)) (sym behind) in
+          more-gates (product (at16 text (at + 1))) (intCost marks) (intCost marks) _ _ (product-cost marks (at16 text (at + 1))) (I (d - 1) (at + 1 + 2)) (sym (ap isRead q) ∙ h) r p ∙ sym (ap (gatesAt (intCost marks)) q)
 
-    pub int-then : (lo : 0x04 ≤ op) (hi : op < 0x06) (r : GatesAt) → r ≡ gatesAt intCost (I (d - 1) (at + 1)) → isRead (I (d - 1) (r .next)) ≡ true
-    int-then lo hi r e = int-second text N end d at h lo hi (r .next) (gates-past intCost (I (d - 1) (at + 1)) r e)
+    pub int-then : (marks : Bool) (lo : 0x04 ≤ op) (hi : op < 0x06) (r : GatesAt) → r ≡ gatesAt (intCost marks) (I (d - 1) (at + 1)) → isRead (I (d - 1) (r .next)) ≡ true
+    int-then marks lo hi r e = int-second text N end d at h lo hi (r .next) (gates-past (intCost marks) (I (d - 1) (at + 1)) r e)
 
-    pub int-joined : (lo : 0x04 ≤ op) (hi : op < 0x06) (r s : GatesAt) → r ≡ gatesAt intCost (I (d - 1) (at + 1)) → s ≡ gatesAt intCost (I (d - 1) (r .next)) → both r s 48 32 ≡ gatesAt intCost (I d at)
-    int-joined lo hi r s e k =
+    pub int-joined : (marks : Bool) (lo : 0x04 ≤ op) (hi : op < 0x06) (r s : GatesAt) → r ≡ gatesAt (intCost marks) (I (d - 1) (at + 1)) → s ≡ gatesAt (intCost marks) (I (d - 1) (r .next)) → bothWith r s (addCosts sumCost (sumMarkCost marks)) ≡ gatesAt (intCost marks) (I d at)
+    int-joined marks lo hi r s e k =
         let q = i-two text N end d at h lo hi in
-        two-gates (arithmeticOf op) intCost intCost intCost 48 32 (arithmetic-cost (eqb op 0x04)) (I (d - 1) (at + 1)) (I (d - 1)) (sym (ap isRead q) ∙ h) r s e k ∙ sym (ap (gatesAt intCost) q)
+        two-gates (arithmeticOf op) (intCost marks) (intCost marks) (intCost marks) _ _ (arithmetic-cost marks (eqb op 0x04)) (I (d - 1) (at + 1)) (I (d - 1)) (sym (ap isRead q) ∙ h) r s e k ∙ sym (ap (gatesAt (intCost marks)) q)
 
   module _ (h : isRead (B d at) ≡ true) where
-    pub bool-next : (r : GatesAt) → r ≡ gatesAt boolCost (B d at) → at ≤ r .next
-    bool-next r e = bool-forward text N end d at (r .next) h (gates-past boolCost (B d at) r e)
+    pub bool-next : (marks : Bool) (r : GatesAt) → r ≡ gatesAt (boolCost marks) (B d at) → at ≤ r .next
+    bool-next marks r e = bool-forward text N end d at (r .next) h (gates-past (boolCost marks) (B d at) r e)
 
     -- a Boolean, of the state or of the next one
     pub bool-slot : (next : Bool) → op ≡ booleanByte next → BoolLeaf (at + 2)
     unfolding boolCost
-    bool-slot next e = let k = bool-variable text N end d at h next e in (omega (arith, k .0), no-gates boolCost (B d at) _ _ (at + 2) (k .2) refl (omega arith))
+    bool-slot next e = let k = bool-variable text N end d at h next e in (omega (arith, k .0), λ marks. no-gates (boolCost marks) (B d at) _ _ (at + 2) (k .2) refl (omega arith))
 
     pub bool-name : 0x10 ≤ op → op < 0x12 → BoolLeaf (at + 2)
     unfolding boolCost
     bool-name p q =
         ⊎-elim
-        (λ e. let k = bool-constant text N end d at h e in (omega (arith, k .0), no-gates boolCost (B d at) _ _ (at + 2) (k .1) refl (omega arith)))
+        (λ e. let k = bool-constant text N end d at h e in (omega (arith, k .0), λ marks. no-gates (boolCost marks) (B d at) _ _ (at + 2) (k .1) refl (omega arith)))
         (bool-slot false)
         (one-of-two op 0x10 p q)
 
-    pub bool-negated : op ≡ 0x12 → (r : GatesAt) → r ≡ gatesAt boolCost (B (d - 1) (at + 1)) → r ≡ gatesAt boolCost (B d at)
+    pub bool-negated : (marks : Bool) → op ≡ 0x12 → (r : GatesAt) → r ≡ gatesAt (boolCost marks) (B (d - 1) (at + 1)) → r ≡ gatesAt (boolCost marks) (B d at)
     unfolding boolCost
-    bool-negated e r k = k ∙ one-gates notB boolCost boolCost (λ a. refl) (B (d - 1) (at + 1)) ∙ sym (ap (gatesAt boolCost) (b-one text N end d at h e))
+    bool-negated marks e r k = k ∙ one-gates notB (boolCost marks) (boolCost marks) (λ a. refl) (B (d - 1) (at + 1)) ∙ sym (ap (gatesAt (boolCost marks)) (b-one text N end d at h e))
 
-    pub bool-then : (lo : 0x13 ≤ op) (hi : op < 0x15) (r : GatesAt) → r ≡ gatesAt boolCost (B (d - 1) (at + 1)) → isRead (B (d - 1) (r .next)) ≡ true
-    bool-then lo hi r e = logic-second text N end d at h lo hi (r .next) (gates-past boolCost (B (d - 1) (at + 1)) r e)
+    pub bool-then : (marks : Bool) (lo : 0x13 ≤ op) (hi : op < 0x15) (r : GatesAt) → r ≡ gatesAt (boolCost marks) (B (d - 1) (at + 1)) → isRead (B (d - 1) (r .next)) ≡ true
+    bool-then marks lo hi r e = logic-second text N end d at h lo hi (r .next) (gates-past (boolCost marks) (B (d - 1) (at + 1)) r e)
 
-    pub bool-joined : (lo : 0x13 ≤ op) (hi : op < 0x15) (r s : GatesAt) → r ≡ gatesAt boolCost (B (d - 1) (at + 1)) → s ≡ gatesAt boolCost (B (d - 1) (r .next)) → both r s 1 0 ≡ gatesAt boolCost (B d at)
-    bool-joined lo hi r s e k =
+    pub bool-joined : (marks : Bool) (lo : 0x13 ≤ op) (hi : op < 0x15) (r s : GatesAt) → r ≡ gatesAt (boolCost marks) (B (d - 1) (at + 1)) → s ≡ gatesAt (boolCost marks) (B (d - 1) (r .next)) → both r s 1 0 ≡ gatesAt (boolCost marks) (B d at)
+    bool-joined marks lo hi r s e k =
         let q = b-logic text N end d at h lo hi in
-        two-gates (logicOf op) boolCost boolCost boolCost 1 0 (logic-cost (eqb op 0x13)) (B (d - 1) (at + 1)) (B (d - 1)) (sym (ap isRead q) ∙ h) r s e k ∙ sym (ap (gatesAt boolCost) q)
+        two-gates (logicOf op) (boolCost marks) (boolCost marks) (boolCost marks) 1 0 (logic-cost marks (eqb op 0x13)) (B (d - 1) (at + 1)) (B (d - 1)) (sym (ap isRead q) ∙ h) r s e k ∙ sym (ap (gatesAt (boolCost marks)) q)
 
-    pub compare-then : (lo : 0x15 ≤ op) (hi : op < 0x17) (r : GatesAt) → r ≡ gatesAt intCost (I (d - 1) (at + 1)) → isRead (I (d - 1) (r .next)) ≡ true
-    compare-then lo hi r e = compare-second text N end d at h lo hi (r .next) (gates-past intCost (I (d - 1) (at + 1)) r e)
+    pub compare-then : (marks : Bool) (lo : 0x15 ≤ op) (hi : op < 0x17) (r : GatesAt) → r ≡ gatesAt (intCost marks) (I (d - 1) (at + 1)) → isRead (I (d - 1) (r .next)) ≡ true
+    compare-then marks lo hi r e = compare-second text N end d at h lo hi (r .next) (gates-past (intCost marks) (I (d - 1) (at + 1)) r e)
 
-    module _ (lo : 0x15 ≤ op) (hi : op < 0x17) (r s : GatesAt) (e : r ≡ gatesAt intCost (I (d - 1) (at + 1))) (k : s ≡ gatesAt intCost (I (d - 1) (r .next))) where
-      compared : (u v : ℕ) → cost u v ≡ cond (eqb op 0x15) (cost 16 16) (cost 48 32) → both r s u v ≡ gatesAt boolCost (B d at)
+    module _ (marks : Bool) (lo : 0x15 ≤ op) (hi : op < 0x17) (r s : GatesAt) (e : r ≡ gatesAt (intCost marks) (I (d - 1) (at + 1))) (k : s ≡ gatesAt (intCost marks) (I (d - 1) (r .next))) where
+      compared : (u v : ℕ) → cost u v ≡ cond (eqb op 0x15) equalCost sumCost → both r s u v ≡ gatesAt (boolCost marks) (B d at)
       compared u v c =
           let q = b-compare text N end d at h lo hi in
-          two-gates (compareOf op) intCost intCost boolCost u v (compare-cost (eqb op 0x15) u v c) (I (d - 1) (at + 1)) (I (d - 1)) (sym (ap isRead q) ∙ h) r s e k ∙ sym (ap (gatesAt boolCost) q)
+          two-gates (compareOf op) (intCost marks) (intCost marks) (boolCost marks) u v (compare-cost marks (eqb op 0x15) u v c) (I (d - 1) (at + 1)) (I (d - 1)) (sym (ap isRead q) ∙ h) r s e k ∙ sym (ap (gatesAt (boolCost marks)) q)
 
-      pub equal-joined : op ≡ 0x15 → both r s 16 16 ≡ gatesAt boolCost (B d at)
+      pub equal-joined : op ≡ 0x15 → both r s 16 16 ≡ gatesAt (boolCost marks) (B d at)
       equal-joined q = compared 16 16 (rw (eq-eqb op 0x15 q))
 
-      pub less-joined : (op ≡ 0x15 → ⊥) → both r s 48 32 ≡ gatesAt boolCost (B d at)
+      pub less-joined : (op ≡ 0x15 → ⊥) → both r s 48 32 ≡ gatesAt (boolCost marks) (B d at)
       less-joined q = compared 48 32 (rw (ne-eqb op 0x15 q))

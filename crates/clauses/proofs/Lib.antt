@@ -3,6 +3,8 @@
 pub mod Gates
 pub mod Correct
 pub mod Arithmetic
+pub mod Equality
+pub mod Operands
 pub mod Expressions
 pub mod Actions
 -- models and runs match one to one
@@ -30,6 +32,7 @@ pub mod Results
 pub mod DesignA
 pub mod Constrained
 pub mod Multiplied
+pub mod Passing
 -- the code of SIZE
 pub mod TextGates
 pub mod GateCounts
@@ -48,6 +51,7 @@ pub mod EmitBuilds
 pub mod EmitLists
 pub mod EmitCircuits
 -- expressions, statements, cells and movers
+pub mod EmitMarks
 pub mod EmitSlots
 pub mod EmitReads
 pub mod EmitExpressions

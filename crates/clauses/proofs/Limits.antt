@@ -62,8 +62,8 @@ few-taken (constraint e) k = omega arith
 -- what is bounded: the variables, which may still be more than `lastVariable`; the clauses and words of the formula; the words of a part
 pub record Small (d : Design) (p : Property) (k : ℕ) : Type 0 where
   pub variables : n d p k ≤ mostVariables
-  pub formula-clauses : length (formula d p k) < 2 ^ 34
-  pub formula-words : length (words (formula d p k)) < 2 ^ 36
+  pub formula-clauses : length (formula d p k) < 2 ^ 35
+  pub formula-words : length (words (formula d p k)) < 2 ^ 37
   pub part-words : (i : ℕ) → length (words (part d p k i)) < 2 ^ 30
 
 module _ (d : Design) (wf : WellFormed d) (p : Property) (b : Bounded d p) (k : ℕ) (few : k ≤ maxBound) where
@@ -94,14 +94,14 @@ module _ (d : Design) (wf : WellFormed d) (p : Property) (b : Bounded d p) (k : 
   unfolding stepClauseCount
   step-clauses = omega (arith, ties-bound, pair-bound (w d) (b .movers), b .movers)
 
-  words-bound : wordCount d p k < 2 ^ 36
+  words-bound : wordCount d p k < 2 ^ 37
   unfolding wordCount firstWords
   words-bound =
       let x : (1 + k) * wordsIn (propertyCost d p) ≤ (1 + maxBound) * wordsIn (propertyCost d p) = mul-le-mul (let q : 1 + k ≤ 1 + maxBound = omega arith in q) (le-refl (wordsIn (propertyCost d p))) in
       let y : k * stepWordCount d p ≤ maxBound * (16 * gatesIn (stepCost d p) + besideWords) = mul-le-mul few step-words in
       omega (arith, b .gates, b .bits, few-taken p k)
 
-  clauses-bound : clauseCount d p k < 2 ^ 34
+  clauses-bound : clauseCount d p k < 2 ^ 35
   unfolding clauseCount firstClauses
   clauses-bound =
       let x : (1 + k) * clausesIn (propertyCost d p) ≤ (1 + maxBound) * clausesIn (propertyCost d p) = mul-le-mul (let q : 1 + k ≤ 1 + maxBound = omega arith in q) (le-refl (clausesIn (propertyCost d p))) in

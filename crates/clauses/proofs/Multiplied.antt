@@ -1,15 +1,15 @@
 -- The design with products (document 02, R-2), by computation: its numbers, what breaks its invariant, and how many models small bounds have. Each of its two products has
--- 1,280 gates: the invariant's in every frame, the step's in every frame but the last.
+-- 1,280 gates: the invariant's in every frame, the step's in every frame but the last. The step's marks (document 02, R-5) by 162 gates more.
 use mathlib.Core.Path.{_≡_, refl}
 use mathlib.Core.Bool.{true, false}
 use mathlib.Core.List.{[], _∷_}
 use mathlib.Core.Option.{none, some}
 use native.Mathlib.Omega.{arith}
-use lib.ListN.{length}
+use lib.ListN.{length, replicate}
 use Rattle.design.specs.State.{start}
 use Rattle.design.specs.Multiplied.{designMultiplied}
 use Rattle.design.specs.WellFormed.{WellFormed}
-use Rattle.step.specs.Property.{Property, invariant, PropertyOk}
+use Rattle.step.specs.Property.{Property, invariant, noInvalidCell, PropertyOk}
 use Rattle.step.specs.OneStep.{breaksAt, breaks, stepping}
 use Rattle.step.specs.Operations.{firstBreak}
 use Rattle.clauses.specs.Formula.{S, P, w, G, F, n, formula, encoding}
@@ -20,16 +20,26 @@ use Rattle.clauses.proofs.Counting.{breakers, models}
 abbrev invariantMultiplied : Property
 invariantMultiplied = invariant (designMultiplied .invariant)
 
-pub frame-multiplied : (S designMultiplied ≡ 20) × (P designMultiplied invariantMultiplied ≡ 1360) × (w designMultiplied ≡ 1)
-    × (G designMultiplied invariantMultiplied ≡ 1334) × (F designMultiplied invariantMultiplied ≡ 2715)
+pub frame-multiplied : (S designMultiplied ≡ 21) × (P designMultiplied invariantMultiplied ≡ 1361) × (w designMultiplied ≡ 1)
+    × (G designMultiplied invariantMultiplied ≡ 1497) × (F designMultiplied invariantMultiplied ≡ 2880)
 unfolding designMultiplied encoding
 frame-multiplied = (refl, refl, refl, refl, refl)
 
-pub bound-multiplied-0 : (n designMultiplied invariantMultiplied 0 ≡ 1381) × (length (formula designMultiplied invariantMultiplied 0) ≡ 4646)
+-- property 1, of no invalid cell: the and alone
+pub frame-multiplied-1 : (S designMultiplied ≡ 21) × (P designMultiplied noInvalidCell ≡ 1) × (w designMultiplied ≡ 1) × (G designMultiplied noInvalidCell ≡ 1497) × (F designMultiplied noInvalidCell ≡ 1520)
+unfolding designMultiplied encoding
+frame-multiplied-1 = (refl, refl, refl, refl, refl)
+
+-- v is 19,683 after 9 choices, and 3 times that is past the end
+pub broken-multiplied-1 : (breaksAt designMultiplied noInvalidCell (replicate 10 0) 10 ≡ true) × (firstBreak designMultiplied noInvalidCell none (start designMultiplied) (replicate 10 0) 0 ≡ some 10)
+unfolding designMultiplied stepping firstBreak
+broken-multiplied-1 = (refl, refl)
+
+pub bound-multiplied-0 : (n designMultiplied invariantMultiplied 0 ≡ 1383) × (length (formula designMultiplied invariantMultiplied 0) ≡ 4650)
 unfolding designMultiplied encoding
 bound-multiplied-0 = (refl, refl)
 
-pub bound-multiplied-2 : (n designMultiplied invariantMultiplied 2 ≡ 6811) × (length (formula designMultiplied invariantMultiplied 2) ≡ 23076)
+pub bound-multiplied-2 : (n designMultiplied invariantMultiplied 2 ≡ 7143) × (length (formula designMultiplied invariantMultiplied 2) ≡ 24198)
 unfolding designMultiplied encoding
 bound-multiplied-2 = (refl, refl)
 
@@ -47,6 +57,7 @@ well-formed-multiplied : WellFormed designMultiplied
 unfolding designMultiplied encoding stepping
 well-formed-multiplied = record {
   narrow = omega arith;
+  mark = record { inside = omega arith; behind = omega arith; width = refl };
   some-mover = omega arith;
   few-movers = omega arith;
   movers = omega arith;

@@ -6,7 +6,7 @@ use native.Mathlib.Omega.{arith}
 use lib.ListN.{length, getD}
 use Rattle.design.specs.Tree.{Mover}
 use Rattle.design.specs.State.{Layout}
-use Rattle.design.specs.WellFormed.{MoverOk, MoversOk}
+use Rattle.design.specs.WellFormed.{HasMark, MoverOk, MoversOk}
 use Rattle.clauses.specs.Literal.{Literal, positive}
 use Rattle.clauses.specs.Circuit.{Bits, give, _>>=_, mux! }
 use Rattle.clauses.specs.Expression.{Slots}
@@ -45,15 +45,15 @@ resultFrom bits [] c n = n
 resultFrom bits (m ∷ ms) zero n = muxesOf bits m n
 resultFrom bits (m ∷ ms) (suc c) n = resultFrom bits ms c (n + gatesIn (moverCost bits m))
 
-module _ (ws : List ℕ) (l : Layout) (s : Slots) (f : map length s ≡ ws) where
+module _ (ws : List ℕ) (l : Layout) (mark : HasMark ws l) (s : Slots) (f : map length s ≡ ws) where
   pub mover-out : (m : Mover) (n : ℕ) → MoverOk ws l m → flat ((mover! l s m n) .out) ≡ variablesFrom (muxesOf (total ws) m n) (total ws)
   unfolding mover! _>>=_
   mover-out m n k =
       let e = enable! l s m n in
       let r = effect! l s m (e .next) in
-      let c = effect-costs ws l s f m (e .next) k in
+      let c = effect-costs ws l mark s f m (e .next) k in
       muxes-out ws (e .out) (r .out) s (r .next) (c .shape) f
-      ∙ ap (λ v. variablesFrom v (total ws)) (let q : r .next ≡ muxesOf (total ws) m n = omega (arith, c .next, enable-costs ws l s f m n .next) in q)
+      ∙ ap (λ v. variablesFrom v (total ws)) (let q : r .next ≡ muxesOf (total ws) m n = omega (arith, c .next, enable-costs ws l s m n .next) in q)
 
   pub movers-out : (ms : List Mover) (c n : ℕ) → c < length ms → MoversOk ws l ms
       → flat (getD ((movers! l s ms n) .out) c []) ≡ variablesFrom (resultFrom (total ws) ms c n) (total ws)
@@ -62,4 +62,4 @@ module _ (ws : List ℕ) (l : Layout) (s : Slots) (f : map length s ≡ ws) wher
   movers-out (m ∷ ms) zero n h k = mover-out m n (k .0)
   movers-out (m ∷ ms) (suc c) n h k =
       movers-out ms c ((mover! l s m n) .next) (omega arith) (k .1)
-      ∙ ap (λ v. variablesFrom (resultFrom (total ws) ms c v) (total ws)) (mover-costs ws l s f m n (k .0) .next)
+      ∙ ap (λ v. variablesFrom (resultFrom (total ws) ms c v) (total ws)) (mover-costs ws l mark s f m n (k .0) .next)

@@ -143,11 +143,14 @@ few f bad end l h k r e =
     record { ands = omega (arith, ap (λ (z : GatesAt). z .ands) e); wides = omega (arith, ap (λ (z : GatesAt). z .wides) e); next = omega (arith, ap (λ (z : GatesAt). z .next) e) }
 
 module _ (text : List ℕ) (names : Names) (end : ℕ) (l : end ≤ maxBytes) where
-  pub int-few : (d at : ℕ) (r : GatesAt) → r ≡ gatesAt intCost (intExpr text names end d at) → Few r
-  int-few d at r e = few intCost _ end l (record { of = λ a n q. let h = int-bytes text names end d at .of a n q in omega arith }) (int-ends text names end d at) r e
+  module _ (marks : Bool) where
+    pub int-few : (d at : ℕ) (r : GatesAt) → r ≡ gatesAt (intCost marks) (intExpr text names end d at) → Few r
+    int-few d at r e =
+        few (intCost marks) _ end l (record { of = λ a n q. let h = int-bytes text names end marks d at .of a n q in omega arith }) (int-ends text names end d at) r e
 
-  pub bool-few : (d at : ℕ) (r : GatesAt) → r ≡ gatesAt boolCost (boolExpr text names end d at) → Few r
-  bool-few d at r e = few boolCost _ end l (record { of = λ a n q. let h = bool-bytes text names end d at .of a n q in omega arith }) (bool-ends text names end d at) r e
+    pub bool-few : (d at : ℕ) (r : GatesAt) → r ≡ gatesAt (boolCost marks) (boolExpr text names end d at) → Few r
+    bool-few d at r e =
+        few (boolCost marks) _ end l (record { of = λ a n q. let h = bool-bytes text names end marks d at .of a n q in omega arith }) (bool-ends text names end d at) r e
 
   module _ (bits : ℕ) (small : bits ≤ maxBits) where
     pub statement-few : (nest at : ℕ) (r : GatesAt) → r ≡ gatesAt (λ (x : Stmt). statementCost x bits) (statement text names end nest at) → Few r

@@ -1,4 +1,5 @@
 -- The circuits of statements and movers. Each gives the state in literals that it leaves.
+use mathlib.Core.Bool.{true}
 use mathlib.Core.List.{List, [], _∷_}
 use Prim.Native.Nat.{ℕ}
 use lib.ListN.{set}
@@ -6,7 +7,7 @@ use Rattle.design.specs.Tree.{BoolExpr, Stmt, Stmts, assign, assignB, ifElse, d
 use Rattle.design.specs.State.{Layout, statusSlot, statusWidth}
 use Rattle.clauses.specs.Literal.{Literal, negate, trueLiteral}
 use Rattle.clauses.specs.Circuit.{Build, give, _>>=_, and!, mux!, Bits, equal! }
-use Rattle.clauses.specs.Expression.{Slots, constantBits, integerAt, booleanAt, int!, bool! }
+use Rattle.clauses.specs.Expression.{Slots, constantBits, integerAt, booleanAt, int!, bool!, test!, markAt, withMark}
 
 -- a mux for every bit of a slot, and of a state: "S muxes"
 unfoldable pub muxBits! : Literal → Bits → Bits → Build Bits
@@ -25,20 +26,20 @@ muxes! c (a ∷ xs) (b ∷ ys) = do
   rs ← muxes! c xs ys
   give (x ∷ rs)
 
--- "If: condition, then-list, else-list, then S muxes."
+-- "If: condition, then-list, else-list, then S muxes." Statements and conditions mark (document 02, R-5), and both lists of an if start from the mark that the condition left.
 unfoldable mutual
   pub statement! : Stmt → Layout → Slots → Build Slots
   statement! (assign v e) l s = do
-    x ← int! l s e
-    give (set s v x)
+    x ← int! true l s (markAt l s) e
+    give (set (withMark l (x .mark) s) v (x .result))
   statement! (assignB v e) l s = do
-    x ← bool! l s e
-    give (set s v (x ∷ []))
+    x ← bool! true l s (markAt l s) e
+    give (set (withMark l (x .mark) s) v (x .result ∷ []))
   statement! (ifElse c a b) l s = do
-    x ← bool! l s c
-    y ← statements! a l s
-    z ← statements! b l s
-    muxes! x y z
+    x ← bool! true l s (markAt l s) c
+    y ← statements! a l (withMark l (x .mark) s)
+    z ← statements! b l (withMark l (x .mark) s)
+    muxes! (x .result) y z
 
   pub statements! : Stmts → Layout → Slots → Build Slots
   statements! done l s = give s
@@ -50,14 +51,14 @@ unfoldable mutual
 unfoldable pub statusAndEvent! : Layout → Slots → ℕ → ℕ → BoolExpr → Build Literal
 statusAndEvent! l s m st event = do
   x ← equal! (integerAt s (statusSlot l m)) (constantBits 16 st)
-  y ← bool! l s event
+  y ← test! l s event
   and! x y
 
 -- "enable = and(and(equal(status, constant), event), guard), or not(v)"
 unfoldable pub enable! : Layout → Slots → Mover → Build Literal
 enable! l s (cell c) = do
   x ← statusAndEvent! l s (c .matrix) (c .status) (c .event)
-  y ← bool! l s (c .guard)
+  y ← test! l s (c .guard)
   and! x y
 enable! l s (raise v) = give (negate (booleanAt s v))
 

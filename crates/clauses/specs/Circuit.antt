@@ -48,15 +48,21 @@ or! a b = do
 abbrev pub Bits : Type 0
 Bits = List Literal
 
--- the bits of a sum, and its last carry
+-- the bits of a sum, and "its last two carries" (document 02, R-5): the last one and the earlier one, which goes into the last bit
 pub record Summed : Type 0 where
   pub bits : Bits
   pub carry : Literal
+  pub earlier : Literal
+
+-- the carry into the last bit: c, which goes into this bit, where none stands behind it; else e, which the rest of the sum tells
+abbrev pub earlierOf : Literal → Bits → Literal → Literal
+earlierOf c [] e = c
+earlierOf c (x ∷ xs) e = e
 
 -- "Sum, 16 bits from low with carry c: p=xor(a,b), s=xor(p,c), u=and(a,b), t=and(p,c), next carry or(u,t)"
 unfoldable pub sum! : Bits → Bits → Literal → Build Summed
-sum! [] ys c = give (record { bits = []; carry = c })
-sum! (a ∷ xs) [] c = give (record { bits = []; carry = c })
+sum! [] ys c = give (record { bits = []; carry = c; earlier = c })
+sum! (a ∷ xs) [] c = give (record { bits = []; carry = c; earlier = c })
 sum! (a ∷ xs) (b ∷ ys) c = do
   p ← xor! a b
   s ← xor! p c
@@ -64,7 +70,7 @@ sum! (a ∷ xs) (b ∷ ys) c = do
   t ← and! p c
   next ← or! u t
   r ← sum! xs ys next
-  give (record { bits = s ∷ r .bits; carry = r .carry })
+  give (record { bits = s ∷ r .bits; carry = r .carry; earlier = earlierOf c (r .bits) (r .earlier) })
 
 -- "Difference negates b and starts with carry true."
 unfoldable pub difference! : Bits → Bits → Build Summed
@@ -120,3 +126,15 @@ unfoldable pub equal! : Bits → Bits → Build Literal
 equal! a b = do
   xs ← xors! a b
   chain! trueLiteral (map negate xs)
+
+-- What an expression's gates come to: its result, and the mark after them (document 02, R-5).
+pub record WithMark (A : Type 0) : Type 0 where
+  pub result : A
+  pub mark : Literal
+
+-- "then an or of the mark with it", "the or of the mark with that": with whether an operation passes the end, where its expression marks
+unfoldable pub mark! : Bool → Literal → Build Literal → Build Literal
+mark! false m passes = give m
+mark! true m passes = do
+  x ← passes
+  or! m x

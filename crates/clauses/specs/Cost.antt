@@ -1,6 +1,6 @@
 -- How many gates the circuits have, computed from the trees: ands (3 clauses, 10 words) apart from xors and muxes (4 clauses, 16 words).
 -- SIZE is answered by these numbers, and a buffer is tested by them, before anything is written.
-use mathlib.Core.Bool.{cond}
+use mathlib.Core.Bool.{Bool, true, false, cond}
 use mathlib.Core.List.{List, [], _∷_}
 use Prim.Native.Nat.{ℕ, zero, suc, _+_, _*_}
 use lib.Dec.{leb, ltb}
@@ -39,29 +39,40 @@ productCost = cost (16 * 48) (16 * 32)
 abbrev pub equalCost : Cost
 equalCost = cost 16 16
 
-unfoldable pub intCost : IntExpr → Cost
-intCost (constant c) = cost 0 0
-intCost (variable v) = cost 0 0
-intCost (status m) = cost 0 0
-intCost (sum a b) = addCosts (addCosts (intCost a) (intCost b)) sumCost
-intCost (difference a b) = addCosts (addCosts (intCost a) (intCost b)) sumCost
-intCost (product c a) = addCosts (intCost a) productCost
+-- "Such a sum or difference adds, after its gates, an xor .., then an or": where an expression marks (document 02, R-5)
+abbrev pub sumMarkCost : Bool → Cost
+sumMarkCost false = cost 0 0
+sumMarkCost true = cost 1 1
 
-unfoldable pub boolCost : BoolExpr → Cost
-boolCost (constantB b) = cost 0 0
-boolCost (variableB v) = cost 0 0
-boolCost (notB a) = boolCost a
-boolCost (andB a b) = addCosts (addCosts (boolCost a) (boolCost b)) (cost 1 0)
-boolCost (orB a b) = addCosts (addCosts (boolCost a) (boolCost b)) (cost 1 0)
-boolCost (equal a b) = addCosts (addCosts (intCost a) (intCost b)) equalCost
-boolCost (less a b) = addCosts (addCosts (intCost a) (intCost b)) sumCost
+-- "Such a product adds less .., less .., an or of the two and the or of the mark with that"
+abbrev pub productMarkCost : Bool → Cost
+productMarkCost false = cost 0 0
+productMarkCost true = cost (2 * 48 + 2) (2 * 32)
+
+-- `marks` is as in the circuits
+unfoldable pub intCost : Bool → IntExpr → Cost
+intCost marks (constant c) = cost 0 0
+intCost marks (variable v) = cost 0 0
+intCost marks (status m) = cost 0 0
+intCost marks (sum a b) = addCosts (addCosts (intCost marks a) (intCost marks b)) (addCosts sumCost (sumMarkCost marks))
+intCost marks (difference a b) = addCosts (addCosts (intCost marks a) (intCost marks b)) (addCosts sumCost (sumMarkCost marks))
+intCost marks (product c a) = addCosts (intCost marks a) (addCosts productCost (productMarkCost marks))
+
+unfoldable pub boolCost : Bool → BoolExpr → Cost
+boolCost marks (constantB b) = cost 0 0
+boolCost marks (variableB v) = cost 0 0
+boolCost marks (notB a) = boolCost marks a
+boolCost marks (andB a b) = addCosts (addCosts (boolCost marks a) (boolCost marks b)) (cost 1 0)
+boolCost marks (orB a b) = addCosts (addCosts (boolCost marks a) (boolCost marks b)) (cost 1 0)
+boolCost marks (equal a b) = addCosts (addCosts (intCost marks a) (intCost marks b)) equalCost
+boolCost marks (less a b) = addCosts (addCosts (intCost marks a) (intCost marks b)) sumCost
 
 -- `bits` is S
 unfoldable mutual
   pub statementCost : Stmt → ℕ → Cost
-  statementCost (assign v e) bits = intCost e
-  statementCost (assignB v e) bits = boolCost e
-  statementCost (ifElse c a b) bits = addCosts (addCosts (addCosts (boolCost c) (statementsCost a bits)) (statementsCost b bits)) (cost 0 bits)
+  statementCost (assign v e) bits = intCost true e
+  statementCost (assignB v e) bits = boolCost true e
+  statementCost (ifElse c a b) bits = addCosts (addCosts (addCosts (boolCost true c) (statementsCost a bits)) (statementsCost b bits)) (cost 0 bits)
 
   pub statementsCost : Stmts → ℕ → Cost
   statementsCost done bits = cost 0 0
@@ -69,10 +80,10 @@ unfoldable mutual
 
 -- and(equal(status, constant), event)
 abbrev pub statusAndEventCost : BoolExpr → Cost
-statusAndEventCost event = addCosts (addCosts equalCost (boolCost event)) (cost 1 0)
+statusAndEventCost event = addCosts (addCosts equalCost (boolCost false event)) (cost 1 0)
 
 unfoldable pub enableCost : Mover → Cost
-enableCost (cell c) = addCosts (addCosts (statusAndEventCost (c .event)) (boolCost (c .guard))) (cost 1 0)
+enableCost (cell c) = addCosts (addCosts (statusAndEventCost (c .event)) (boolCost false (c .guard))) (cost 1 0)
 enableCost (raise v) = cost 0 0
 
 unfoldable pub effectCost : ℕ → Mover → Cost
@@ -95,16 +106,17 @@ abbrev pub pairCount : ℕ → ℕ
 pairCount zero = 0
 pairCount (suc n) = n + pairCount n
 
+-- property 2's gates and its and, which count in G
 unfoldable pub stepPropertyCost : Property → Cost
 stepPropertyCost (invariant e) = cost 0 0
 stepPropertyCost noInvalidCell = cost 0 0
-stepPropertyCost (constraint e) = boolCost e
+stepPropertyCost (constraint e) = addCosts (boolCost false e) (cost 1 0)
 
 module _ (d : Design) where
-  -- P gates, and G gates
+  -- P gates, and G gates; a property ends in an and
   unfoldable pub propertyCost : Property → Cost
-  propertyCost (invariant e) = boolCost e
-  propertyCost noInvalidCell = invalidCost (d .invalid)
+  propertyCost (invariant e) = addCosts (boolCost false e) (cost 1 0)
+  propertyCost noInvalidCell = addCosts (invalidCost (d .invalid)) (cost 1 0)
   propertyCost (constraint e) = cost 0 0
 
   -- the movers' gates, and behind them those of property 2

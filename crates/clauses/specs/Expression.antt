@@ -1,11 +1,17 @@
 -- The circuits of expressions over a state in literals. "Operands come before their operator, left to right."
+-- A condition is that of an if. The sums, differences and products of statements and conditions mark (document 02, R-5), those of guards, events and properties do not: `marks` says which, and `m` is the
+-- mark so far.
+use mathlib.Core.Bool.{Bool, true, false, cond}
 use mathlib.Core.List.{List, [], _∷_}
 use Prim.Native.Nat.{ℕ, zero, suc, _/_, _%_}
-use lib.ListN.{getD}
+use lib.Dec.{ltb}
+use lib.IntN.{ℤ, pos, negsuc, negℤ}
+use lib.ListN.{getD, set}
 use Rattle.design.specs.Tree.{IntExpr, BoolExpr, constant, variable, status, sum, difference, product, constantB, variableB, notB, andB, orB, equal, less, truth}
 use Rattle.design.specs.State.{Layout, statusSlot}
 use Rattle.clauses.specs.Literal.{Literal, negate, falseLiteral, literalOf}
-use Rattle.clauses.specs.Circuit.{Build, give, _>>=_, and!, or!, Bits, sum!, difference!, product!, less!, equal! }
+use Rattle.step.specs.Pattern.{signed, wrap}
+use Rattle.clauses.specs.Circuit.{Build, give, _>>=_, and!, xor!, or!, Bits, Summed, sum!, difference!, product!, less!, equal!, WithMark, mark! }
 
 -- a state in literals: the bits of each slot
 abbrev pub Slots : Type 0
@@ -34,43 +40,87 @@ lowest (x ∷ xs) = x
 abbrev pub booleanAt : Slots → ℕ → Literal
 booleanAt s v = lowest (getD s v [])
 
-unfoldable pub int! : Layout → Slots → IntExpr → Build Bits
-int! l s (constant c) = give (constantBits 16 c)
-int! l s (variable v) = give (integerAt s v)
-int! l s (status m) = give (integerAt s (statusSlot l m))
-int! l s (sum a b) = do
-  x ← int! l s a
-  y ← int! l s b
-  r ← sum! x y falseLiteral
-  give (r .bits)
-int! l s (difference a b) = do
-  x ← int! l s a
-  y ← int! l s b
-  r ← difference! x y
-  give (r .bits)
-int! l s (product c a) = do
-  x ← int! l s a
-  product! 16 c x (constantBits 16 0)
+-- "an xor of its last two carries, the earlier first": a sum or difference passes the end
+unfoldable pub sumPasses! : Summed → Build Literal
+sumPasses! r = xor! (r .earlier) (r .carry)
 
-unfoldable pub bool! : Layout → Slots → BoolExpr → Build Literal
-bool! l s (constantB b) = give (literalOf b)
-bool! l s (variableB v) = give (booleanAt s v)
-bool! l s (notB a) = do
-  x ← bool! l s a
-  give (negate x)
-bool! l s (andB a b) = do
-  x ← bool! l s a
-  y ← bool! l s b
-  and! x y
-bool! l s (orB a b) = do
-  x ← bool! l s a
-  y ← bool! l s b
-  or! x y
-bool! l s (equal a b) = do
-  x ← int! l s a
-  y ← int! l s b
-  equal! x y
-bool! l s (less a b) = do
-  x ← int! l s a
-  y ← int! l s b
-  less! x y
+-- "l and h being the least and largest operand whose exact product stays inside": of a constant. That just the operands from l to h do is proved in proofs/Operands. `negsuc n` is -(n + 1);
+-- an operand has 16 bits, so for -1, where the quotient is 32,768, h is 32,767.
+abbrev pub leastOperand : ℤ → ℤ
+leastOperand (pos zero) = negℤ (pos 32768)
+leastOperand (pos (suc n)) = negℤ (pos (32768 / suc n))
+leastOperand (negsuc n) = negℤ (pos (32767 / suc n))
+
+abbrev pub largestOperand : ℤ → ℤ
+largestOperand (pos zero) = pos 32767
+largestOperand (pos (suc n)) = pos (32767 / suc n)
+largestOperand (negsuc n) = pos (cond (ltb n 1) 32767 (32768 / suc n))
+
+-- "less(operand, l), less(h, operand), an or of the two": the product of an operand by the constant c passes the end
+unfoldable pub productPasses! : ℕ → Bits → Build Literal
+productPasses! c x = do
+  a ← less! x (constantBits 16 (wrap (leastOperand (signed c))))
+  b ← less! (constantBits 16 (wrap (largestOperand (signed c)))) x
+  or! a b
+
+unfoldable pub int! : Bool → Layout → Slots → Literal → IntExpr → Build (WithMark Bits)
+int! marks l s m (constant c) = give (record { result = constantBits 16 c; mark = m })
+int! marks l s m (variable v) = give (record { result = integerAt s v; mark = m })
+int! marks l s m (status k) = give (record { result = integerAt s (statusSlot l k); mark = m })
+int! marks l s m (sum a b) = do
+  x ← int! marks l s m a
+  y ← int! marks l s (x .mark) b
+  r ← sum! (x .result) (y .result) falseLiteral
+  after ← mark! marks (y .mark) (sumPasses! r)
+  give (record { result = r .bits; mark = after })
+int! marks l s m (difference a b) = do
+  x ← int! marks l s m a
+  y ← int! marks l s (x .mark) b
+  r ← difference! (x .result) (y .result)
+  after ← mark! marks (y .mark) (sumPasses! r)
+  give (record { result = r .bits; mark = after })
+int! marks l s m (product c a) = do
+  x ← int! marks l s m a
+  r ← product! 16 c (x .result) (constantBits 16 0)
+  after ← mark! marks (x .mark) (productPasses! c (x .result))
+  give (record { result = r; mark = after })
+
+unfoldable pub bool! : Bool → Layout → Slots → Literal → BoolExpr → Build (WithMark Literal)
+bool! marks l s m (constantB b) = give (record { result = literalOf b; mark = m })
+bool! marks l s m (variableB v) = give (record { result = booleanAt s v; mark = m })
+bool! marks l s m (notB a) = do
+  x ← bool! marks l s m a
+  give (record { result = negate (x .result); mark = x .mark })
+bool! marks l s m (andB a b) = do
+  x ← bool! marks l s m a
+  y ← bool! marks l s (x .mark) b
+  r ← and! (x .result) (y .result)
+  give (record { result = r; mark = y .mark })
+bool! marks l s m (orB a b) = do
+  x ← bool! marks l s m a
+  y ← bool! marks l s (x .mark) b
+  r ← or! (x .result) (y .result)
+  give (record { result = r; mark = y .mark })
+bool! marks l s m (equal a b) = do
+  x ← int! marks l s m a
+  y ← int! marks l s (x .mark) b
+  r ← equal! (x .result) (y .result)
+  give (record { result = r; mark = y .mark })
+bool! marks l s m (less a b) = do
+  x ← int! marks l s m a
+  y ← int! marks l s (x .mark) b
+  r ← less! (x .result) (y .result)
+  give (record { result = r; mark = y .mark })
+
+-- "Guards, events and properties go on wrapping": an expression that marks nothing. The mark that it is given is not used.
+unfoldable pub test! : Layout → Slots → BoolExpr → Build Literal
+test! l s e = do
+  x ← bool! false l s falseLiteral e
+  give (x .result)
+
+-- the mark of a state, and the state with another mark
+abbrev pub markAt : Layout → Slots → Literal
+markAt l s = booleanAt s (l .mark)
+
+abbrev pub withMark : Layout → Literal → Slots → Slots
+withMark l m s = set s (l .mark) (m ∷ [])

@@ -6,6 +6,7 @@ use lib.Dec.{ltb, leb}
 use lib.ListN.{length}
 use Rattle.design.specs.Tree.{Design, movers, truth}
 use Rattle.design.specs.State.{State, layout, widths, start}
+use Rattle.step.specs.Pattern.{signed, wrap}
 use Rattle.step.specs.Piece.{expressionOf}
 use Rattle.step.specs.Property.{Property, invariant, noInvalidCell, constraint, propertyOf}
 unfoldable pub use Rattle.design.specs.Tree.{w}
@@ -14,11 +15,11 @@ unfoldable pub use Rattle.design.specs.State.{S}
 use Rattle.clauses.specs.Literal.{Literal, positive, negate, trueLiteral, Clause}
 use Rattle.clauses.specs.Meaning.{Assignment, literalTrue}
 use Rattle.clauses.specs.Gate.{gatesClauses}
-use Rattle.clauses.specs.Circuit.{Built, Build, give, _>>=_, and!, xor!, mux!, or!, Bits, sum!, difference!, product!, less!, xors!, chain!, equal! }
-use Rattle.clauses.specs.Expression.{Slots, int!, bool! }
+use Rattle.clauses.specs.Circuit.{Built, Build, give, _>>=_, and!, xor!, mux!, or!, Bits, sum!, difference!, product!, less!, xors!, chain!, equal!, mark! }
+use Rattle.clauses.specs.Expression.{Slots, sumPasses!, productPasses!, int!, bool!, test!, markAt}
 use Rattle.clauses.specs.Action.{muxBits!, muxes!, statement!, statements!, statusAndEvent!, enable!, effect!, mover!, movers!, noInvalid! }
 
--- so many variables from v on, and slots of given widths: "State bits S, low first: variables, then statuses."
+-- so many variables from v on, and slots of given widths: "State bits S, low first: variables, then statuses."; document 02, R-5: the mark "last among the state bits"
 abbrev pub variablesFrom : ℕ → ℕ → Bits
 variablesFrom v zero = []
 variablesFrom v (suc n) = positive v ∷ variablesFrom (suc v) n
@@ -79,17 +80,24 @@ framesTaken noInvalidCell k = suc k
 framesTaken (constraint e) k = k
 
 module _ (d : Design) where
-  -- the invariant's circuit; "Property 1 and-chains from true"; of property 2 "P is 0"
+  -- "A property ends in an and with the mark's negation." (document 02, R-5): of the state that it judges
+  unfoldable pub unmarked! : Slots → Build Literal → Build Literal
+  unmarked! s property = do
+    x ← property
+    and! x (negate (markAt (layout d) s))
+
+  -- the invariant's circuit; "Property 1 and-chains from true"; both end in `unmarked!`; of property 2 "P is 0"
   unfoldable pub property! : Property → Slots → Build Literal
-  property! (invariant e) s = bool! (layout d) s e
-  property! noInvalidCell s = noInvalid! (layout d) s trueLiteral (d .invalid)
+  property! (invariant e) s = unmarked! s (test! (layout d) s e)
+  property! noInvalidCell s = unmarked! s (noInvalid! (layout d) s trueLiteral (d .invalid))
   property! (constraint e) s = give trueLiteral
 
   -- "Property 2's gates stand among the step gates, after the last mover" (document 02, R-1): of a frame's state and the next frame's. Other properties have none there.
+  -- "for property 2 the later state decides" (document 02, R-5)
   unfoldable pub stepProperty! : Property → Slots → Slots → Build Literal
   stepProperty! (invariant e) s next = give trueLiteral
   stepProperty! noInvalidCell s next = give trueLiteral
-  stepProperty! (constraint e) s next = bool! (layout d) (s ++ next) e
+  stepProperty! (constraint e) s next = unmarked! next (test! (layout d) (s ++ next) e)
 
   -- the results of all movers
   unfoldable pub step! : Slots → Build (List Slots)
@@ -193,7 +201,7 @@ module _ (d : Design) where
 
 -- Not part of the formula: to unfold this is to unfold all of it, for facts about given designs.
 unfoldable pub encoding : ℕ
-unfolding give _>>=_ and! xor! mux! or! sum! difference! product! less! xors! chain! equal! int! bool! muxBits! muxes! statement! statements! statusAndEvent!
-    enable! effect! mover! movers! noInvalid! movers layout widths start S w expressionOf propertyOf property! stepProperty! step! stateAt propertyAt flagsAt stepAt
+unfolding give _>>=_ and! xor! mux! or! sum! difference! product! less! xors! chain! equal! mark! sumPasses! productPasses! signed wrap int! bool! test! muxBits! muxes! statement! statements! statusAndEvent!
+    enable! effect! mover! movers! noInvalid! movers layout widths start S w expressionOf propertyOf unmarked! property! stepProperty! step! stateAt propertyAt flagsAt stepAt
     stepPropertyAt P G F frame n firstPart propertyClauses stepPropertyIn stepClauses framePart propertyLiteralIn negatedFrom lastClause part partsFrom formula choicesFrom choices
 encoding = 0

@@ -32,6 +32,17 @@ gatesAt f bad = noGates 0
 abbrev pub both : GatesAt → GatesAt → ℕ → ℕ → GatesAt
 both a b x y = record { ands = a .ands + b .ands + x; wides = a .wides + b .wides + y; next = b .next }
 
+-- so many gates more
+abbrev pub more : GatesAt → ℕ → ℕ → GatesAt
+more a x y = record { ands = a .ands + x; wides = a .wides + y; next = a .next }
+
+-- the same two, by the cost of what is more
+abbrev pub bothWith : GatesAt → GatesAt → Cost → GatesAt
+bothWith a b c = both a b (c .ands) (c .wides)
+
+abbrev pub moreWith : GatesAt → Cost → GatesAt
+moreWith a c = more a (c .ands) (c .wides)
+
 -- of a statement or a list, with S state bits
 abbrev pub stmtGates : ℕ → Read Stmt → GatesAt
 stmtGates bits x = gatesAt (λ (s : Stmt). statementCost s bits) x

@@ -17,7 +17,7 @@ use Rattle.step.specs.Property.{Property, invariant, noInvalidCell, constraint,
 use Rattle.clauses.specs.Literal.{Literal, positive, trueLiteral}
 use Rattle.clauses.specs.Words.{words}
 use Rattle.clauses.specs.Formula.{total, variablesFrom, slotsFrom, flat, initialUnits, ties, allTies, property!, stepProperty!, stateAt, propertyAt, stepPropertyAt, propertyLiteral, S, P, F, n, frame, stepClauses, framePart, lastClause, part, formula}
-use Rattle.clauses.specs.Expression.{Slots, bool! }
+use Rattle.clauses.specs.Expression.{Slots, test! }
 use Rattle.clauses.specs.Action.{statusAndEvent!, enable!, mover!, movers!, noInvalid! }
 use Rattle.clauses.specs.Limits.{lastVariable}
 use Rattle.clauses.specs.Writing.{variableLimit, fromCode, Puts, Emits}
@@ -51,7 +51,7 @@ resultFrom file shape v = cut (widthsIn file shape) (variablesFrom v (total (wid
 -- What the functions for cells and movers write. `codes` are the state's literals, `f` finds the event that a cell names.
 module _ (file : List ℕ) (shape : Shape) (codes : List ℕ) where
   abbrev pub BoolGates : BoolExpr → Cursor → List ℤ → List ℤ → Out → Type 0
-  BoolGates e pen xs ys r = Gives pen (bool! (layoutOf shape) (slotsOf file shape codes) e) xs ys r
+  BoolGates e pen xs ys r = Gives pen (test! (layoutOf shape) (slotsOf file shape codes) e) xs ys r
 
   abbrev pub CellGates : ℕ → (ℕ → ℕ → BoolExpr) → Cursor → List ℤ → List ℤ → Out → Type 0
   CellGates p f pen xs ys r = Gives pen (statusAndEvent! (layoutOf shape) (slotsOf file shape codes) (c-matrix file p) (c-status file p) (f (c-matrix file p) (c-event file p))) xs ys r

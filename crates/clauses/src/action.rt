@@ -1,19 +1,18 @@
 // The gates of statements and lists of them: the statement walker and the list walker call each other, with the bytes left falling.
-// The state's literals stand in an array that is lent and changed in place; an if saves a copy.
+// The state's literals stand in an array that is lent and changed in place; an if saves a copy. The last of them is the mark.
 ghost use mathlib.Core.Path.{_≡_};
 ghost use mathlib.Core.Bool.{false};
 ghost use Prim.Native.Nat.{_+_, _*_, _≤_};
 ghost use lib.ListN.{length, take};
 ghost use Rattle.design.specs.Limits.{maxBits};
-ghost use Rattle.clauses.specs.Formula.{total};
-ghost use Rattle.clauses.specs.FlatState.{widthsOf, over, Slotted};
+ghost use Rattle.clauses.specs.FlatState.{over, Slotted};
 ghost use Rattle.clauses.specs.Encoders.{MuxesWritten, Here, assignsAt, stmtsAt, listsAt, AssignEncoded, StmtEncoded, ListEncoded};
 use super::expression::encode_bool;
 use super::expression::encode_int;
 use super::gate::Cursor;
+use super::gate::Pen;
 use super::gate::emit_mux;
 use design::bits::offset;
-use design::bits::state_bits;
 use design::bytes::wide;
 use design::limits::MAX_BITS;
 use design::shape::Shape;
@@ -61,7 +60,7 @@ pub fn store_word(state: &mut [u32; MAX_BITS], off: usize, x: [u32; 16], w: usiz
     }
 }
 
-// What follows the operator byte of an assignment.
+// What follows the operator byte of an assignment. The mark is stored and then the value.
 pub fn encode_assign(
     file: &[u8],
     at: usize,
@@ -76,19 +75,27 @@ pub fn encode_assign(
     let v = wide(file[at]);
     let k = file[3 * v];
     let o = offset(file, v);
+    let last = shape.bits - 1;
+    let from = Pen {
+        at: pen,
+        marks: true,
+        mark: state[last],
+    };
     if k == 1 {
-        let x = encode_int(file, file, at + 1, shape, state, buf, pen);
+        let x = encode_int(file, file, at + 1, shape, state, buf, from);
         let w = x.lits;
+        state[last] = x.pen.mark;
         store_word(state, o, w, 16);
-        let done = x.pen;
+        let done = x.pen.at;
         Done {
             pen: done,
             next: x.next,
         }
     } else {
-        let x = encode_bool(file, file, at + 1, shape, state, buf, pen);
+        let x = encode_bool(file, file, at + 1, shape, state, buf, from);
+        state[last] = x.pen.mark;
         state[o] = x.lit;
-        let done = x.pen;
+        let done = x.pen.at;
         Done {
             pen: done,
             next: x.next,
@@ -96,7 +103,7 @@ pub fn encode_assign(
     }
 }
 
-// The gates of the statement at `at`: an assignment, or an if.
+// The gates of the statement at `at`: an assignment, or an if, whose lists both start from the mark that the condition left.
 pub fn encode_stmt(
     file: &[u8],
     at: usize,
@@ -112,9 +119,16 @@ pub fn encode_stmt(
     if op == 0x20 {
         return encode_assign(file, at + 1, shape, state, buf, pen);
     }
-    let c = encode_bool(file, file, at + 1, shape, state, buf, pen);
+    let last = shape.bits - 1;
+    let from = Pen {
+        at: pen,
+        marks: true,
+        mark: state[last],
+    };
+    let c = encode_bool(file, file, at + 1, shape, state, buf, from);
+    state[last] = c.pen.mark;
     let mut other = *state;
-    let a = encode_list(file, c.next, shape, state, buf, c.pen);
+    let a = encode_list(file, c.next, shape, state, buf, c.pen.at);
     let b = encode_list(file, a.next, shape, &mut other, buf, a.pen);
     let m = muxes(shape, c.lit, state, &other, buf, b.pen);
     Done {

@@ -1,5 +1,6 @@
 // The gates of cells, over the bytes of an accepted file. `events` is the table of events; `p` is where a cell stands.
 ghost use mathlib.Core.Path.{_≡_};
+ghost use mathlib.Core.Bool.{false};
 ghost use mathlib.Core.List.{List};
 ghost use Prim.Native.Nat.{ℕ, _<_};
 ghost use Rattle.design.specs.Tree.{Design, cell};
@@ -34,11 +35,11 @@ pub fn size_event(
     e: usize,
 ) -> GatesAt
     requires { ⌜ Ready (now file) (now events) shape × (m < shape .matrices) × (e < eventCount (now file) (matricesOffset (now file)) m) ⌝ }
-    ensures { λ r. ⌜ FewGates textGates r × ((d : Design) (parts : Parts (now (file .entry)) d) → HasGates r (boolCost (eventIn (parts .rows) m e))) ⌝ }
+    ensures { λ r. ⌜ FewGates textGates r × ((d : Design) (parts : Parts (now (file .entry)) d) → HasGates r (boolCost false (eventIn (parts .rows) m e))) ⌝ }
 {
     let at = events[EVENT_ROW * m + e] as usize;
     let past = at + 1 + wide(file[at]);
-    size_bool(file, at + 1, past, shape)
+    size_bool(file, at + 1, past, shape, false)
 }
 
 // Status and event of a cell: equal, the event, and an and.
@@ -59,13 +60,13 @@ pub fn size_place(file: &[u8], events: &[u16; EVENT_PLACES], shape: Shape, p: us
 // The guard of a normal cell, which may be empty.
 pub fn size_guard(file: &[u8], shape: Shape, p: usize) -> GatesAt
     requires { ⌜ ((table : List ℕ) × Ready (now file) table shape) × NormalCell (now file) p ⌝ }
-    ensures { λ r. ⌜ FewGates mostGates r × ((x : NormalCell (now (file .entry)) p) → HasGates r (boolCost (x .cell .guard))) ⌝ }
+    ensures { λ r. ⌜ FewGates mostGates r × ((x : NormalCell (now (file .entry)) p) → HasGates r (boolCost false (x .cell .guard))) ⌝ }
 {
     let n = wide(file[p + 5]);
     if n == 0 {
         return no_gates(p);
     }
-    size_bool(file, p + 8, p + 8 + n, shape)
+    size_bool(file, p + 8, p + 8 + n, shape, false)
 }
 
 // The mover of a normal cell: enable, the action, and a mux for each of the state's bits.

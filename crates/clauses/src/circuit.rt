@@ -2,8 +2,9 @@
 ghost use mathlib.Core.Path.{_≡_};
 ghost use mathlib.Core.List.{map};
 ghost use Rattle.design.specs.Tree.{truth};
-ghost use Rattle.clauses.specs.Literal.{negate as negated, falseLiteral};
-ghost use Rattle.clauses.specs.Circuit.{shift as shifted, addend as addendOf, negateTop, sum!, difference!, less!, xors!, chain!, equal! };
+ghost use Rattle.clauses.specs.Literal.{negate as negated, falseLiteral, literalOf};
+ghost use Rattle.clauses.specs.Circuit.{shift as shifted, addend as addendOf, negateTop, sum!, difference!, product!, less!, xors!, chain!, equal! };
+ghost use Rattle.clauses.specs.Expression.{constantBits};
 ghost use Rattle.clauses.specs.Writing.{fromCode, fromCodes, Emits};
 ghost use Rattle.clauses.specs.Builders.{sumBit! };
 ghost use Rattle.clauses.specs.Encoders.{Sums, SumsBit};
@@ -11,6 +12,7 @@ use super::gate::Out;
 use super::gate::emit_and;
 use super::gate::emit_or;
 use super::gate::emit_xor;
+use super::literal::FALSE;
 use super::literal::TRUE;
 use super::literal::negate;
 
@@ -21,11 +23,34 @@ pub struct Bit {
     pub var: u32,
 }
 
+// A word; of a sum also its last carry and the earlier one, which goes into the last bit.
 pub struct Word {
     pub lits: [u32; 16],
     pub carry: u32,
+    pub earlier: u32,
     pub cur: usize,
     pub var: u32,
+}
+
+pub fn truth_code(b: u16) -> u32
+    ensures { λ r. ⌜ fromCode r ≡ literalOf (truth b) ⌝ }
+{
+    if b == 0 { FALSE } else { TRUE }
+}
+
+// The literals of a number, low first.
+pub fn constant(x: u16) -> [u32; 16]
+    ensures { λ r. ⌜ fromCodes r ≡ constantBits 16 x ⌝ }
+{
+    let mut out = [3u32; 16];
+    let mut n = x;
+    let mut i: usize = 0;
+    while i < 16 {
+        out[i] = truth_code(n % 2);
+        n = n / 2;
+        i = i + 1;
+    }
+    out
 }
 
 // One bit of a sum.
@@ -45,18 +70,20 @@ pub fn sum_bit(buf: &mut [i32], cur: usize, var: u32, a: u32, b: u32, c: u32) ->
     }
 }
 
-// The sum's bits and the last carry.
+// The sum's bits and its last two carries.
 pub fn sum(a: [u32; 16], b: [u32; 16], c: u32, buf: &mut [i32], cur: usize, var: u32) -> Word
     ensures { λ r. ⌜ Sums cur var (sum! (fromCodes a) (fromCodes b) (fromCode c)) (now (buf .entry)) (now (buf .exit)) r ⌝ }
 {
     let mut out = [0u32; 16];
     let mut carry = c;
+    let mut earlier = c;
     let mut at = cur;
     let mut g = var;
     let mut i: usize = 0;
     while i < 16 {
         let t = sum_bit(buf, at, g, a[i], b[i], carry);
         out[i] = t.bit;
+        earlier = carry;
         carry = t.carry;
         at = t.cur;
         g = t.var;
@@ -65,6 +92,7 @@ pub fn sum(a: [u32; 16], b: [u32; 16], c: u32, buf: &mut [i32], cur: usize, var:
     Word {
         lits: out,
         carry: carry,
+        earlier: earlier,
         cur: at,
         var: g,
     }
@@ -91,6 +119,18 @@ pub fn addend(bit: u16, x: [u32; 16]) -> [u32; 16]
         return [3u32; 16];
     }
     x
+}
+
+// The sums of a product that are left: c is the constant without the bits that are done, x the operand shifted so far, and `partial` has the sum so far.
+pub fn product(left: usize, c: u16, x: [u32; 16], partial: Word, buf: &mut [i32]) -> Word
+    ensures { λ r. ⌜ Emits (partial .var) (product! left c (fromCodes x) (fromCodes (partial .lits)) (partial .var)) (now (buf .entry)) (now (buf .exit)) (partial .cur) (fromCodes (r .lits)) (r .cur) (r .var) ⌝ }
+{
+    if left == 0 {
+        return partial;
+    }
+    let y = partial.lits;
+    let w = sum(y, addend(c % 2, x), FALSE, buf, partial.cur, partial.var);
+    product(left - 1, c / 2, shift(x), w, buf)
 }
 
 pub fn negate_all(b: [u32; 16]) -> [u32; 16]
@@ -151,6 +191,7 @@ pub fn xors(a: [u32; 16], b: [u32; 16], buf: &mut [i32], cur: usize, var: u32) -
     Word {
         lits: out,
         carry: TRUE,
+        earlier: TRUE,
         cur: at,
         var: g,
     }

@@ -3,9 +3,9 @@
 ghost use mathlib.Core.Path.{_≡_};
 ghost use mathlib.Core.Bool.{cond};
 ghost use mathlib.Core.List.{_++_};
-ghost use Prim.Native.Nat.{_+_, _*_, _≤_, _<_};
+ghost use Prim.Native.Nat.{_+_, _≤_, _<_};
 ghost use lib.ListN.{length, take};
-ghost use Rattle.design.specs.Limits.{maxMatrices, maxMovers, maxBits};
+ghost use Rattle.design.specs.Limits.{maxMovers, maxBits};
 ghost use Rattle.design.specs.Tree.{truth};
 ghost use Rattle.clauses.specs.Literal.{positive as positively, negate as negated};
 ghost use Rattle.clauses.specs.Words.{clauseWords, words};
@@ -157,7 +157,7 @@ pub fn put_all_ties(
 
 // The units that give n variables from v on the bits of a value.
 pub fn put_units(buf: &mut [i32], cur: usize, v: u32, n: usize, value: usize) -> usize
-    requires { ⌜ n ≤ 4 * maxMatrices ⌝ }
+    requires { ⌜ n ≤ maxBits ⌝ }
     ensures { λ r. ⌜ (v + n ≤ variableLimit → Puts (words (unitsOf (variablesFrom v n) value)) (now (buf .entry)) (now (buf .exit)) cur r) ⌝ }
 {
     let mut at = cur;

@@ -5,46 +5,47 @@ ghost use Prim.Native.Nat.{_+_, _*_, _≤_, _<_};
 ghost use mathlib.Core.Bool.{Bool, true, cond, not, _||_};
 ghost use mathlib.Core.Logic.{_⊎_};
 ghost use mathlib.Core.List.{List};
-ghost use lib.Dec.{eqb};
 ghost use lib.ListN.{length, getD, take, drop};
 ghost use lib.IntN.{ℤ};
-ghost use Rattle.design.specs.Tree.{truth};
 ghost use Rattle.design.specs.State.{layoutOf, numberIn};
-ghost use Rattle.clauses.specs.Literal.{literalOf};
-ghost use Rattle.clauses.specs.Circuit.{product! };
-ghost use Rattle.clauses.specs.Expression.{constantBits, pad, integerAt, booleanAt};
-ghost use Rattle.clauses.specs.Formula.{total};
+ghost use Rattle.clauses.specs.Expression.{pad, integerAt, booleanAt};
 ghost use Rattle.clauses.specs.Writing.{fromCode, fromCodes};
-ghost use Rattle.clauses.specs.Builders.{arithmetic!, logic!, compare! };
+ghost use Rattle.clauses.specs.Builders.{beside!, arithmetic!, multiplied!, logic!, compare! };
 ghost use Rattle.clauses.specs.FlatState.{readSlots, Slotted};
-ghost use Rattle.clauses.specs.Encoders.{Writes, IntHere, BoolHere, IntEncoded, BoolEncoded};
-use super::circuit::addend;
+ghost use Rattle.clauses.specs.Encoders.{WritesMarked, intMarked, IntHere, BoolHere, IntEncoded, BoolEncoded, TestEncoded};
+use super::circuit::Word;
+use super::circuit::constant;
 use super::circuit::difference;
 use super::circuit::equal;
 use super::circuit::less;
-use super::circuit::shift;
+use super::circuit::product;
 use super::circuit::sum;
+use super::circuit::truth_code;
 use super::gate::Cursor;
+use super::gate::Out;
+use super::gate::Pen;
 use super::gate::emit_and;
 use super::gate::emit_or;
+use super::gate::moved;
 use super::literal::FALSE;
-use super::literal::TRUE;
 use super::literal::negate;
+use super::mark::mark_product;
+use super::mark::mark_sum;
 use design::bits::offset;
 use design::bytes::wide;
 use design::bytes::word;
 use design::shape::Shape;
 
-// The result of an expression, the cursor after its gates, and the position past it.
+// The result of an expression, the pen after its gates, and the position past it.
 pub struct IntOut {
     pub lits: [u32; 16],
-    pub pen: Cursor,
+    pub pen: Pen,
     pub next: usize,
 }
 
 pub struct BoolOut {
     pub lit: u32,
-    pub pen: Cursor,
+    pub pen: Pen,
     pub next: usize,
 }
 
@@ -62,133 +63,93 @@ pub fn load(bits: &[u32], off: usize, w: usize) -> [u32; 16]
     out
 }
 
-pub fn truth_code(b: u16) -> u32
-    ensures { λ r. ⌜ fromCode r ≡ literalOf (truth b) ⌝ }
-{
-    if b == 0 { FALSE } else { TRUE }
-}
-
-// The literals of a number, low first.
-pub fn constant(x: u16) -> [u32; 16]
-    ensures { λ r. ⌜ fromCodes r ≡ constantBits 16 x ⌝ }
-{
-    let mut out = [3u32; 16];
-    let mut n = x;
-    let mut i: usize = 0;
-    while i < 16 {
-        out[i] = truth_code(n % 2);
-        n = n / 2;
-        i = i + 1;
-    }
-    out
-}
-
 // An operator's gates after those of its operands, of which b is the last.
 fn arithmetic(op: u8, a: [u32; 16], b: IntOut, buf: &mut [i32]) -> IntOut
-    ensures { λ r. ⌜ Writes (b .pen) (arithmetic! op (fromCodes a) (fromCodes (b .lits))) (now (buf .entry)) (now (buf .exit)) (fromCodes (r .lits)) (r .pen) × (r .next ≡ b .next) ⌝ }
+    ensures { λ r. ⌜ WritesMarked (b .pen) (arithmetic! op (b .pen .marks) (fromCodes a) (intMarked b)) (now (buf .entry)) (now (buf .exit)) (fromCodes (r .lits)) (r .pen) × (r .next ≡ b .next) ⌝ }
 {
     let y = b.lits;
     if op == 0x04 {
-        let w = sum(a, y, FALSE, buf, b.pen.cur, b.pen.var);
+        let w = sum(a, y, FALSE, buf, b.pen.at.cur, b.pen.at.var);
         let z = w.lits;
+        let done = mark_sum(w, b.pen, buf);
         return IntOut {
             lits: z,
-            pen: Cursor {
-                cur: w.cur,
-                var: w.var,
-            },
+            pen: done,
             next: b.next,
         };
     }
-    let w = difference(a, y, buf, b.pen.cur, b.pen.var);
+    let w = difference(a, y, buf, b.pen.at.cur, b.pen.at.var);
     let z = w.lits;
+    let done = mark_sum(w, b.pen, buf);
     IntOut {
         lits: z,
-        pen: Cursor {
-            cur: w.cur,
-            var: w.var,
-        },
+        pen: done,
         next: b.next,
     }
 }
 
-// The sums of a product that are left: c is the constant without the bits that are done, x the operand shifted so far, and `partial` has the sum so far.
-fn product(left: usize, c: u16, x: [u32; 16], partial: IntOut, buf: &mut [i32]) -> IntOut
-    ensures { λ r. ⌜ Writes (partial .pen) (product! left c (fromCodes x) (fromCodes (partial .lits))) (now (buf .entry)) (now (buf .exit)) (fromCodes (r .lits)) (r .pen) × (r .next ≡ partial .next) ⌝ }
+// The gates of a product by the constant c after those of its operand.
+fn multiply(c: u16, a: IntOut, buf: &mut [i32]) -> IntOut
+    ensures { λ r. ⌜ WritesMarked (a .pen) (multiplied! c (a .pen .marks) (intMarked a)) (now (buf .entry)) (now (buf .exit)) (fromCodes (r .lits)) (r .pen) × (r .next ≡ a .next) ⌝ }
 {
-    if left == 0 {
-        return partial;
-    }
-    let y = partial.lits;
-    let w = sum(
-        y,
-        addend(c % 2, x),
-        FALSE,
-        buf,
-        partial.pen.cur,
-        partial.pen.var,
-    );
-    let z = w.lits;
-    let pen = Cursor {
-        cur: w.cur,
-        var: w.var,
+    let x = a.lits;
+    let none = constant(0);
+    let start = Word {
+        lits: none,
+        carry: FALSE,
+        earlier: FALSE,
+        cur: a.pen.at.cur,
+        var: a.pen.at.var,
     };
-    product(
-        left - 1,
-        c / 2,
-        shift(x),
-        int_out(z, pen, partial.next),
-        buf,
-    )
+    let w = product(16, c, x, start, buf);
+    let z = w.lits;
+    let done = mark_product(c, x, moved(a.pen, w.cur, w.var), buf);
+    IntOut {
+        lits: z,
+        pen: done,
+        next: a.next,
+    }
 }
 
 fn logic(op: u8, a: u32, b: BoolOut, buf: &mut [i32]) -> BoolOut
-    ensures { λ r. ⌜ Writes (b .pen) (logic! op (fromCode a) (fromCode (b .lit))) (now (buf .entry)) (now (buf .exit)) (fromCode (r .lit)) (r .pen) × (r .next ≡ b .next) ⌝ }
+    ensures { λ r. ⌜ WritesMarked (b .pen) (beside! (fromCode (b .pen .mark)) (logic! op (fromCode a) (fromCode (b .lit)))) (now (buf .entry)) (now (buf .exit)) (fromCode (r .lit)) (r .pen) × (r .next ≡ b .next) ⌝ }
 {
     if op == 0x13 {
-        let w = emit_and(buf, b.pen.cur, b.pen.var, a, b.lit);
+        let w = emit_and(buf, b.pen.at.cur, b.pen.at.var, a, b.lit);
+        let done = moved(b.pen, w.cur, w.var);
         return BoolOut {
             lit: w.lit,
-            pen: Cursor {
-                cur: w.cur,
-                var: w.var,
-            },
+            pen: done,
             next: b.next,
         };
     }
-    let w = emit_or(buf, b.pen.cur, b.pen.var, a, b.lit);
+    let w = emit_or(buf, b.pen.at.cur, b.pen.at.var, a, b.lit);
+    let done = moved(b.pen, w.cur, w.var);
     BoolOut {
         lit: w.lit,
-        pen: Cursor {
-            cur: w.cur,
-            var: w.var,
-        },
+        pen: done,
         next: b.next,
     }
 }
 
 fn compare(op: u8, a: [u32; 16], b: IntOut, buf: &mut [i32]) -> BoolOut
-    ensures { λ r. ⌜ Writes (b .pen) (compare! op (fromCodes a) (fromCodes (b .lits))) (now (buf .entry)) (now (buf .exit)) (fromCode (r .lit)) (r .pen) × (r .next ≡ b .next) ⌝ }
+    ensures { λ r. ⌜ WritesMarked (b .pen) (beside! (fromCode (b .pen .mark)) (compare! op (fromCodes a) (fromCodes (b .lits)))) (now (buf .entry)) (now (buf .exit)) (fromCode (r .lit)) (r .pen) × (r .next ≡ b .next) ⌝ }
 {
     let y = b.lits;
     if op == 0x15 {
-        let w = equal(a, y, buf, b.pen.cur, b.pen.var);
+        let w = equal(a, y, buf, b.pen.at.cur, b.pen.at.var);
+        let done = moved(b.pen, w.cur, w.var);
         return BoolOut {
             lit: w.lit,
-            pen: Cursor {
-                cur: w.cur,
-                var: w.var,
-            },
+            pen: done,
             next: b.next,
         };
     }
-    let w = less(a, y, buf, b.pen.cur, b.pen.var);
+    let w = less(a, y, buf, b.pen.at.cur, b.pen.at.var);
+    let done = moved(b.pen, w.cur, w.var);
     BoolOut {
         lit: w.lit,
-        pen: Cursor {
-            cur: w.cur,
-            var: w.var,
-        },
+        pen: done,
         next: b.next,
     }
 }
@@ -230,14 +191,14 @@ pub fn load_flag(file: &[u8], v: usize, next: bool, shape: Shape, bits: &[u32]) 
     bits[o]
 }
 
-fn int_out(lits: [u32; 16], pen: Cursor, next: usize) -> IntOut
+fn int_out(lits: [u32; 16], pen: Pen, next: usize) -> IntOut
     ensures { λ r. ⌜ (r .lits ≡ lits) × (r .pen ≡ pen) × (r .next ≡ next) ⌝ }
 {
     IntOut { lits, pen, next }
 }
 
 // The constant, variable or status at `at`: no gates.
-fn int_leaf(text: &[u8], file: &[u8], at: usize, shape: Shape, bits: &[u32], pen: Cursor) -> IntOut
+fn int_leaf(text: &[u8], file: &[u8], at: usize, shape: Shape, bits: &[u32], pen: Pen) -> IntOut
     requires { ⌜ ((later : Bool) × Slotted later (now file) shape (now bits) × IntHere (now text) (now file) shape later at)
         × ((getD (now text) at 0 < 0x04) ⊎ (0x05 < getD (now text) at 0)) × (getD (now text) at 0 ≡ 0x08 → ⊥) ⌝ }
     ensures { λ r. ⌜ ((later : Bool) (xs : List ℤ) → IntEncoded (now (text .entry)) (now (file .entry)) shape later (now (bits .entry)) at pen xs xs r) ⌝ }
@@ -263,7 +224,7 @@ pub fn encode_int(
     shape: Shape,
     bits: &[u32],
     buf: &mut [i32],
-    pen: Cursor,
+    pen: Pen,
 ) -> IntOut
     requires { ⌜ ((later : Bool) × Slotted later (now file) shape (now bits) × IntHere (now text) (now file) shape later at) ⌝ }
     ensures { λ r. ⌜ ((later : Bool)
@@ -275,9 +236,7 @@ pub fn encode_int(
     }
     if op == 0x08 {
         let a = encode_int(text, file, at + 3, shape, bits, buf, pen);
-        let x = a.lits;
-        let start = int_out(constant(0), a.pen, a.next);
-        return product(16, word(text, at + 1) as u16, x, start, buf);
+        return multiply(word(text, at + 1) as u16, a, buf);
     }
     if 0x05 < op {
         return int_leaf(text, file, at, shape, bits, pen);
@@ -289,14 +248,7 @@ pub fn encode_int(
 }
 
 // The constant, Boolean or external at `at`: no gates.
-fn bool_leaf(
-    text: &[u8],
-    file: &[u8],
-    at: usize,
-    shape: Shape,
-    bits: &[u32],
-    pen: Cursor,
-) -> BoolOut
+fn bool_leaf(text: &[u8], file: &[u8], at: usize, shape: Shape, bits: &[u32], pen: Pen) -> BoolOut
     requires { ⌜ ((later : Bool) × Slotted later (now file) shape (now bits) × BoolHere (now text) (now file) shape later at)
         × ((getD (now text) at 0 < 0x12) ⊎ (0x16 < getD (now text) at 0)) ⌝ }
     ensures { λ r. ⌜ ((later : Bool) (xs : List ℤ) → BoolEncoded (now (text .entry)) (now (file .entry)) shape later (now (bits .entry)) at pen xs xs r) ⌝ }
@@ -326,7 +278,7 @@ fn encode_compare(
     shape: Shape,
     bits: &[u32],
     buf: &mut [i32],
-    pen: Cursor,
+    pen: Pen,
 ) -> BoolOut
     requires { ⌜ ((later : Bool) × Slotted later (now file) shape (now bits) × BoolHere (now text) (now file) shape later at)
         × (0x15 ≤ getD (now text) at 0) × (getD (now text) at 0 ≤ 0x16) ⌝ }
@@ -347,7 +299,7 @@ pub fn encode_bool(
     shape: Shape,
     bits: &[u32],
     buf: &mut [i32],
-    pen: Cursor,
+    pen: Pen,
 ) -> BoolOut
     requires { ⌜ ((later : Bool) × Slotted later (now file) shape (now bits) × BoolHere (now text) (now file) shape later at) ⌝ }
     ensures { λ r. ⌜ ((later : Bool)
@@ -376,4 +328,31 @@ pub fn encode_bool(
         return logic(op, a.lit, b, buf);
     }
     encode_compare(text, file, at, shape, bits, buf, pen)
+}
+
+// The gates of a Boolean expression that marks nothing.
+pub fn encode_test(
+    text: &[u8],
+    file: &[u8],
+    at: usize,
+    shape: Shape,
+    bits: &[u32],
+    buf: &mut [i32],
+    pen: Cursor,
+) -> Out
+    requires { ⌜ ((later : Bool) × Slotted later (now file) shape (now bits) × BoolHere (now text) (now file) shape later at) ⌝ }
+    ensures { λ r. ⌜ ((later : Bool)
+        → TestEncoded (now (text .entry)) (now (file .entry)) shape later (now (bits .entry)) at pen (now (buf .entry)) (now (buf .exit)) r) ⌝ }
+{
+    let quiet = Pen {
+        at: pen,
+        marks: false,
+        mark: FALSE,
+    };
+    let x = encode_bool(text, file, at, shape, bits, buf, quiet);
+    Out {
+        lit: x.lit,
+        cur: x.pen.at.cur,
+        var: x.pen.at.var,
+    }
 }

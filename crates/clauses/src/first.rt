@@ -1,5 +1,4 @@
 // Part 0: the clause (1) and the initial units, over the variables of frame 0.
-ghost use Prim.Native.Nat.{ℕ};
 ghost use Rattle.design.specs.Tree.{Design};
 ghost use Rattle.design.specs.Sections.{Parts};
 ghost use Rattle.step.specs.Property.{Property};
@@ -33,7 +32,7 @@ pub fn put_values(file: &[u8], shape: Shape, buf: &mut [i32], cur: usize) -> usi
     at
 }
 
-// The statuses' bits follow the variables' and are all 0.
+// The statuses' bits and the mark's follow the variables', and are all 0.
 pub fn put_first(file: &[u8], shape: Shape, buf: &mut [i32], cur: usize) -> usize
     requires { ⌜ ShapedFile (now file) shape ⌝ }
     ensures { λ r. ⌜ ((d : Design) (parts : Parts (now (file .entry)) d) (p : Property) → Puts (words (firstPart d p)) (now (buf .entry)) (now (buf .exit)) cur r) ⌝ }
@@ -41,5 +40,5 @@ pub fn put_first(file: &[u8], shape: Shape, buf: &mut [i32], cur: usize) -> usiz
     let a = clause1(buf, cur, TRUE);
     let b = put_values(file, shape, buf, a);
     let x = 2 + offset(file, shape.variables);
-    put_units(buf, b, x as u32, 4 * shape.matrices, 0)
+    put_units(buf, b, x as u32, 4 * shape.matrices + 1, 0)
 }

@@ -13,10 +13,11 @@ ghost use Rattle.step.specs.Piece.{pieceRight};
 ghost use Rattle.step.specs.Property.{propertyOf};
 ghost use Rattle.clauses.specs.Limits.{mostGates, frameLimit, mostVariables, countLimit, sizeLimit};
 ghost use Rattle.clauses.specs.Cost.{pairCount, propertyCost, stepPropertyCost};
-ghost use Rattle.clauses.specs.FrameSizes.{HasGates, FewGates, frameSizes, SmallFrame, frameLength, stepClausesOf, stepWordsOf, partWordsOf, variablesOf, formulaSizes};
+ghost use Rattle.clauses.specs.FrameSizes.{more as moreOf, HasGates, FewGates, frameSizes, SmallFrame, frameLength, stepClausesOf, stepWordsOf, partWordsOf, variablesOf, formulaSizes};
 ghost use Rattle.clauses.specs.Ready.{ShapedFile, Ready};
 use super::cells::size_cells;
 use super::cost::GatesAt;
+use super::cost::more;
 use super::cost::no_gates;
 use super::cost::size_bool;
 use design::index::constraint;
@@ -56,6 +57,14 @@ pub struct FormulaSizes {
     pub words: u64,
 }
 
+// A property ends in an and with the mark's negation.
+pub fn ends_unmarked(property: GatesAt) -> GatesAt
+    requires { ⌜ FewGates mostGates property ⌝ }
+    ensures { λ r. ⌜ r ≡ moreOf property 1 0 ⌝ }
+{
+    more(property, 1, 0)
+}
+
 // The gates of the property.
 pub fn size_property<'a>(
     file: &'a [u8],
@@ -69,10 +78,10 @@ pub fn size_property<'a>(
 {
     if property == 0 {
         let text = expression(file, piece);
-        return size_bool(text, 0, text.len(), shape);
+        return ends_unmarked(size_bool(text, 0, text.len(), shape, false));
     }
     if property == 1 {
-        return size_cells(file, events, shape, true);
+        return ends_unmarked(size_cells(file, events, shape, true));
     }
     no_gates(0)
 }
@@ -86,10 +95,10 @@ pub fn size_step_property(file: &[u8], shape: Shape, property: u64) -> GatesAt
         return no_gates(0);
     }
     if !has_constraint(file) {
-        return no_gates(0);
+        return ends_unmarked(no_gates(0));
     }
     let stands = constraint(file);
-    size_bool(file, stands.at, stands.end, shape)
+    ends_unmarked(size_bool(file, stands.at, stands.end, shape, false))
 }
 
 // The sizes of a frame of an accepted file, with a right piece.

@@ -1,4 +1,5 @@
 // Gates, document 01's clauses in its order, into a lent buffer.
+ghost use mathlib.Core.Path.{_≡_};
 ghost use mathlib.Core.List.{[], _∷_};
 ghost use Rattle.clauses.specs.Words.{clauseWords};
 ghost use Rattle.clauses.specs.Circuit.{and!, xor!, mux!, or! };
@@ -15,11 +16,29 @@ pub struct Cursor {
     pub var: u32,
 }
 
+// A writer of an expression's gates: where it stands, whether what it writes marks, and the mark so far.
+pub struct Pen {
+    pub at: Cursor,
+    pub marks: bool,
+    pub mark: u32,
+}
+
 // A literal, and the cursor and the next variable after its gates.
 pub struct Out {
     pub lit: u32,
     pub cur: usize,
     pub var: u32,
+}
+
+// The pen further on, with the same mark.
+pub fn moved(pen: Pen, cur: usize, var: u32) -> Pen
+    ensures { λ r. ⌜ (r .at ≡ record { cur = cur; var = var }) × (r .marks ≡ pen .marks) × (r .mark ≡ pen .mark) ⌝ }
+{
+    Pen {
+        at: Cursor { cur, var },
+        marks: pen.marks,
+        mark: pen.mark,
+    }
 }
 
 pub fn clause1(buf: &mut [i32], cur: usize, a: u32) -> usize

@@ -1,7 +1,8 @@
 // The clause writer: SIZE, ENCODE, DECODE.
 mod literal; // literals as codes, and the one function that stores a word
 mod gate; // and, xor, mux, or
-mod circuit; // sum, difference, less, equal, and what a product adds, over 16 bits
+mod circuit; // sum, difference, product, less, equal, over 16 bits
+mod mark; // the mark behind a sum, difference or product
 mod expression; // the circuits of expressions
 mod action; // statements and lists
 mod mover; // a cell, an external

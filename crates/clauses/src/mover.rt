@@ -13,9 +13,9 @@ ghost use Rattle.clauses.specs.Ready.{ShapedFile, Ready, BoolGates, Cell
 use super::action::encode_list;
 use super::action::muxes;
 use super::action::store_word;
+use super::circuit::constant;
 use super::circuit::equal;
-use super::expression::constant;
-use super::expression::encode_bool;
+use super::expression::encode_test;
 use super::expression::load_flag;
 use super::expression::load_status;
 use super::gate::Cursor;
@@ -57,7 +57,7 @@ pub fn status_and_event(
     let q = equal(x, k, buf, pen.cur, pen.var);
     let e = wide(file[p + 2]);
     let at = events[EVENT_ROW * m + e] as usize;
-    let v = encode_bool(
+    let v = encode_test(
         file,
         file,
         at + 1,
@@ -69,7 +69,7 @@ pub fn status_and_event(
             var: q.var,
         },
     );
-    emit_and(buf, v.pen.cur, v.pen.var, q.lit, v.lit)
+    emit_and(buf, v.cur, v.var, q.lit, v.lit)
 }
 
 // The guard of a normal cell; an absent one is true.
@@ -92,12 +92,7 @@ pub fn encode_guard(
             var: pen.var,
         };
     }
-    let x = encode_bool(file, file, p + 8, shape, bits, buf, pen);
-    Out {
-        lit: x.lit,
-        cur: x.pen.cur,
-        var: x.pen.var,
-    }
+    encode_test(file, file, p + 8, shape, bits, buf, pen)
 }
 
 // and(and(equal(status, constant), event), guard)

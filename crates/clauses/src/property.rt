@@ -1,20 +1,24 @@
-// The gates of a property: property 0's expression, the chain over the invalid cells, or the constraint.
+// The gates of a property: property 0's expression, the chain over the invalid cells, or the constraint; then an and with the mark's negation.
 ghost use mathlib.Core.Path.{_≡_};
 ghost use mathlib.Core.Bool.{true};
 ghost use mathlib.Core.List.{List};
 ghost use Prim.Native.Nat.{ℕ};
 ghost use lib.ListN.{length};
-ghost use Rattle.design.specs.Limits.{maxBits};
+ghost use Rattle.design.specs.Limits.{maxBits, pairBits};
 ghost use Rattle.design.specs.Tree.{Design};
 ghost use Rattle.design.specs.Check.{eventIn};
 ghost use Rattle.design.specs.Sections.{Parts, CellFields};
 ghost use Rattle.step.specs.Piece.{pieceRight};
 ghost use Rattle.step.specs.Property.{propertyOf};
-ghost use Rattle.clauses.specs.Literal.{trueLiteral};
+ghost use Rattle.clauses.specs.Literal.{negate as negated, trueLiteral};
+ghost use Rattle.clauses.specs.Circuit.{and! };
+ghost use Rattle.clauses.specs.Expression.{test! };
 ghost use Rattle.clauses.specs.Writing.{fromCode};
+ghost use Rattle.clauses.specs.FlatState.{layoutOf, readSlots};
+ghost use Rattle.clauses.specs.Encoders.{Gives};
 ghost use Rattle.clauses.specs.Ready.{ShapedFile, Ready, LinkGates, InvalidGates, PropertyGates, StepPropertyGates};
 use super::clause::two_states;
-use super::expression::encode_bool;
+use super::expression::encode_test;
 use super::gate::Cursor;
 use super::gate::Out;
 use super::gate::emit_and;
@@ -31,6 +35,7 @@ use design::index::has_constraint;
 use design::index::trailer_word;
 use design::limits::EVENT_PLACES;
 use design::limits::MAX_BITS;
+use design::limits::PAIR_BITS;
 use design::shape::Shape;
 use step::limits::CONSTRAINT;
 use step::piece::expression;
@@ -100,6 +105,13 @@ pub fn encode_invalid(
     }
 }
 
+// A property's end: an and with the mark's negation.
+pub fn unmarked(x: Out, mark: u32, buf: &mut [i32]) -> Out
+    ensures { λ r. ⌜ Gives (record { cur = x .cur; var = x .var }) (and! (fromCode (x .lit)) (negated (fromCode mark))) (now (buf .entry)) (now (buf .exit)) r ⌝ }
+{
+    emit_and(buf, x.cur, x.var, x.lit, negate(mark))
+}
+
 // The property in the frame whose state has the literals `bits`.
 pub fn encode_property<'a>(
     file: &'a [u8],
@@ -118,15 +130,12 @@ pub fn encode_property<'a>(
     let property = inst.property;
     if property == 0 {
         let text = expression(file, piece);
-        let x = encode_bool(text, file, 0, shape, bits, buf, pen);
-        return Out {
-            lit: x.lit,
-            cur: x.pen.cur,
-            var: x.pen.var,
-        };
+        let x = encode_test(text, file, 0, shape, bits, buf, pen);
+        return unmarked(x, bits[shape.bits - 1], buf);
     }
     if property == 1 {
-        return encode_invalid(file, events, shape, bits, buf, pen);
+        let x = encode_invalid(file, events, shape, bits, buf, pen);
+        return unmarked(x, bits[shape.bits - 1], buf);
     }
     no_property(pen)
 }
@@ -140,6 +149,25 @@ pub fn no_property(pen: Cursor) -> Out
         cur: pen.cur,
         var: pen.var,
     }
+}
+
+// The constraint over the literals of two states; an absent one is true.
+pub fn encode_constraint(
+    file: &[u8],
+    shape: Shape,
+    both: &[u32; PAIR_BITS],
+    buf: &mut [i32],
+    pen: Cursor,
+) -> Out
+    requires { ⌜ ShapedFile (now file) shape × (length (now both) ≡ pairBits) ⌝ }
+    ensures { λ r. ⌜ ((d : Design) (parts : Parts (now (file .entry)) d)
+        → Gives pen (test! (layoutOf shape) (readSlots true (now (file .entry)) shape (now (both .entry))) (d .constraint)) (now (buf .entry)) (now (buf .exit)) r) ⌝ }
+{
+    if !has_constraint(file) {
+        return no_property(pen);
+    }
+    let stands = constraint(file);
+    encode_test(file, file, stands.at, shape, both, buf, pen)
 }
 
 // Property 2 in the step out of the state whose first variable is v; the next state's is `after`. Other properties have no gates there. No piece is read.
@@ -159,15 +187,7 @@ pub fn encode_step_property(
     if property < CONSTRAINT {
         return no_property(pen);
     }
-    if !has_constraint(file) {
-        return no_property(pen);
-    }
-    let stands = constraint(file);
     let both = two_states(v, after, shape.bits);
-    let x = encode_bool(file, file, stands.at, shape, &both, buf, pen);
-    Out {
-        lit: x.lit,
-        cur: x.pen.cur,
-        var: x.pen.var,
-    }
+    let x = encode_constraint(file, shape, &both, buf, pen);
+    unmarked(x, both[2 * shape.bits - 1], buf)
 }

@@ -91,7 +91,7 @@ module _ (names : Names) where
     pub statuses : (next : Bool) (m : ℕ) → Legal next → m < names .matrices → getD ws (statusSlot l (number next m)) 0 ≡ statusWidth
 
 -- So have those of two states, whose slots follow one another, if those of one have.
-module _ (names : Names) (ws : List ℕ) (l : Layout) (s : l .statuses ≡ names .variables) (n : length ws ≡ names .variables + names .matrices) (ok : NamesOk (withLater false names) ws l) where
+module _ (names : Names) (ws : List ℕ) (l : Layout) (s : l .statuses ≡ names .variables) (n : length ws ≡ names .variables + names .matrices + 1) (ok : NamesOk (withLater false names) ws l) where
   near : (i w : ℕ) → i < length ws → getD ws i 0 ≡ w → getD (ws ++ ws) i 0 ≡ w
   near i w h e = List·getD-append ws ws 0 i h ∙ e
 

@@ -16,7 +16,7 @@ use Rattle.design.specs.Reading.{got, Read}
 use Rattle.design.specs.Expression.{Names, withLater, boolExpr}
 use Rattle.design.specs.DesignFile.{item, need, filling, Matrix, Entry, normal, invalid, kind, variableAt, matrixAt, eventAt, events, statuses, cellAt, c-past, fields, ending, ordered, guard, action, entry}
 use Rattle.design.specs.Check.{accepted, normals, invalids, hasConstraint, itemsEnd, constraintOffset, variableCount, matricesOffset, matrixCount, eventsOffset, invariantOffset, names, check, eventIn}
-use Rattle.design.specs.WellFormed.{Narrow, IsStatus, IsInteger, IsBoolean, BoolOk, StmtsOk, InRange, CellOk, InvalidOk, MoversOk, InvalidsOk, CountsOk, StatusesOk, WellFormed}
+use Rattle.design.specs.WellFormed.{Narrow, IsStatus, HasMark, IsInteger, IsBoolean, BoolOk, StmtsOk, InRange, CellOk, InvalidOk, MoversOk, InvalidsOk, CountsOk, StatusesOk, WellFormed}
 use Rattle.design.proofs.Widths.{matrix-count}
 use Rattle.design.proofs.Trees.{All, Legal, number, NamesOk, two-states, bool-ok, list-ok}
 use Rattle.design.specs.Sections.{Run, Rows, Cells, Parts}
@@ -132,12 +132,12 @@ module _ (file : List ℕ) (end : ℕ) (bytes : (i : ℕ) → getD file i 0 < 25
       let f = matrix-right at x (r .0) (r .1) in
       (omega (arith, f .count, f .some), omega (arith, f .count, f .statuses), counts-ok xs (r .0) past (r .2))
 
-fours : (k : ℕ) → Narrow (replicate k 4)
-fours zero = tt
+fours : (k : ℕ) → Narrow (replicate k 4 ++ (1 ∷ []))
+fours zero = (omega arith, tt)
 fours (suc k) = (omega arith, fours k)
 
-zeros : (k : ℕ) → InRange (replicate k 4) (replicate k 0)
-zeros zero = tt
+zeros : (k : ℕ) → InRange (replicate k 4 ++ (1 ∷ [])) (replicate k 0 ++ (0 ∷ []))
+zeros zero = (omega arith, tt)
 zeros (suc k) = (omega arith, zeros k)
 
 -- what fills its length is what was read
@@ -154,10 +154,14 @@ module _ (file : List ℕ) (bytes : (i : ℕ) → getD file i 0 < 256) (d : Desi
   abbrev M : ℕ
   M = matricesOffset file
 
+  -- the widths behind the variables
+  abbrev behind : List ℕ
+  behind = replicate (length (d .statuses)) 4 ++ (1 ∷ [])
+
   variable-widths : (v : ℕ) → v < variableCount file → getD (widths d) v 0 ≡ width (kind (getD file (3 * v) 0))
   unfolding widths
   variable-widths v h =
-      List·getD-append (map wide (d .variables)) (replicate (length (d .statuses)) 4) 0 v (omega (arith, length-map (d .variables) wide, p .variable-count))
+      List·getD-append (map wide (d .variables)) behind 0 v (omega (arith, length-map (d .variables) wide, p .variable-count))
       ∙ variable-width file E bytes (d .variables) 0 M (p .variable-run) v (3 * v) (omega arith) (omega (arith, p .variable-count))
 
   flags : (v : ℕ) → v < variableCount file → (getD file (3 * v) 0 ≡ 1 → ⊥) → IsBoolean (widths d) (layout d) v
@@ -168,21 +172,37 @@ module _ (file : List ℕ) (bytes : (i : ℕ) → getD file i 0 < 256) (d : Desi
   unfolding layout
   ints v h k = record { inside = omega (arith, p .variable-count); width = variable-widths v h ∙ int-width _ k }
 
+  behind-at : (i : ℕ) → getD (map wide (d .variables) ++ behind) (length (d .variables) + i) 0 ≡ getD behind i 0
+  behind-at i =
+      ap (λ (j : ℕ). getD (map wide (d .variables) ++ behind) (j + i) 0) (sym (length-map (d .variables) wide))
+      ∙ getD-append-add (map wide (d .variables)) behind i 0
+
   status-width : (m : ℕ) → m < matrixCount file → IsStatus (widths d) (layout d) m
   unfolding widths layout
   status-width m h =
       record {
         inside = omega (arith, matrix-count file d p);
-        width = ap (λ (i : ℕ). getD (map wide (d .variables) ++ replicate (length (d .statuses)) 4) (i + m) 0) (sym (length-map (d .variables) wide))
-            ∙ getD-append-add (map wide (d .variables)) (replicate (length (d .statuses)) 4) m 0
+        width = behind-at m
+            ∙ List·getD-append (replicate (length (d .statuses)) 4) (1 ∷ []) 0 m (omega (arith, length-replicate {A = ℕ} (length (d .statuses)) 4, matrix-count file d p))
             ∙ getD-replicate (length (d .statuses)) m 4 0 (omega (arith, matrix-count file d p));
       }
 
-  slots : length (widths d) ≡ variableCount file + matrixCount file
+  mark-width : HasMark (widths d) (layout d)
+  unfolding widths layout
+  mark-width =
+      record {
+        inside = omega arith;
+        behind = omega arith;
+        width = behind-at (length (d .statuses))
+            ∙ ap (λ (i : ℕ). getD behind i 0) (let b = length-replicate {A = ℕ} (length (d .statuses)) 4 in let z : length (d .statuses) ≡ length (replicate {A = ℕ} (length (d .statuses)) 4) + 0 = omega arith in z)
+            ∙ getD-append-add (replicate (length (d .statuses)) 4) (1 ∷ []) 0 0;
+      }
+
+  slots : length (widths d) ≡ variableCount file + matrixCount file + 1
   unfolding widths
   slots =
-      length-append (map wide (d .variables)) (replicate (length (d .statuses)) 4)
-      ∙ (let a = length-map (d .variables) wide in let b = length-replicate {A = ℕ} (length (d .statuses)) 4 in omega (arith, p .variable-count, matrix-count file d p))
+      length-append (map wide (d .variables)) behind
+      ∙ (let a = length-map (d .variables) wide in let b = length-replicate {A = ℕ} (length (d .statuses)) 4 in let c : length behind ≡ length (replicate {A = ℕ} (length (d .statuses)) 4) + 1 = length-append (replicate (length (d .statuses)) 4) (1 ∷ []) in omega (arith, p .variable-count, matrix-count file d p))
 
   -- the names of a state have their widths, and with the next state those of two
   names-ok : NamesOk N (widths d) (layout d)
@@ -346,15 +366,16 @@ module _ (file : List ℕ) (bytes : (i : ℕ) → getD file i 0 < 256) (d : Desi
       record {
         some-mover = some;
         few-movers = few;
-        narrow = variables-small file E bytes (d .variables) 0 0 (replicate (length (d .statuses)) 4) (fours (length (d .statuses)));
+        narrow = variables-small file E bytes (d .variables) 0 0 behind (fours (length (d .statuses)));
+        mark = mark-width;
         movers = subst (λ (l : List Cell). MoversOk (widths d) (layout d) (map cell l ++ externals 0 (d .variables))) (sym (p .cells))
-            (normals-ok (p .entries) all (externals 0 (d .variables)) (externals-ok (d .variables) 0 (omega arith) (λ i l. ap (λ (j : ℕ). getD (widths d) j 0) (let z : 0 + i ≡ i = omega arith in z) ∙ List·getD-append (map wide (d .variables)) (replicate (length (d .statuses)) 4) 0 i (omega (arith, length-map (d .variables) wide)))));
+            (normals-ok (p .entries) all (externals 0 (d .variables)) (externals-ok (d .variables) 0 (omega arith) (λ i l. ap (λ (j : ℕ). getD (widths d) j 0) (let z : 0 + i ≡ i = omega arith in z) ∙ List·getD-append (map wide (d .variables)) behind 0 i (omega (arith, length-map (d .variables) wide)))));
         counts = subst CountsOk (sym (p .statuses)) (counts-ok file E bytes (p .matrices) M (eventsOffset file) (p .matrix-run));
         statuses = subst (StatusesOk (d .statuses)) (sym (p .cells)) (statuses-ok (p .entries) all);
         invariant = invariant-ok;
         constraint = constraint-ok;
         invalid = subst (InvalidsOk (widths d) (layout d)) (sym (p .invalid)) (invalids-ok (p .entries) all);
-        start = variables-range file E bytes (d .variables) 0 M (p .variable-run) (replicate (length (d .statuses)) 4) (replicate (length (d .statuses)) 0) (zeros (length (d .statuses)));
+        start = variables-range file E bytes (d .variables) 0 M (p .variable-run) behind (replicate (length (d .statuses)) 0 ++ (0 ∷ [])) (zeros (length (d .statuses)));
       }
 
 -- THE THEOREM: the tree of an accepted design is well formed.

@@ -9,7 +9,7 @@ use lib.ListN.{length, getD, replicate, length-map}
 use lib.Dec.{eqb, leb}
 use borrow.Author.Tests.{leb-true}
 use Rattle.design.specs.Tree.{Variable, Design}
-use Rattle.design.specs.State.{layoutIn, layout, width, statusWidth, widths, widthsFrom, widthsOf, total, S}
+use Rattle.design.specs.State.{layoutIn, layout, width, statusWidth, markWidth, widths, widthsFrom, widthsOf, total, S}
 use Rattle.design.specs.DesignFile.{Item, item, need, kind, at8, at16, Matrix, variableAt}
 use Rattle.design.specs.Check.{itemsEnd, variableCount, matrixCount}
 use Rattle.design.specs.Sections.{Run, Parts}
@@ -67,10 +67,10 @@ adding-on file v sum i w h e l =
 pub adding-end : (file : List ℕ) (v sum i : ℕ) → v ≤ i → Adding file v sum i → sum ≡ total (widthsFrom file 0 v)
 adding-end file v sum i h l = l .same ∙ ap (λ (k : ℕ). total (widthsFrom file 0 k)) (let q : i ≡ v = omega (arith, l .within) in q)
 
--- the variables' bits, and 4 for each status
-pub state-size : (file : List ℕ) (nv nm o : ℕ) → o ≡ total (widthsFrom file 0 nv) → o + 4 * nm ≡ total (widthsOf file nv nm)
+-- the variables' bits, 4 for each status, and 1 for the mark
+pub state-size : (file : List ℕ) (nv nm o : ℕ) → o ≡ total (widthsFrom file 0 nv) → o + 4 * nm + 1 ≡ total (widthsOf file nv nm)
 unfolding widthsOf
-state-size file nv nm o e = omega (arith, total-append (widthsFrom file 0 nv) (replicate nm 4), statuses-total nm)
+state-size file nv nm o e = omega (arith, total-append (widthsFrom file 0 nv) (replicate nm 4 ++ (1 ∷ [])), total-append (replicate nm 4) (1 ∷ []), statuses-total nm)
 
 -- a variable of an accepted file: its kind is that of its byte
 pub variable-is : (file : List ℕ) (end at n : ℕ) (x : Variable) → variableAt file end at ≡ item x n
@@ -113,7 +113,7 @@ module _ (file : List ℕ) (d : Design) (p : Parts file d) where
     widths-are =
         ap₂ (λ (a b : List ℕ). a ++ b)
         (ap (widthsFrom file 0) (e ∙ sym (p .variable-count)) ∙ widths-run file (itemsEnd file) 0 0 _ (d .variables) refl (p .variable-run))
-        (ap (λ (n : ℕ). replicate n statusWidth) (q ∙ sym matrix-count))
+        (ap (λ (n : ℕ). replicate n statusWidth ++ (markWidth ∷ [])) (q ∙ sym matrix-count))
 
     pub layout-is : layoutIn nv nm ≡ layout d
     unfolding layout

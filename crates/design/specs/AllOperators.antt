@@ -44,8 +44,8 @@ design = record {
   } ∷ [];
   invalid = record { matrix = 0; status = 1; event = orB (variableB 2) (equal (status 0) (variable 1)) } ∷ [];
   invariant = less (variable 1) (constant 10);
-  -- a state has 4 slots, 3 variables and a status: in the next state, variable 2, variable 1 and status 0
-  constraint = andB (variableB 6) (equal (variable 5) (status 4));
+  -- a state has 5 slots, 3 variables, a status and the mark: in the next state, variable 2, variable 1 and status 0
+  constraint = andB (variableB 7) (equal (variable 6) (status 5));
 }
 
 reads-all : check bytes ≡ accepted design

@@ -1,5 +1,5 @@
 -- Two designs of version 2 (document 02, R-1) by computation, those of designs/moved.stm and designs/no-idle.stm. Both have two variables, an external and an
--- integer c, and one matrix: a state has 3 slots, so `variableB 3` is the external, `variable 4` is c and `status 3` the status in the next state.
+-- integer c, and one matrix: a state has 4 slots, the mark being the last, so `variableB 4` is the external, `variable 5` is c and `status 4` the status in the next state.
 use mathlib.Core.Path.{_≡_, refl}
 use mathlib.Core.Bool.{true}
 use mathlib.Core.List.{List, [], _∷_, _++_}
@@ -26,14 +26,14 @@ designMoved = record {
   cells = designA .cells;
   invalid = designA .invalid;
   invariant = designA .invariant;
-  constraint = orB (notB (andB (equal (status 0) (constant 1)) (equal (status 3) (constant 0)))) (less (variable 4) (constant 2));
+  constraint = orB (notB (andB (equal (status 0) (constant 1)) (equal (status 4) (constant 0)))) (less (variable 5) (constant 2));
 }
 
 pub check-moved : check bytesMoved ≡ accepted designMoved
 unfolding checking bytesA bytesMoved designA designMoved count
 check-moved = refl
 
--- The one cell counts while the external is true. The constraint: c or the external is another one next, so that only an idle step breaks it.
+-- The one cell counts while the external is true. The constraint: c or the external is another one next, so that only an idle step or the mark breaks it.
 unfoldable pub bytesNoIdle : List ℕ
 bytesNoIdle =
     0x02 ∷ 0x00 ∷ 0x00 ∷
@@ -56,7 +56,7 @@ designNoIdle = record {
   cells = record { matrix = 0; status = 0; event = variableB 0; target = 0; guard = constantB true; action = count } ∷ [];
   invalid = [];
   invariant = constantB true;
-  constraint = notB (andB (equal (variable 1) (variable 4)) (orB (andB (variableB 0) (variableB 3)) (andB (notB (variableB 0)) (notB (variableB 3)))));
+  constraint = notB (andB (equal (variable 1) (variable 5)) (orB (andB (variableB 0) (variableB 4)) (andB (notB (variableB 0)) (notB (variableB 4)))));
 }
 
 pub check-noIdle : check bytesNoIdle ≡ accepted designNoIdle

@@ -20,3 +20,4 @@ pub mod DesignA
 pub mod AllOperators
 pub mod Constrained
 pub mod Multiplied
+pub mod Passing

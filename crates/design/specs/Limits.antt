@@ -54,15 +54,15 @@ maxNest = 4
 abbrev pub eventPlaces : ℕ
 eventPlaces = maxMatrices * maxEvents
 
--- slots of a state, and their bits where every variable is an integer; slots and bits of two states
+-- slots of a state, the mark among them (document 02, R-5), and their bits where every variable is an integer; slots and bits of two states
 abbrev pub maxSlots : ℕ
-maxSlots = maxVariables + maxMatrices
+maxSlots = maxVariables + maxMatrices + 1
 
 abbrev pub pairSlots : ℕ
 pairSlots = 2 * maxSlots
 
 abbrev pub maxBits : ℕ
-maxBits = 16 * maxVariables + 4 * maxMatrices
+maxBits = 16 * maxVariables + 4 * maxMatrices + 1
 
 abbrev pub pairBits : ℕ
 pairBits = 2 * maxBits

@@ -1,4 +1,5 @@
--- The state of a design: one flat list of slots, in the order of its bits (document 01: "State bits S, low first: variables, then statuses.").
+-- The state of a design: one flat list of slots, in the order of its bits (document 01: "State bits S, low first: variables, then statuses."; document 02, R-5: "The state
+-- gains one mark, last among the state bits and 0 at the start.").
 -- A slot holds a number below 2 to the power of its width.
 use mathlib.Core.Bool.{Bool, true, false, cond}
 use mathlib.Core.List.{List, [], _∷_, _++_, map}
@@ -11,14 +12,16 @@ use Rattle.design.specs.Tree.{Kind, boolean, integer, external, Variable
 abbrev pub State : Type 0
 State = List ℕ
 
--- Where the slots of each part begin and end: variables from 0 up to `statuses`, statuses from there up to `end`. A later part begins where the one before ends.
+-- Where the slots of each part begin and end: variables from 0 up to `statuses`, statuses from there up to `mark`, and the mark is the last slot before `end`. Each part
+-- begins where the one before it ends.
 pub record Layout : Type 0 where
   pub statuses : ℕ
+  pub mark : ℕ
   pub end : ℕ
 
 -- of so many variables and matrices, and of a design
 abbrev pub layoutIn : ℕ → ℕ → Layout
-layoutIn variables matrices = record { statuses = variables; end = variables + matrices }
+layoutIn variables matrices = record { statuses = variables; mark = variables + matrices; end = variables + matrices + 1 }
 
 unfoldable pub layout : Design → Layout
 layout d = layoutIn (length (d .variables)) (length (d .statuses))
@@ -28,7 +31,7 @@ abbrev pub slotsBetween : ℕ → ℕ → State → List ℕ
 slotsBetween from to s = take (to - from) (drop from s)
 
 abbrev pub statusesIn : Layout → State → List ℕ
-statusesIn l s = slotsBetween (l .statuses) (l .end) s
+statusesIn l s = slotsBetween (l .statuses) (l .mark) s
 
 -- Two successive states are one list of slots, those of the later state behind those of the earlier one (document 02, R-1). There slot i of the later state,
 -- and its variable or status i, has this number.
@@ -44,7 +47,7 @@ numberIn l true i = laterSlot l i
 abbrev pub statusSlot : Layout → ℕ → ℕ
 statusSlot l m = l .statuses + m
 
--- Bits of a slot: a Boolean or external 1, an integer 16, a status 4.
+-- Bits of a slot: a Boolean or external 1, an integer 16, a status 4, the mark 1.
 abbrev pub width : Kind → ℕ
 width boolean = 1
 width integer = 16
@@ -53,8 +56,11 @@ width external = 1
 abbrev pub statusWidth : ℕ
 statusWidth = 4
 
+abbrev pub markWidth : ℕ
+markWidth = 1
+
 unfoldable pub widths : Design → List ℕ
-widths d = map (λ (x : Variable). width (x .kind)) (d .variables) ++ replicate (length (d .statuses)) statusWidth
+widths d = map (λ (x : Variable). width (x .kind)) (d .variables) ++ (replicate (length (d .statuses)) statusWidth ++ (markWidth ∷ []))
 
 -- The same by the file's bytes: the widths of n variables from v on, and of all slots.
 unfoldable pub widthsFrom : List ℕ → ℕ → ℕ → List ℕ
@@ -62,7 +68,7 @@ widthsFrom file v zero = []
 widthsFrom file v (suc n) = cond (eqb (getD file (3 * v) 0) 1) 16 1 ∷ widthsFrom file (suc v) n
 
 unfoldable pub widthsOf : List ℕ → ℕ → ℕ → List ℕ
-widthsOf file nv nm = widthsFrom file 0 nv ++ replicate nm statusWidth
+widthsOf file nv nm = widthsFrom file 0 nv ++ (replicate nm statusWidth ++ (markWidth ∷ []))
 
 abbrev pub total : List ℕ → ℕ
 total [] = 0
@@ -72,9 +78,9 @@ total (x ∷ xs) = x + total xs
 unfoldable pub S : Design → ℕ
 S d = total (widths d)
 
--- The first state: the initial values, and every status 0.
+-- The first state: the initial values, every status 0, and the mark 0.
 unfoldable pub start : Design → State
-start d = map (λ (x : Variable). x .initial) (d .variables) ++ replicate (length (d .statuses)) 0
+start d = map (λ (x : Variable). x .initial) (d .variables) ++ (replicate (length (d .statuses)) 0 ++ (0 ∷ []))
 
 -- By a shape: the layout, and how many slots there are.
 abbrev pub layoutOf : Shape → Layout

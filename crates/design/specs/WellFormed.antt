@@ -6,7 +6,7 @@ use Prim.Native.Nat.{ℕ, _^_, _<_, _≤_}
 use lib.ListN.{length, getD}
 use Rattle.design.specs.Limits.{maxStatuses, maxMovers}
 use Rattle.design.specs.Tree.{IntExpr, BoolExpr, Stmt, Stmts, constant, variable, status, sum, difference, product, constantB, variableB, notB, andB, orB, equal, less, assign, assignB, ifElse, done, then, Cell, InvalidCell, Design, Mover, cell, raise, movers}
-use Rattle.design.specs.State.{Layout, layout, statusSlot, statusWidth, widths, start}
+use Rattle.design.specs.State.{Layout, layout, statusSlot, statusWidth, markWidth, widths, start}
 
 -- no slot is wider than an integer
 abbrev pub Narrow : List ℕ → Type 0
@@ -24,8 +24,14 @@ InRange (w ∷ ws) (v ∷ vs) = (v < 2 ^ w) × InRange ws vs
 module _ (ws : List ℕ) (l : Layout) where
   -- matrix m is there: its status's slot lies among the statuses
   pub record IsStatus (m : ℕ) : Type 0 where
-    pub inside : statusSlot l m < l .end
+    pub inside : statusSlot l m < l .mark
     pub width : getD ws (statusSlot l m) 0 ≡ statusWidth
+
+  -- the mark is there: its slot lies behind the variables and before the end, and has one bit
+  pub record HasMark : Type 0 where
+    pub inside : l .mark < l .end
+    pub behind : l .statuses ≤ l .mark
+    pub width : getD ws (l .mark) 0 ≡ markWidth
 
   -- variable v is there: its slot lies among the variables, and has so many bits
   pub record HasBits (v bits : ℕ) : Type 0 where
@@ -104,6 +110,7 @@ StatusesOk counts (c ∷ cs) = (c .status < getD counts (c .matrix) 0) × (c .ta
 
 pub record WellFormed (d : Design) : Type 0 where
   pub narrow : Narrow (widths d)
+  pub mark : HasMark (widths d) (layout d)
   pub some-mover : 1 ≤ length (movers d)
   pub few-movers : length (movers d) ≤ maxMovers
   pub movers : MoversOk (widths d) (layout d) (movers d)

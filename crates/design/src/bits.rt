@@ -1,4 +1,4 @@
-// The state's bits, by the bytes of the variables: a Boolean's or external's 1, an integer's 16, a status's 4.
+// The state's bits, by the bytes of the variables: a Boolean's or external's 1, an integer's 16, a status's 4, the mark's 1.
 ghost use mathlib.Core.Path.{_≡_};
 ghost use mathlib.Core.Bool.{cond};
 ghost use Prim.Native.Nat.{_*_, _≤_};
@@ -36,5 +36,5 @@ pub fn state_bits(file: &[u8], variables: usize, matrices: usize) -> usize
     ensures { λ r. ⌜ (r ≡ total (widthsOf (now (file .entry)) variables matrices)) × (r ≤ maxBits) ⌝ }
     ensures { λ r. ⌜ ((d : Design) → Parts (now (file .entry)) d → variables ≡ variableCount (now (file .entry)) → matrices ≡ matrixCount (now (file .entry)) → r ≡ S d) ⌝ }
 {
-    offset(file, variables) + 4 * matrices
+    offset(file, variables) + 4 * matrices + 1
 }

@@ -34,12 +34,12 @@ pub const EVENT_ROW: usize = 16;
 
 pub const EVENT_PLACES: usize = MAX_MATRICES * EVENT_ROW;
 
-// Slots of a state, and their bits where every variable is an integer; slots and bits of two states.
-pub const MAX_SLOTS: usize = MAX_VARIABLES + MAX_MATRICES;
+// Slots of a state, the mark among them, and their bits where every variable is an integer; slots and bits of two states.
+pub const MAX_SLOTS: usize = MAX_VARIABLES + MAX_MATRICES + 1;
 
 pub const PAIR_SLOTS: usize = 2 * MAX_SLOTS;
 
-pub const MAX_BITS: usize = 16 * MAX_VARIABLES + 4 * MAX_MATRICES;
+pub const MAX_BITS: usize = 16 * MAX_VARIABLES + 4 * MAX_MATRICES + 1;
 
 pub const PAIR_BITS: usize = 2 * MAX_BITS;
 

@@ -49,5 +49,5 @@ pub fn slot_count(shape: Shape) -> usize
     requires { ⌜ (shape .variables ≤ maxVariables) × (shape .matrices ≤ maxMatrices) ⌝ }
     ensures { λ r. ⌜ (r ≡ slotCount shape) × (r ≤ maxSlots) ⌝ }
 {
-    shape.variables + shape.matrices
+    shape.variables + shape.matrices + 1
 }

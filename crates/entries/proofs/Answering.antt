@@ -21,21 +21,28 @@ module _ {A : Type 0} (r : Refusal) (answer : A) (refused : ℕ → A) where
   pub answer-exit : r .number ≡ 0 → answer ≡ answered r answer refused
   answer-exit h = sym (ap (λ (t : Bool). cond t answer (refused (codeOf r))) (eq-eqb (r .number) 0 h))
 
-module _ (r after : Started) (says : r ≡ after) (values : List ℤ) (statuses : List ℕ) where
-  pub start-refused : (k : ℕ) → (r .refusal .number ≡ 0 → ⊥) → k ≡ codeOf (r .refusal) → _≡_ {A = StartReturn} (record { code = k; values = values; statuses = statuses }) (startReturn after values statuses)
-  start-refused k h e = refused-exit (r .refusal) _ (λ (j : ℕ). record { code = j; values = values; statuses = statuses }) k h e ∙ ap (λ (x : Started). startReturn x values statuses) says
+module _ (r after : Started) (says : r ≡ after) (values : List ℤ) (statuses mark : List ℕ) where
+  abbrev kept : ℕ → StartReturn
+  kept j = record { code = j; values = values; statuses = statuses; mark = mark }
 
-  pub start-told : r .refusal .number ≡ 0 → _≡_ {A = StartReturn} (record { code = 0; values = r .values; statuses = r .statuses }) (startReturn after values statuses)
-  start-told h = answer-exit (r .refusal) _ (λ (j : ℕ). record { code = j; values = values; statuses = statuses }) h ∙ ap (λ (x : Started). startReturn x values statuses) says
+  pub start-refused : (k : ℕ) → (r .refusal .number ≡ 0 → ⊥) → k ≡ codeOf (r .refusal) → kept k ≡ startReturn after values statuses mark
+  start-refused k h e = refused-exit (r .refusal) _ kept k h e ∙ ap (λ (x : Started). startReturn x values statuses mark) says
 
-module _ (r after : Stepped) (says : r ≡ after) (values : List ℤ) (statuses idle : List ℕ) where
-  pub step-refused : (k : ℕ) → (r .refusal .number ≡ 0 → ⊥) → k ≡ codeOf (r .refusal) → _≡_ {A = StepReturn} (record { code = k; values = values; statuses = statuses; idle = idle }) (stepReturn after values statuses idle)
-  step-refused k h e = refused-exit (r .refusal) _ (λ (j : ℕ). record { code = j; values = values; statuses = statuses; idle = idle }) k h e ∙ ap (λ (x : Stepped). stepReturn x values statuses idle) says
+  pub start-told : r .refusal .number ≡ 0 → _≡_ {A = StartReturn} (record { code = 0; values = r .values; statuses = r .statuses; mark = r .mark ∷ [] }) (startReturn after values statuses mark)
+  start-told h = answer-exit (r .refusal) _ kept h ∙ ap (λ (x : Started). startReturn x values statuses mark) says
 
-  pub step-told : (i : ℕ) → r .refusal .number ≡ 0 → i ≡ bit (r .idle) → _≡_ {A = StepReturn} (record { code = 0; values = r .values; statuses = r .statuses; idle = i ∷ [] }) (stepReturn after values statuses idle)
-  step-told i h e =
-      ap {B = StepReturn} (λ (j : ℕ). record { code = 0; values = r .values; statuses = r .statuses; idle = j ∷ [] }) e
-      ∙ answer-exit (r .refusal) _ (λ (j : ℕ). record { code = j; values = values; statuses = statuses; idle = idle }) h ∙ ap (λ (x : Stepped). stepReturn x values statuses idle) says
+module _ (r after : Stepped) (says : r ≡ after) (values : List ℤ) (statuses mark idle : List ℕ) where
+  abbrev unchanged : ℕ → StepReturn
+  unchanged j = record { code = j; values = values; statuses = statuses; mark = mark; idle = idle }
+
+  abbrev after-step : ℕ → StepReturn
+  after-step i = record { code = 0; values = r .values; statuses = r .statuses; mark = r .mark ∷ []; idle = i ∷ [] }
+
+  pub step-refused : (k : ℕ) → (r .refusal .number ≡ 0 → ⊥) → k ≡ codeOf (r .refusal) → unchanged k ≡ stepReturn after values statuses mark idle
+  step-refused k h e = refused-exit (r .refusal) _ unchanged k h e ∙ ap (λ (x : Stepped). stepReturn x values statuses mark idle) says
+
+  pub step-told : (i : ℕ) → r .refusal .number ≡ 0 → i ≡ bit (r .idle) → after-step i ≡ stepReturn after values statuses mark idle
+  step-told i h e = ap after-step e ∙ answer-exit (r .refusal) _ unchanged h ∙ ap (λ (x : Stepped). stepReturn x values statuses mark idle) says
 
 module _ (r after : Held) (says : r ≡ after) (holds : List ℕ) where
   pub holds-refused : (k : ℕ) → (r .refusal .number ≡ 0 → ⊥) → k ≡ codeOf (r .refusal) → _≡_ {A = HoldsReturn} (record { code = k; holds = holds }) (holdsReturn after holds)

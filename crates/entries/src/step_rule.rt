@@ -23,8 +23,10 @@ pub extern "C" fn stm_start(
     file: &[u8],
     values: &mut [i16; MAX_VARIABLES],
     statuses: &mut [u16; MAX_MATRICES],
+    mark: &mut [u16; 1],
 ) -> u64
-    ensures { λ r. ⌜ record { code = r; values = now (values .exit); statuses = now (statuses .exit) } ≡ startEntry (now (file .entry)) (now (values .entry)) (now (statuses .entry)) ⌝ }
+    ensures { λ r. ⌜ record { code = r; values = now (values .exit); statuses = now (statuses .exit); mark = now (mark .exit) }
+        ≡ startEntry (now (file .entry)) (now (values .entry)) (now (statuses .entry)) (now (mark .entry)) ⌝ }
 {
     let told = step::start(file);
     let refusal = told.refusal;
@@ -33,8 +35,10 @@ pub extern "C" fn stm_start(
     }
     let v = told.values;
     let s = told.statuses;
+    let m = told.mark;
     *values = v;
     *statuses = s;
+    *mark = [m];
     0
 }
 
@@ -43,22 +47,25 @@ pub extern "C" fn stm_step(
     file: &[u8],
     values: &mut [i16; MAX_VARIABLES],
     statuses: &mut [u16; MAX_MATRICES],
+    mark: &mut [u16; 1],
     choice: u64,
     idle: &mut [u8; 1],
 ) -> u64
-    ensures { λ r. ⌜ record { code = r; values = now (values .exit); statuses = now (statuses .exit); idle = now (idle .exit) }
-        ≡ stepEntry (now (file .entry)) (now (values .entry)) (now (statuses .entry)) choice (now (idle .entry)) ⌝ }
+    ensures { λ r. ⌜ record { code = r; values = now (values .exit); statuses = now (statuses .exit); mark = now (mark .exit); idle = now (idle .exit) }
+        ≡ stepEntry (now (file .entry)) (now (values .entry)) (now (statuses .entry)) (now (mark .entry)) choice (now (idle .entry)) ⌝ }
 {
-    let told = step::step(file, *values, *statuses, choice);
+    let told = step::step(file, *values, *statuses, mark[0], choice);
     let refusal = told.refusal;
     if refusal.number != 0 {
         return code_of(refusal.number, refusal.place);
     }
     let v = told.values;
     let s = told.statuses;
+    let m = told.mark;
     let i = flag(told.idle);
     *values = v;
     *statuses = s;
+    *mark = [m];
     *idle = [i];
     0
 }
@@ -68,12 +75,13 @@ pub extern "C" fn stm_holds(
     file: &[u8],
     values: &[i16; MAX_VARIABLES],
     statuses: &[u16; MAX_MATRICES],
+    mark: u16,
     property: u64,
     holds: &mut [u8; 1],
 ) -> u64
-    ensures { λ r. ⌜ record { code = r; holds = now (holds .exit) } ≡ holdsEntry (now (file .entry)) (now (values .entry)) (now (statuses .entry)) property (now (holds .entry)) ⌝ }
+    ensures { λ r. ⌜ record { code = r; holds = now (holds .exit) } ≡ holdsEntry (now (file .entry)) (now (values .entry)) (now (statuses .entry)) mark property (now (holds .entry)) ⌝ }
 {
-    let told = step::holds(file, *values, *statuses, property);
+    let told = step::holds(file, *values, *statuses, mark, property);
     let refusal = told.refusal;
     if refusal.number != 0 {
         return code_of(refusal.number, refusal.place);

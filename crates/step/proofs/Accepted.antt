@@ -78,3 +78,8 @@ module _ {A B C : Type 0} (f : A → B → B → C) where
   pub three-past : (x : Read A) (q : ℕ → Read B) → isRead (three x q) ≡ true → past (three x q) ≡ past (q (past (q (past x))))
   three-past (got a m) q h = two-past (f a) (q m) q h
   three-past bad q h = absurd (false≢true h)
+
+-- two things that are told of one reading
+pub both-value : {A P Q : Type 0} (f : A → P) (g : A → Q) (z : P) (w : Q) (x : Read A) → valueOf {B = P × Q} (λ (a : A). (f a, g a)) (z, w) x ≡ (valueOf f z x, valueOf g w x)
+both-value f g z w (got a n) = refl
+both-value f g z w bad = refl

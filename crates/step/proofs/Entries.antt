@@ -8,7 +8,7 @@ use native.Mathlib.Numerals.{add-one}
 use lib.ListN.{getD, length, take, drop, set, replicate, length-map, length-replicate, length-drop, List·getD-map}
 use lib.Seq.{paste, paste-zero, paste-suc, length-paste, take-all, getD-drop}
 use lib.Dec.{ltb, leb, eqb}
-use borrow.Author.Tests.{lt-ltb, le-ltb, ltb-true, ltb-false, ne-eqb}
+use borrow.Author.Tests.{lt-ltb, le-ltb, ltb-true, ltb-false, ne-eqb, le-leb, lt-leb}
 use Rattle.design.specs.Tree.{Kind, boolean, Variable, Design}
 use Rattle.design.specs.DesignFile.{Item, item, need, Matrix, kind, at8, matrixAt}
 use Rattle.design.specs.Limits.{maxStatuses, maxEvents, maxVariables, maxMatrices, maxSlots}
@@ -19,11 +19,11 @@ use Rattle.design.proofs.Sections.{whole, need-inv, item-same}
 use Rattle.design.proofs.Positions.{variable-stands, matrix-stands}
 use Rattle.design.proofs.Places.{read, matrix-inside}
 use Rattle.step.specs.Interface.{rightKind, valuesRight, statusesRight, firstWrong}
-use Rattle.step.specs.Entries.{valueRight, statusRight}
+use Rattle.step.specs.Entries.{valueRight, statusRight, testsOf}
+use Rattle.step.specs.declared.interface.Entries.{Entries}
 use Rattle.design.proofs.Widths.{variable-is, matrix-count}
 use Rattle.step.proofs.Looking.{Looking, looking-start, looking-wrong, looking-right, looking-end}
 use Rattle.step.proofs.Replays.{drop-replicate}
-use Rattle.step.proofs.Answering.{wrong-most}
 
 pub values-length : (xs : List Variable) (ps : List ℕ) → length (valuesRight xs ps) ≡ length ps
 values-length xs [] = refl
@@ -209,17 +209,36 @@ module _ (m : ℕ) where
   copying-from n src i now x l k e g =
       copying-on (replicate m 0) 0 (drop n src) i i now x 0 (omega arith) (let q : length (replicate {A = ℕ} m 0) ≡ m = length-replicate m 0 in omega arith) (let q = length-drop n src in omega arith) (e ∙ sym (getD-drop n src i 0)) g
 
--- the entries, values and then statuses
-module _ (xs : List Variable) (ns ps ss : List ℕ) (n : length ps ≡ maxVariables) where
-  pub first-entry : (i : ℕ) → i ≡ firstWrong (valuesRight xs ps) → i < maxVariables → i ≡ firstWrong (valuesRight xs ps ++ statusesRight ns ss)
-  first-entry i e l = first-of-two (valuesRight xs ps) (statusesRight ns ss) i e (omega (arith, values-length xs ps))
+-- an array of a struct, which a proof of code has element by element
+pub field-long : (xs : List ℕ) (n : ℕ) → length (map (λ (x : ℕ). x) xs) ≡ n → length xs ≡ n
+field-long xs n e = sym (length-map xs (λ (x : ℕ). x)) ∙ e
 
-  pub status-entry : (i m : ℕ) → i ≡ firstWrong (valuesRight xs ps) → maxVariables ≤ i → m ≡ firstWrong (statusesRight ns ss) → maxVariables + m ≡ firstWrong (valuesRight xs ps ++ statusesRight ns ss)
-  status-entry i m e l h = second-of-two (valuesRight xs ps) (statusesRight ns ss) m maxVariables (omega (arith, values-length xs ps)) (omega (arith, values-length xs ps)) h
+-- the entries: values, then statuses, then the mark
+module _ (d : Design) (e : Entries) (n : length (e .patterns) ≡ maxVariables) (k : length (e .statuses) ≡ maxMatrices) where
+  abbrev vt : List Bool
+  vt = valuesRight (d .variables) (e .patterns)
 
-  pub no-entry : length ss ≡ maxMatrices → (i m : ℕ) → i ≡ firstWrong (valuesRight xs ps) → maxVariables ≤ i → m ≡ firstWrong (statusesRight ns ss) → maxMatrices ≤ m → maxSlots ≡ firstWrong (valuesRight xs ps ++ statusesRight ns ss)
-  no-entry q i m e l h k =
-      let t = status-entry i m e l h in
-      let b = wrong-most (statusesRight ns ss) in
-      let c = statuses-length ns ss in
-      omega arith
+  abbrev st : List Bool
+  st = statusesRight (d .statuses) (e .statuses)
+
+  abbrev mt : List Bool
+  mt = leb (e .mark) 1 ∷ []
+
+  pub first-entry : (i : ℕ) → i ≡ firstWrong vt → i < maxVariables → i ≡ firstWrong (testsOf d e)
+  first-entry i h l = first-of-two vt (st ++ mt) i h (omega (arith, values-length (d .variables) (e .patterns)))
+
+  module _ (i m : ℕ) (h : i ≡ firstWrong vt) (l : maxVariables ≤ i) (q : m ≡ firstWrong st) where
+    behind-values : (j : ℕ) → j ≡ firstWrong (st ++ mt) → maxVariables + j ≡ firstWrong (testsOf d e)
+    behind-values j z = let x = values-length (d .variables) (e .patterns) in second-of-two vt (st ++ mt) j maxVariables (omega arith) (omega arith) z
+
+    pub status-entry : m < maxMatrices → maxVariables + m ≡ firstWrong (testsOf d e)
+    status-entry o = behind-values m (first-of-two st mt m q (omega (arith, statuses-length (d .statuses) (e .statuses))))
+
+    behind-statuses : maxMatrices ≤ m → (j : ℕ) → j ≡ firstWrong mt → maxVariables + (maxMatrices + j) ≡ firstWrong (testsOf d e)
+    behind-statuses o j z = let x = statuses-length (d .statuses) (e .statuses) in behind-values (maxMatrices + j) (second-of-two st mt j maxMatrices (omega arith) (omega arith) z)
+
+    pub mark-entry : maxMatrices ≤ m → 1 < e .mark → maxVariables + maxMatrices ≡ firstWrong (testsOf d e)
+    mark-entry o z = omega (arith, behind-statuses o 0 (sym (ap (λ (t : Bool). firstWrong (t ∷ [])) (lt-leb (e .mark) 1 z))))
+
+    pub no-entry : maxMatrices ≤ m → e .mark ≤ 1 → maxSlots ≡ firstWrong (testsOf d e)
+    no-entry o z = omega (arith, behind-statuses o 1 (sym (ap (λ (t : Bool). firstWrong (t ∷ [])) (le-leb (e .mark) 1 z))))

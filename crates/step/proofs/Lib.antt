@@ -2,6 +2,7 @@
 -- numbers
 pub mod Signed
 pub mod Patterns
+pub mod Exact
 -- expressions and statements over bytes
 pub mod Accepted
 pub mod Values
@@ -17,6 +18,7 @@ pub mod Properties
 pub mod Counts
 pub mod Replays
 pub mod Breaks
+pub mod Marks
 pub mod Ranges
 -- the calls
 pub mod Looking

@@ -12,7 +12,7 @@ use lib.ListN.{getD, length, take, drop, set, length-set, length-append, length-
 use lib.Seq.{paste, paste-zero, paste-suc, take-all, take-at, drop-at, length-take-le, getD-drop, drop-set-lt}
 use borrow.Rule.Slice.PartMut.{putMid}
 use Rattle.design.specs.Tree.{Design}
-use Rattle.design.specs.State.{State, Layout, layoutOf}
+use Rattle.design.specs.State.{State, Layout, layout, layoutOf}
 use Rattle.design.specs.Limits.{maxDepth}
 use Rattle.design.specs.Expression.{Names, withLater, boolExpr}
 use Rattle.design.specs.Check.{namesOf, hasConstraint, itemsEnd, constraintOffset}
@@ -22,13 +22,13 @@ use Rattle.design.specs.declared.shape.Shape.{Shape}
 use Rattle.step.specs.Evaluation.{evalBool}
 use Rattle.step.specs.Limits.{lastStateProperty}
 use Rattle.step.specs.Property.{propertyOf}
-use Rattle.step.specs.OneStep.{step, trueAt, holds}
+use Rattle.step.specs.OneStep.{marked, step, trueAt, holds}
 use Rattle.step.specs.Accepted.{isRead, boolValue}
 use Rattle.step.specs.Ready.{ReadyPair, beforeIn, keptIn, testedBy}
 use Rattle.step.specs.declared.mover.Tested.{Tested}
 use Rattle.design.proofs.Positions.{constraint-none}
 use Rattle.design.proofs.Indexed.{constraint-got, constraint-some}
-use Rattle.step.proofs.Scanning.{same-layout}
+use Rattle.step.proofs.Scanning.{same-layout, unmarked-counts, marked-fails}
 
 module _ (n : ℕ) (pair : State) (long : length pair ≡ n + n) where
   pub first-long : length (take n pair) ≡ n
@@ -129,7 +129,7 @@ kept-true file piece d p n pair false e s =
     let l : p ≤ lastStateProperty = ltb-false lastStateProperty p (sym e) in
     sym (state-true file piece d p l (some (take n pair)) s) ∙ state-true file piece d p l (some (drop n pair)) s
 
--- property 2 is true in the first state, and then as the constraint is of both states
+-- property 2 is true in the first state, and then as the constraint is of both states, where the later one's mark is not set
 module _ (file piece : List ℕ) (d : Design) (n : ℕ) (pair : State) where
   pub first-true : (p : ℕ) → lastStateProperty < p → (first : Bool) → first ≡ true → true ≡ trueAt d (propertyOf file piece d p) (beforeIn first n pair) (drop n pair)
   unfolding trueAt propertyOf
@@ -138,14 +138,27 @@ module _ (file piece : List ℕ) (d : Design) (n : ℕ) (pair : State) where
   first-true (suc (suc p)) l true e = refl
   first-true (suc (suc p)) l false e = absurd (false≢true e)
 
-  pub pair-true : (w : Parts file d) (h : Shape) → Shaped file h → (p : ℕ) → lastStateProperty < p → (first : Bool) → first ≡ false
-      → (r : Bool) → r ≡ evalBool (layoutOf h) pair (d .constraint) → r ≡ trueAt d (propertyOf file piece d p) (beforeIn first n pair) (drop n pair)
-  unfolding trueAt propertyOf
-  pair-true w h q zero l first e r k = absurd (omega arith)
-  pair-true w h q (suc zero) l first e r k = absurd (omega arith)
-  pair-true w h q (suc (suc p)) l true e r k = absurd (false≢true (sym e))
-  pair-true w h q (suc (suc p)) l false e r k =
-      k ∙ ap₂ (λ (y : Layout) (s : State). evalBool y s (d .constraint)) (same-layout file d w h q) (sym (take-append-drop n pair))
+  -- `part` is the second state, and t its mark as the code finds it
+  module _ (w : Parts file d) (h : Shape) (q : Shaped file h) (part : State) (o : part ≡ drop n pair) (t : Bool) (m : t ≡ marked (layoutOf h) part) where
+    mark-same : (b : Bool) → t ≡ b → marked (layout d) (drop n pair) ≡ b
+    mark-same b e = sym (ap₂ (λ (y : Layout) (s : State). marked y s) (same-layout file d w h q) o) ∙ sym m ∙ e
+
+    pub marked-pair : t ≡ true → (p : ℕ) → lastStateProperty < p → (first : Bool) → first ≡ false → false ≡ trueAt d (propertyOf file piece d p) (beforeIn first n pair) (drop n pair)
+    unfolding trueAt propertyOf
+    marked-pair e zero l first f = absurd (omega arith)
+    marked-pair e (suc zero) l first f = absurd (omega arith)
+    marked-pair e (suc (suc p)) l true f = absurd (false≢true (sym f))
+    marked-pair e (suc (suc p)) l false f = marked-fails (evalBool (layout d) (take n pair ++ drop n pair) (d .constraint)) _ (mark-same true e)
+
+    pub pair-true : t ≡ false → (p : ℕ) → lastStateProperty < p → (first : Bool) → first ≡ false
+        → (r : Bool) → r ≡ evalBool (layoutOf h) pair (d .constraint) → r ≡ trueAt d (propertyOf file piece d p) (beforeIn first n pair) (drop n pair)
+    unfolding trueAt propertyOf
+    pair-true e zero l first f r k = absurd (omega arith)
+    pair-true e (suc zero) l first f r k = absurd (omega arith)
+    pair-true e (suc (suc p)) l true f r k = absurd (false≢true (sym f))
+    pair-true e (suc (suc p)) l false f r k =
+        k ∙ ap₂ (λ (y : Layout) (s : State). evalBool y s (d .constraint)) (same-layout file d w h q) (sym (take-append-drop n pair))
+        ∙ unmarked-counts _ _ (mark-same false e)
 
 -- the constraint, which two states are read by
 module _ (file events′ : List ℕ) (h : Shape) (pair : State) (ready : ReadyPair file events′ h pair) where

@@ -5,19 +5,21 @@ use mathlib.Core.List.{List, [], _∷_, _++_, map}
 use Prim.Native.Nat.{ℕ, zero, suc, _+_, _-_, _^_, _<_, _≤_}
 use native.Mathlib.Omega.{arith}
 use lib.IntN.{ℤ, pos}
-use lib.ListN.{length, getD, set, take, drop, replicate, getElem?, length-map}
-use lib.Seq.{take-at, drop-at, take-all, getD-append-add}
+use lib.ListN.{length, getD, set, take, drop, replicate, getElem?, length-map, List·getD-append}
+use lib.Seq.{take-at, drop-at, getD-append-add}
+use lib.Dec.{leb}
 use borrow.Author.Tests.{lt-ltb, le-leb, eq-eqb}
 use Rattle.design.specs.Tree.{IntExpr, constant, variable, status, sum, difference, product, Stmt, Stmts, assign, assignB, ifElse, done, then, Kind, boolean, integer, external, Variable, Cell, Design, Mover, cell, raise, ifExternal, externals, movers, bit}
-use Rattle.design.specs.State.{State, layout, statusSlot, width, statusWidth, widths, start}
+use Rattle.design.specs.State.{State, layout, statusSlot, width, statusWidth, markWidth, widths, start}
 use Rattle.design.specs.Check.{accepted, check}
-use Rattle.design.specs.WellFormed.{InRange, HasBits, IntOk, StmtOk, StmtsOk, MoverOk, MoversOk, CountsOk, StatusesOk, WellFormed}
+use Rattle.design.specs.WellFormed.{InRange, IsStatus, HasBits, IntOk, StmtOk, StmtsOk, MoverOk, MoversOk, CountsOk, StatusesOk, WellFormed}
 use Rattle.design.proofs.WellFormed.{well-formed}
 use Rattle.step.specs.Pattern.{signed, wrap}
-use Rattle.step.specs.Evaluation.{evalInt, evalBool}
-use Rattle.step.specs.OneStep.{execute, executeAll, enabled, effect, move, moved, step, run}
-use Rattle.step.specs.Interface.{rightKind, valuesRight, statusesRight, firstWrong, entriesRight, slotsGiven, valuesOf, statusesOf}
+use Rattle.step.specs.Evaluation.{evalInt, evalBool, passesInt, passesBool}
+use Rattle.step.specs.OneStep.{markedIf, execute, executeAll, enabled, effect, move, moved, step, run}
+use Rattle.step.specs.Interface.{rightKind, valuesRight, statusesRight, firstWrong, entriesRight, slotsGiven, valuesOf, statusesOf, markOf}
 use Rattle.step.specs.Operations.{allRight}
+use Rattle.step.proofs.Marks.{mark-stays}
 use Rattle.step.specs.Ranges.{valueCount, ranges, Below, FitsDesign, KeepsRanges}
 use Rattle.step.proofs.Patterns.{wrap-signed}
 use Rattle.design.specs.Limits.{maxVariables, maxMatrices}
@@ -53,14 +55,15 @@ variable-range (x ∷ xs) ns ws zero h = count-is (x .kind)
 variable-range (x ∷ xs) ns ws (suc v) h = variable-range xs ns ws v (omega arith)
 
 -- widths
-counts-range : (ns s : List ℕ) → CountsOk ns → Below ns s → InRange (replicate (length ns) statusWidth) s
-counts-range [] [] k b = tt
-counts-range [] (y ∷ ys) k b = b
+counts-range : (ns s : List ℕ) → CountsOk ns → Below (ns ++ (2 ∷ [])) s → InRange (replicate (length ns) statusWidth ++ (markWidth ∷ [])) s
+counts-range [] [] k b = b
+counts-range [] (y ∷ []) k b = (omega (arith, b .0), tt)
+counts-range [] (y ∷ z ∷ ys) k b = absurd (b .1)
 counts-range (n ∷ ns) [] k b = b
 counts-range (n ∷ ns) (y ∷ ys) k b = (omega (arith, k .1, b .0), counts-range ns ys (k .2) (b .1))
 
-slots-range : (xs : List Variable) (ns s : List ℕ) → CountsOk ns → Below (map count xs ++ ns) s
-    → InRange (map wide xs ++ replicate (length ns) statusWidth) s
+slots-range : (xs : List Variable) (ns s : List ℕ) → CountsOk ns → Below (map count xs ++ (ns ++ (2 ∷ []))) s
+    → InRange (map wide xs ++ (replicate (length ns) statusWidth ++ (markWidth ∷ []))) s
 slots-range [] ns s k b = counts-range ns s k b
 slots-range (x ∷ xs) ns [] k b = b
 slots-range (x ∷ xs) ns (y ∷ ys) k b =
@@ -110,14 +113,25 @@ module _ (d : Design) (wf : WellFormed d) where
   number-range : (v bits : ℕ) → HasBits (widths d) (layout d) v bits → getD (ranges d) v 0 ≡ 2 ^ bits
   unfolding ranges widths layout
   number-range v bits k =
-      variable-range (d .variables) (d .statuses) (replicate (length (d .statuses)) statusWidth) v (k .inside)
+      variable-range (d .variables) (d .statuses ++ (2 ∷ [])) (replicate (length (d .statuses)) statusWidth ++ (markWidth ∷ [])) v (k .inside)
       ∙ ap (λ (b : ℕ). 2 ^ b) (k .width)
 
-  status-range : (m : ℕ) → getD (ranges d) (statusSlot (layout d) m) 0 ≡ getD (d .statuses) m 0
+  -- the ranges behind those of the variables
+  behind : (i : ℕ) → getD (map count (d .variables) ++ (d .statuses ++ (2 ∷ []))) (length (d .variables) + i) 0 ≡ getD (d .statuses ++ (2 ∷ [])) i 0
+  behind i =
+      ap (λ (j : ℕ). getD (map count (d .variables) ++ (d .statuses ++ (2 ∷ []))) (j + i) 0) (sym (length-map (d .variables) count))
+      ∙ getD-append-add (map count (d .variables)) (d .statuses ++ (2 ∷ [])) i 0
+
+  status-range : (m : ℕ) → IsStatus (widths d) (layout d) m → getD (ranges d) (statusSlot (layout d) m) 0 ≡ getD (d .statuses) m 0
   unfolding ranges layout
-  status-range m =
-      ap (λ (i : ℕ). getD (map count (d .variables) ++ d .statuses) (i + m) 0) (sym (length-map (d .variables) count))
-      ∙ getD-append-add (map count (d .variables)) (d .statuses) m 0
+  status-range m k = behind m ∙ List·getD-append (d .statuses) (2 ∷ []) 0 m (omega (arith, k .inside))
+
+  mark-range : getD (ranges d) (layout d .mark) 0 ≡ 2
+  unfolding ranges layout
+  mark-range =
+      behind (length (d .statuses))
+      ∙ ap (λ (i : ℕ). getD (d .statuses ++ (2 ∷ [])) i 0) (let z : length (d .statuses) ≡ length (d .statuses) + 0 = omega arith in z)
+      ∙ getD-append-add (d .statuses) (2 ∷ []) 0 0
 
   -- an expression's value is a pattern: what it reads fits the slot's width
   int-below : (s : State) → FitsDesign d s → (e : IntExpr) → IntOk (widths d) (layout d) e → evalInt (layout d) s e < 65536
@@ -133,18 +147,25 @@ module _ (d : Design) (wf : WellFormed d) where
   bit-below true = omega arith
   bit-below false = omega arith
 
+  -- the mark is set to 1 or stays
+  mark-keeps : (t : Bool) (s : State) → FitsDesign d s → FitsDesign d (markedIf t (layout d) s)
+  mark-keeps t s f =
+      cond-keeps (FitsDesign d) t _ _
+      (below-set (ranges d) s (layout d .mark) 1 f (subst (λ (n : ℕ). 1 < n) (sym mark-range) (omega arith))) f
+
   mutual
     unfolding execute
 
     statement-keeps : (x : Stmt) (s : State) → StmtOk (widths d) (layout d) x → FitsDesign d s → FitsDesign d (execute x (layout d) s)
     statement-keeps (assign v e) s k f =
-        below-set (ranges d) s v _ f
+        below-set (ranges d) _ v _ (mark-keeps (passesInt (layout d) s e) s f)
         (subst (λ (n : ℕ). evalInt (layout d) s e < n) (sym (number-range v 16 (k .0))) (int-below s f e (k .1)))
     statement-keeps (assignB v e) s k f =
-        below-set (ranges d) s v _ f
+        below-set (ranges d) _ v _ (mark-keeps (passesBool (layout d) s e) s f)
         (subst (λ (n : ℕ). bit (evalBool (layout d) s e) < n) (sym (number-range v 1 (k .0))) (bit-below (evalBool (layout d) s e)))
     statement-keeps (ifElse c a b) s k f =
-        cond-keeps (FitsDesign d) (evalBool (layout d) s c) _ _ (statements-keep a s (k .1) f) (statements-keep b s (k .2) f)
+        let m = mark-keeps (passesBool (layout d) s c) s f in
+        cond-keeps (FitsDesign d) (evalBool (layout d) s c) _ _ (statements-keep a _ (k .1) m) (statements-keep b _ (k .2) m)
 
     statements-keep : (xs : Stmts) (s : State) → StmtsOk (widths d) (layout d) xs → FitsDesign d s → FitsDesign d (executeAll xs (layout d) s)
     statements-keep done s k f = f
@@ -156,7 +177,7 @@ module _ (d : Design) (wf : WellFormed d) where
   effect-keeps (cell c) s k t f =
       below-set (ranges d) (executeAll (c .action) (layout d) s) (statusSlot (layout d) (c .matrix)) (c .target)
       (statements-keep (c .action) s (k .action) f)
-      (subst (λ (n : ℕ). c .target < n) (sym (status-range (c .matrix))) t)
+      (subst (λ (n : ℕ). c .target < n) (sym (status-range (c .matrix) (k .matrix))) t)
   effect-keeps (raise v) s k t f = below-set (ranges d) s v 1 f (subst (λ (n : ℕ). 1 < n) (sym (number-range v 1 k)) (omega arith))
 
   move-keeps : (m : Mover) (s : State) → MoverOk (widths d) (layout d) m → TargetOk (d .statuses) m → FitsDesign d s
@@ -186,8 +207,8 @@ module _ (d : Design) (wf : WellFormed d) where
   run-keeps s (c ∷ cs) f = run-keeps (step d s c) cs (step-keeps s c f)
 
 -- the first state
-zeros-below : (ns : List ℕ) → CountsOk ns → Below ns (replicate (length ns) 0)
-zeros-below [] k = tt
+zeros-below : (ns : List ℕ) → CountsOk ns → Below (ns ++ (2 ∷ [])) (replicate (length ns) 0 ++ (0 ∷ []))
+zeros-below [] k = (omega arith, tt)
 zeros-below (n ∷ ns) k = (omega (arith, k .0), zeros-below ns (k .2))
 
 initial-below : (xs : List Variable) (ws ns vs : List ℕ) → InRange (map wide xs ++ ws) (map (λ (x : Variable). x .initial) xs ++ vs)
@@ -200,10 +221,11 @@ initial-below (x ∷ xs) ws ns vs h b =
 pub first-fits : (d : Design) → WellFormed d → FitsDesign d (start d)
 unfolding ranges start widths
 first-fits d wf =
-    initial-below (d .variables) (replicate (length (d .statuses)) statusWidth) (d .statuses) (replicate (length (d .statuses)) 0) (wf .start)
+    initial-below (d .variables) (replicate (length (d .statuses)) statusWidth ++ (markWidth ∷ [])) (d .statuses ++ (2 ∷ []))
+    (replicate (length (d .statuses)) 0 ++ (0 ∷ [])) (wf .start)
     (zeros-below (d .statuses) (wf .counts))
 
--- a state that fits: its variables' slots, and its statuses
+-- a list below ranges of two parts, in two parts
 record Split (rs ns s : List ℕ) : Type 0 where
   front : List ℕ
   back : List ℕ
@@ -285,7 +307,17 @@ statuses-ok [] (y ∷ ys) k b = absurd b
 statuses-ok (n ∷ ns) [] k b = absurd b
 statuses-ok (n ∷ ns) (y ∷ ys) k b = (lt-ltb y n (b .0), statuses-ok ns ys k (b .1))
 
--- the entries of a state that fits: the tests of its values, and of its statuses
+-- the mark, alone
+only-mark : (l : List ℕ) → Below (2 ∷ []) l → l ≡ getD l 0 0 ∷ []
+only-mark [] b = absurd b
+only-mark (x ∷ []) b = refl
+only-mark (x ∷ y ∷ ys) b = absurd (b .1)
+
+mark-right : (l : List ℕ) → Below (2 ∷ []) l → leb (getD l 0 0) 1 ≡ true
+mark-right [] b = absurd b
+mark-right (x ∷ xs) b = le-leb x 1 (omega (arith, b .0))
+
+-- the entries of a state that fits: the tests of its values, of its statuses, and of its mark
 module _ (d : Design) (s : State) (f : FitsDesign d s) where
   abbrev nv : ℕ
   nv = length (d .variables)
@@ -293,15 +325,18 @@ module _ (d : Design) (s : State) (f : FitsDesign d s) where
   abbrev nm : ℕ
   nm = length (d .statuses)
 
-  parted : Split (map count (d .variables)) (d .statuses) s
+  parted : Split (map count (d .variables)) (d .statuses ++ (2 ∷ [])) s
   unfolding ranges
-  parted = split (map count (d .variables)) (d .statuses) s f
+  parted = split (map count (d .variables)) (d .statuses ++ (2 ∷ [])) s f
+
+  rest : Split (d .statuses) (2 ∷ []) (parted .back)
+  rest = split (d .statuses) (2 ∷ []) (parted .back) (parted .back-below)
 
   front-long : length (parted .front) ≡ nv
   front-long = below-length (map count (d .variables)) (parted .front) (parted .front-below) ∙ length-map (d .variables) count
 
-  back-long : length (parted .back) ≡ nm
-  back-long = below-length (d .statuses) (parted .back) (parted .back-below)
+  statuses-long : length (rest .front) ≡ nm
+  statuses-long = below-length (d .statuses) (rest .front) (rest .front-below)
 
   values-are : map wrap (valuesOf d s) ≡ parted .front ++ replicate (maxVariables - nv) 0
   values-are =
@@ -311,33 +346,46 @@ module _ (d : Design) (s : State) (f : FitsDesign d s) where
       (take-at (map signed (parted .front)) (map signed (parted .back)) nv (length-map (parted .front) signed ∙ front-long))
       ∙ values-wrapped (d .variables) (parted .front) (maxVariables - nv) (parted .front-below)
 
-  statuses-are : statusesOf d s ≡ parted .back ++ replicate (maxMatrices - nm) 0
+  statuses-are : statusesOf d s ≡ rest .front ++ replicate (maxMatrices - nm) 0
   unfolding layout
   statuses-are =
       ap (λ (l : List ℕ). take (nv + nm - nv) (drop nv l) ++ replicate (maxMatrices - nm) 0) (parted .is)
-      ∙ ap (λ (l : List ℕ). take (nv + nm - nv) l ++ replicate (maxMatrices - nm) 0) (drop-at (parted .front) (parted .back) nv front-long)
-      ∙ ap (λ (l : List ℕ). l ++ replicate (maxMatrices - nm) 0) (take-all (nv + nm - nv) (parted .back) (omega (arith, back-long)))
+      ∙ ap (λ (l : List ℕ). take (nv + nm - nv) l ++ replicate (maxMatrices - nm) 0) (drop-at (parted .front) (parted .back) nv front-long ∙ rest .is)
+      ∙ ap (λ (l : List ℕ). l ++ replicate (maxMatrices - nm) 0) (take-at (rest .front) (rest .back) (nv + nm - nv) (omega (arith, statuses-long)))
+
+  mark-is : markOf d s ≡ getD (rest .back) 0 0
+  unfolding layout
+  mark-is =
+      ap₂ (λ (l : List ℕ) (i : ℕ). getD l (i + nm) 0) (parted .is) (sym front-long)
+      ∙ getD-append-add (parted .front) (parted .back) nm 0
+      ∙ ap₂ (λ (l : List ℕ) (i : ℕ). getD l i 0) (rest .is) (let z : nm ≡ length (rest .front) + 0 = omega (arith, statuses-long) in z)
+      ∙ getD-append-add (rest .front) (rest .back) 0 0
 
   abbrev vt : List Bool
   vt = valuesRight (d .variables) (parted .front ++ replicate (maxVariables - nv) 0)
 
   abbrev st : List Bool
-  st = statusesRight (d .statuses) (parted .back ++ replicate (maxMatrices - nm) 0)
+  st = statusesRight (d .statuses) (rest .front ++ replicate (maxMatrices - nm) 0)
 
-  pub fits-right : allRight (entriesRight d (valuesOf d s) (statusesOf d s)) ≡ true
+  abbrev ts : List Bool
+  ts = vt ++ (st ++ (leb (getD (rest .back) 0 0) 1 ∷ []))
+
+  pub fits-right : allRight (entriesRight d (valuesOf d s) (statusesOf d s) (markOf d s)) ≡ true
   fits-right =
-      let all : AllTrue (vt ++ st) = all-append vt st
+      let all : AllTrue ts = all-append vt _
       (values-ok (d .variables) (parted .front) (maxVariables - nv) (parted .front-below))
-      (statuses-ok (d .statuses) (parted .back) (maxMatrices - nm) (parted .back-below)) in
-      ap₂ (λ (ps ss : List ℕ). allRight (valuesRight (d .variables) ps ++ statusesRight (d .statuses) ss)) values-are statuses-are
-      ∙ eq-eqb (firstWrong (vt ++ st)) (length (vt ++ st)) (none-wrong (vt ++ st) all)
+      (all-append st _ (statuses-ok (d .statuses) (rest .front) (maxMatrices - nm) (rest .front-below)) (mark-right (rest .back) (rest .back-below), tt)) in
+      ap₂ (λ (ps ss : List ℕ). allRight (valuesRight (d .variables) ps ++ (statusesRight (d .statuses) ss ++ (leb (markOf d s) 1 ∷ [])))) values-are statuses-are
+      ∙ ap (λ (m : ℕ). allRight (vt ++ (st ++ (leb m 1 ∷ [])))) mark-is
+      ∙ eq-eqb (firstWrong ts) (length ts) (none-wrong ts all)
 
-  pub fits-back : slotsGiven d (valuesOf d s) (statusesOf d s) ≡ s
+  pub fits-back : slotsGiven d (valuesOf d s) (statusesOf d s) (markOf d s) ≡ s
   fits-back =
-      ap₂ (λ (ps ss : List ℕ). take nv ps ++ take nm ss) values-are statuses-are
-      ∙ ap₂ (λ (u v : List ℕ). u ++ v) (take-at (parted .front) (replicate (maxVariables - nv) 0) nv front-long)
-      (take-at (parted .back) (replicate (maxMatrices - nm) 0) nm back-long)
-      ∙ sym (parted .is)
+      ap₂ (λ (ps ss : List ℕ). take nv ps ++ (take nm ss ++ (markOf d s ∷ []))) values-are statuses-are
+      ∙ ap₂ (λ (u v : List ℕ). u ++ (v ++ (markOf d s ∷ []))) (take-at (parted .front) (replicate (maxVariables - nv) 0) nv front-long)
+      (take-at (rest .front) (replicate (maxMatrices - nm) 0) nm statuses-long)
+      ∙ ap (λ (l : List ℕ). parted .front ++ (rest .front ++ l)) (ap (λ (m : ℕ). m ∷ []) mark-is ∙ sym (only-mark (rest .back) (rest .back-below)))
+      ∙ ap (λ (l : List ℕ). parted .front ++ l) (sym (rest .is)) ∙ sym (parted .is)
 
 -- THE LAW, for every well-formed design, and so for every accepted one.
 pub keeps-ranges : (d : Design) → WellFormed d → KeepsRanges d
@@ -345,6 +393,7 @@ keeps-ranges d wf = record {
   first = first-fits d wf;
   after-step = step-keeps d wf;
   after-run = run-keeps d wf;
+  mark-stays = mark-stays d wf;
   in-widths = fits-widths d wf;
   entries-right = fits-right d;
   entries-back = fits-back d;

@@ -44,6 +44,13 @@ take-replicate zero m z h = refl
 take-replicate (suc n) zero z h = absurd (omega arith)
 take-replicate (suc n) (suc m) z h = ap (λ (l : List _). z ∷ l) (take-replicate n m z (omega arith))
 
+pub zeros-long : (n : ℕ) (s : State) → s ≡ replicate n 0 → length s ≡ n
+zeros-long n s e = ap length e ∙ length-replicate n 0
+
+replicate-last : {A : Type 0} (n : ℕ) (z : A) → replicate (n + 1) z ≡ replicate n z ++ (z ∷ [])
+replicate-last zero z = refl
+replicate-last (suc n) z = ap (λ (k : ℕ). replicate k z) (let q : suc n + 1 ≡ suc (n + 1) = omega arith in q) ∙ ap (λ (l : List _). z ∷ l) (replicate-last n z)
+
 -- the initial value of variable v
 initial-at : (file : List ℕ) (d : Design) (w : Parts file d) (v : ℕ) → v < variableCount file → getD (map (λ (x : Variable). x .initial) (d .variables)) v 0 ≡ at16 file (3 * v + 1)
 unfolding variableAt
@@ -58,12 +65,12 @@ initial-at file d w v h =
 -- the first v values are loaded
 pub record Loading (file : List ℕ) (nv nm v : ℕ) (s : State) : Type 0 where
   pub inside : v ≤ nv
-  pub size : length s ≡ nv + nm
-  pub same : (d : Design) → check file ≡ accepted d → s ≡ paste (replicate (nv + nm) 0) 0 (map (λ (x : Variable). x .initial) (d .variables)) v
+  pub size : length s ≡ nv + nm + 1
+  pub same : (d : Design) → check file ≡ accepted d → s ≡ paste (replicate (nv + nm + 1) 0) 0 (map (λ (x : Variable). x .initial) (d .variables)) v
 
 module _ (file : List ℕ) (a : Accepted file) (nv nm : ℕ) (e : nv ≡ variableCount file) (q : nm ≡ matrixCount file) where
-  pub loading-start : (s : State) → s ≡ replicate (nv + nm) 0 → Loading file nv nm 0 s
-  loading-start s h = record { inside = omega arith; size = ap length h ∙ length-replicate (nv + nm) 0; same = λ d c. h ∙ paste-zero (replicate (nv + nm) 0) 0 (map (λ (x : Variable). x .initial) (d .variables)) }
+  pub loading-start : (s : State) → s ≡ replicate (nv + nm + 1) 0 → Loading file nv nm 0 s
+  loading-start s h = record { inside = omega arith; size = ap length h ∙ length-replicate (nv + nm + 1) 0; same = λ d c. h ∙ paste-zero (replicate (nv + nm + 1) 0) 0 (map (λ (x : Variable). x .initial) (d .variables)) }
 
   pub loading-inside : (v : ℕ) → v < nv → (3 * v + 1 + 1 < length file) × (nv ≤ maxVariables)
   loading-inside v l = let b = variables-inside file a in let t = read file a .all in (omega (arith, t .long), omega (arith, t .variables))
@@ -77,9 +84,9 @@ module _ (file : List ℕ) (a : Accepted file) (nv nm : ℕ) (e : nv ≡ variabl
         let xs = map (λ (y : Variable). y .initial) (d .variables) in
         let n : length xs ≡ nv = length-map (d .variables) (λ (y : Variable). y .initial) ∙ w .variable-count ∙ sym e in
         let k : v < length xs = omega arith in
-        ap (λ (t : State). set t v x) (g .same d c) ∙ ap (set (paste (replicate (nv + nm) 0) 0 xs v) v) (h ∙ sym (initial-at file d w v (omega arith)))
-        ∙ ap (λ (i : ℕ). set (paste (replicate (nv + nm) 0) 0 xs v) i (getD xs v 0)) (let z : v ≡ 0 + v = omega arith in z)
-        ∙ paste-suc (replicate (nv + nm) 0) 0 xs v 0 (let z : length (replicate {A = ℕ} (nv + nm) 0) ≡ nv + nm = length-replicate (nv + nm) 0 in omega arith) k ∙ ap (paste (replicate (nv + nm) 0) 0 xs) (sym (add-one v));
+        ap (λ (t : State). set t v x) (g .same d c) ∙ ap (set (paste (replicate (nv + nm + 1) 0) 0 xs v) v) (h ∙ sym (initial-at file d w v (omega arith)))
+        ∙ ap (λ (i : ℕ). set (paste (replicate (nv + nm + 1) 0) 0 xs v) i (getD xs v 0)) (let z : v ≡ 0 + v = omega arith in z)
+        ∙ paste-suc (replicate (nv + nm + 1) 0) 0 xs v 0 (let z : length (replicate {A = ℕ} (nv + nm + 1) 0) ≡ nv + nm + 1 = length-replicate (nv + nm + 1) 0 in omega arith) k ∙ ap (paste (replicate (nv + nm + 1) 0) 0 xs) (sym (add-one v));
   }
 
   pub loading-end : (v : ℕ) (s : State) → nv ≤ v → Loading file nv nm v s → (d : Design) → check file ≡ accepted d → s ≡ start d
@@ -90,8 +97,10 @@ module _ (file : List ℕ) (a : Accepted file) (nv nm : ℕ) (e : nv ≡ variabl
       let i = g .inside in
       let n : length xs ≡ nv = length-map (d .variables) (λ (y : Variable). y .initial) ∙ w .variable-count ∙ sym e in
       let m : nm ≡ length (d .statuses) = q ∙ sym (matrix-count file d w) in
-      g .same d c ∙ ap (paste (replicate (nv + nm) 0) 0 xs) (let z : v ≡ nv = omega arith in z)
-      ∙ ap₂ (λ (x y : State). x ++ y) (take-all nv xs (omega arith)) (ap (λ (k : ℕ). drop k (replicate (nv + nm) 0)) (let z : 0 + nv ≡ nv = omega arith in z) ∙ drop-replicate nv nm 0 ∙ ap (λ (k : ℕ). replicate k 0) m)
+      let back : drop {A = ℕ} (0 + nv) (replicate (nv + nm + 1) 0) ≡ replicate (nm + 1) 0 = ap₂ (λ (k j : ℕ). drop k (replicate j 0)) (let z : 0 + nv ≡ nv = omega arith in z) (let z : nv + nm + 1 ≡ nv + (nm + 1) = omega arith in z)
+      ∙ drop-replicate nv (nm + 1) 0 in
+      g .same d c ∙ ap (paste (replicate (nv + nm + 1) 0) 0 xs) (let z : v ≡ nv = omega arith in z)
+      ∙ ap₂ (λ (x y : State). x ++ y) (take-all nv xs (omega arith)) (back ∙ replicate-last nm 0 ∙ ap (λ (k : ℕ). replicate k 0 ++ (0 ∷ [])) m)
 
 -- a state of the same size
 pub ready-same : (file events : List ℕ) (h : Shape) (s s′ : State) → length s′ ≡ length s → ReadyState file events h s → ReadyState file events h s′

@@ -19,9 +19,9 @@ use Rattle.design.specs.Answers.{found}
 use Rattle.design.specs.declared.expression.Found.the-variants.{At, Bad}
 use Rattle.design.proofs.Readers.{stmt-none}
 use Rattle.design.proofs.Forward.{list-on, stmt-on}
-use Rattle.step.specs.Evaluation.{evalInt, evalBool}
-use Rattle.step.specs.OneStep.{execute, executeAll}
-use Rattle.step.specs.Accepted.{isRead, past, intValue, boolValue, afterStmt, afterList}
+use Rattle.step.specs.Evaluation.{evalInt, evalBool, passesInt, passesBool}
+use Rattle.step.specs.OneStep.{markedIf, execute, executeAll}
+use Rattle.step.specs.Accepted.{isRead, past, intValue, boolValue, intPasses, boolPasses, afterStmt, afterList}
 use Rattle.step.proofs.Accepted.{read-found, provided-read, bind-read, one-first, one-past, two, two-first, two-second, two-past, two-value, three, three-first, three-second, three-third, three-past}
 
 pub found-past : {A : Type 0} (x : Read A) (m : ℕ) → At m ≡ found x → m ≡ past x
@@ -40,13 +40,20 @@ length-cond : (t : Bool) (a b : State) (n : ℕ) → length a ≡ n → length b
 length-cond true a b n p q = p
 length-cond false a b n p q = q
 
+pub length-marked : (t : Bool) (l : Layout) (s : State) → length (markedIf t l s) ≡ length s
+length-marked true l s = length-set s (l .mark) 1
+length-marked false l s = refl
+
 mutual
   unfolding execute executeAll
 
   pub length-execute : (x : Stmt) (l : Layout) (s : State) → length (execute x l s) ≡ length s
-  length-execute (assign v e) l s = length-set s v (evalInt l s e)
-  length-execute (assignB v e) l s = length-set s v (bit (evalBool l s e))
-  length-execute (ifElse c a b) l s = length-cond (evalBool l s c) (executeAll a l s) (executeAll b l s) (length s) (length-executeAll a l s) (length-executeAll b l s)
+  length-execute (assign v e) l s = length-set (markedIf (passesInt l s e) l s) v (evalInt l s e) ∙ length-marked (passesInt l s e) l s
+  length-execute (assignB v e) l s = length-set (markedIf (passesBool l s e) l s) v (bit (evalBool l s e)) ∙ length-marked (passesBool l s e) l s
+  length-execute (ifElse c a b) l s =
+      let t = markedIf (passesBool l s c) l s in
+      let same = length-marked (passesBool l s c) l s in
+      length-cond (evalBool l s c) (executeAll a l t) (executeAll b l t) (length s) (length-executeAll a l t ∙ same) (length-executeAll b l t ∙ same)
 
   pub length-executeAll : (xs : Stmts) (l : Layout) (s : State) → length (executeAll xs l s) ≡ length s
   length-executeAll done l s = refl
@@ -60,12 +67,13 @@ pub length-list : (l : Layout) (x : Read Stmts) (s : State) → length (afterLis
 length-list l (got x n) s = length-executeAll x l s
 length-list l bad s = refl
 
-if-value : (l : Layout) (s : State) (x : Read BoolExpr) (q : ℕ → Read Stmts) → isRead (three ifElse x q) ≡ true → afterStmt l (three ifElse x q) s ≡ cond (boolValue l s x) (afterList l (q (past x)) s) (afterList l (q (past (q (past x)))) s)
+if-value : (l : Layout) (s : State) (x : Read BoolExpr) (q : ℕ → Read Stmts) → isRead (three ifElse x q) ≡ true → afterStmt l (three ifElse x q) s
+    ≡ cond (boolValue l s x) (afterList l (q (past x)) (markedIf (boolPasses l s x) l s)) (afterList l (q (past (q (past x)))) (markedIf (boolPasses l s x) l s))
 unfolding execute executeAll
 if-value l s (got c m) q h =
     ap (λ (r : State → State). r s) (two-value (ifElse c) {P = State → State} {Q = State → State} {R = State → State} (λ (t : Stmt) (w : State). execute t
     l w) (λ w. w) (λ (t : Stmts) (w : State). executeAll t l w) (λ w. w) (λ (t : Stmts) (w : State). executeAll t l w) (λ w. w) (λ a b w. cond
-    (evalBool l w c) (a w) (b w)) (λ a b. refl) (q m) q h)
+    (evalBool l w c) (a (markedIf (passesBool l w c) l w)) (b (markedIf (passesBool l w c) l w))) (λ a b. refl) (q m) q h)
 if-value l s bad q h = absurd (false≢true h)
 
 module _ (text : List ℕ) (N : Names) (end : ℕ) where
@@ -222,22 +230,29 @@ module _ (text : List ℕ) (N : Names) (end : ℕ) where
         pub if-else : (p : ℕ) → p ≡ past (L (k - 1) m) → isRead (L (k - 1) p) ≡ true
         if-else p w = subst (λ (j : ℕ). isRead (L (k - 1) j) ≡ true) (sym (w ∙ ap (λ (j : ℕ). past (L (k - 1) j)) q)) (three-third ifElse (C (at + 1)) (L (k - 1)) all)
 
-        -- what the list that is taken makes is what the whole makes
-        if-runs : (y : Layout) (s : State) (b : Bool) (p : ℕ) → b ≡ boolValue y s (C (at + 1)) → p ≡ past (L (k - 1) m) → (cond b (afterList y (L (k - 1) m) s) (afterList y (L (k - 1) p) s) ≡ afterStmt y (S k at) s) × (past (L (k - 1) p) ≡ past (S k at))
-        if-runs y s b p e w =
-            let w′ : p ≡ past (L (k - 1) (past (C (at + 1)))) = w ∙ ap (λ (j : ℕ). past (L (k - 1) j)) q in (
-              ap (λ (t : Bool). cond t (afterList y (L (k - 1) m) s) (afterList y (L (k - 1) p) s)) e
-                  ∙ ap (λ (j : ℕ). cond (boolValue y s (C (at + 1))) (afterList y (L (k - 1) j) s) (afterList y (L (k - 1) p) s)) q
-                  ∙ ap (λ (j : ℕ). cond (boolValue y s (C (at + 1))) (afterList y (L (k - 1) (past (C (at + 1)))) s) (afterList y (L (k - 1) j) s)) w′
-                  ∙ sym (if-value y s (C (at + 1)) (L (k - 1)) all) ∙ sym (ap (λ (x : Read Stmt). afterStmt y x s) as-if),
-              ap (λ (j : ℕ). past (L (k - 1) j)) w′ ∙ sym (three-past ifElse (C (at + 1)) (L (k - 1)) all) ∙ sym (ap past as-if),
-            )
+        -- what the list that is taken makes of the state that the condition left is what the whole makes
+        module _ (y : Layout) (s s₁ : State) (b u : Bool) (e : b ≡ boolValue y s (C (at + 1))) (f : u ≡ boolPasses y s (C (at + 1))) (g : s₁ ≡ markedIf u y s) where
+          left : s₁ ≡ markedIf (boolPasses y s (C (at + 1))) y s
+          left = g ∙ ap (λ (t : Bool). markedIf t y s) f
 
-        pub runs-then : (y : Layout) (s s′ : State) (b : Bool) (p n : ℕ) → b ≡ boolValue y s (C (at + 1)) → b ≡ true → (s′ ≡ afterList y (L (k - 1) m) s) × (p ≡ past (L (k - 1) m)) → n ≡ past (L (k - 1) p) → (s′ ≡ afterStmt y (S k at) s) × (n ≡ past (S k at))
-        runs-then y s s′ b p n e f r w = let t = if-runs y s true p (sym f ∙ e) (r .1) in (r .0 ∙ t .0, w ∙ t .1)
+          if-runs : (p : ℕ) → p ≡ past (L (k - 1) m) → (cond b (afterList y (L (k - 1) m) s₁) (afterList y (L (k - 1) p) s₁) ≡ afterStmt y (S k at) s) × (past (L (k - 1) p) ≡ past (S k at))
+          if-runs p w =
+              let w′ : p ≡ past (L (k - 1) (past (C (at + 1)))) = w ∙ ap (λ (j : ℕ). past (L (k - 1) j)) q in (
+                ap (λ (t : Bool). cond t (afterList y (L (k - 1) m) s₁) (afterList y (L (k - 1) p) s₁)) e
+                    ∙ ap (λ (j : ℕ). cond (boolValue y s (C (at + 1))) (afterList y (L (k - 1) j) s₁) (afterList y (L (k - 1) p) s₁)) q
+                    ∙ ap (λ (j : ℕ). cond (boolValue y s (C (at + 1))) (afterList y (L (k - 1) (past (C (at + 1)))) s₁) (afterList y (L (k - 1) j) s₁)) w′
+                    ∙ ap (λ (z : State). cond (boolValue y s (C (at + 1))) (afterList y (L (k - 1) (past (C (at + 1)))) z) (afterList y (L (k - 1) (past (L (k - 1) (past (C (at + 1)))))) z)) left
+                    ∙ sym (if-value y s (C (at + 1)) (L (k - 1)) all) ∙ sym (ap (λ (x : Read Stmt). afterStmt y x s) as-if),
+                ap (λ (j : ℕ). past (L (k - 1) j)) w′ ∙ sym (three-past ifElse (C (at + 1)) (L (k - 1)) all) ∙ sym (ap past as-if),
+              )
 
-        pub runs-else : (y : Layout) (s s′ : State) (b : Bool) (p n : ℕ) → b ≡ boolValue y s (C (at + 1)) → b ≡ false → p ≡ past (L (k - 1) m) → (s′ ≡ afterList y (L (k - 1) p) s) × (n ≡ past (L (k - 1) p)) → (s′ ≡ afterStmt y (S k at) s) × (n ≡ past (S k at))
-        runs-else y s s′ b p n e f w r = let t = if-runs y s false p (sym f ∙ e) w in (r .0 ∙ t .0, r .1 ∙ t .1)
+        pub runs-then : (y : Layout) (s s₁ s′ : State) (b u : Bool) (p n : ℕ) → b ≡ boolValue y s (C (at + 1)) → u ≡ boolPasses y s (C (at + 1)) → s₁ ≡ markedIf u y s → b ≡ true
+            → (s′ ≡ afterList y (L (k - 1) m) s₁) × (p ≡ past (L (k - 1) m)) → n ≡ past (L (k - 1) p) → (s′ ≡ afterStmt y (S k at) s) × (n ≡ past (S k at))
+        runs-then y s s₁ s′ b u p n e f g t r w = let z = if-runs y s s₁ true u (sym t ∙ e) f g p (r .1) in (r .0 ∙ z .0, w ∙ z .1)
+
+        pub runs-else : (y : Layout) (s s₁ s′ : State) (b u : Bool) (p n : ℕ) → b ≡ boolValue y s (C (at + 1)) → u ≡ boolPasses y s (C (at + 1)) → s₁ ≡ markedIf u y s → b ≡ false
+            → p ≡ past (L (k - 1) m) → (s′ ≡ afterList y (L (k - 1) p) s₁) × (n ≡ past (L (k - 1) p)) → (s′ ≡ afterStmt y (S k at) s) × (n ≡ past (S k at))
+        runs-else y s s₁ s′ b u p n e f g t w r = let z = if-runs y s s₁ false u (sym t ∙ e) f g p w in (r .0 ∙ z .0, r .1 ∙ z .1)
 
   -- assignments, past the operator byte
   module _ (at : ℕ) (h : isRead (assignment text N end at) ≡ true) where
@@ -259,14 +274,17 @@ module _ (text : List ℕ) (N : Names) (end : ℕ) where
       pub assign-int : isRead (intExpr text N end maxDepth (at + 1)) ≡ true
       assign-int = one-first (assign target) (intExpr text N end maxDepth (at + 1)) (sym (ap isRead as-int) ∙ h)
 
-      pub runs-int : (y : Layout) (s : State) (v r n : ℕ) → v ≡ target → r ≡ intValue y s (intExpr text N end maxDepth (at + 1)) → n ≡ past (intExpr text N end maxDepth (at + 1)) → (set s v r ≡ afterStmt y (assignment text N end at) s) × (n ≡ past (assignment text N end at))
+      pub runs-int : (y : Layout) (s s₁ : State) (v r n : ℕ) (u : Bool) → v ≡ target → r ≡ intValue y s (intExpr text N end maxDepth (at + 1)) → n ≡ past (intExpr text N end maxDepth (at + 1))
+          → u ≡ intPasses y s (intExpr text N end maxDepth (at + 1)) → s₁ ≡ markedIf u y s → (set s₁ v r ≡ afterStmt y (assignment text N end at) s) × (n ≡ past (assignment text N end at))
       unfolding execute
-      runs-int y s v r n f p q = (
-        ap (λ (j : ℕ). set s j r) f ∙ ap (set s target) p ∙ go (intExpr text N end maxDepth (at + 1)) assign-int ∙ sym (ap (λ (x : Read Stmt). afterStmt y x s) as-int),
+      runs-int y s s₁ v r n u f p q w g = (
+        ap (λ (j : ℕ). set s₁ j r) f ∙ ap (set s₁ target) p
+            ∙ ap (λ (z : State). set z target (intValue y s (intExpr text N end maxDepth (at + 1)))) (g ∙ ap (λ (t : Bool). markedIf t y s) w)
+            ∙ go (intExpr text N end maxDepth (at + 1)) assign-int ∙ sym (ap (λ (x : Read Stmt). afterStmt y x s) as-int),
         q ∙ sym (one-past (assign target) (intExpr text N end maxDepth (at + 1))) ∙ sym (ap past as-int),
       )
         where
-          go : (x : Read IntExpr) → isRead x ≡ true → set s target (intValue y s x) ≡ afterStmt y (bind x (λ e j. got (assign target e) j)) s
+          go : (x : Read IntExpr) → isRead x ≡ true → set (markedIf (intPasses y s x) y s) target (intValue y s x) ≡ afterStmt y (bind x (λ e j. got (assign target e) j)) s
           go (got e j) k = refl
           go bad k = absurd (false≢true k)
 
@@ -278,13 +296,16 @@ module _ (text : List ℕ) (N : Names) (end : ℕ) where
       pub assign-bool : isRead (C (at + 1)) ≡ true
       assign-bool = one-first (assignB target) (C (at + 1)) (sym (ap isRead as-bool) ∙ h)
 
-      pub runs-bool : (y : Layout) (s : State) (b : Bool) (v r n : ℕ) → v ≡ target → b ≡ boolValue y s (C (at + 1)) → r ≡ bit b → n ≡ past (C (at + 1)) → (set s v r ≡ afterStmt y (assignment text N end at) s) × (n ≡ past (assignment text N end at))
+      pub runs-bool : (y : Layout) (s s₁ : State) (b u : Bool) (v r n : ℕ) → v ≡ target → b ≡ boolValue y s (C (at + 1)) → r ≡ bit b → n ≡ past (C (at + 1))
+          → u ≡ boolPasses y s (C (at + 1)) → s₁ ≡ markedIf u y s → (set s₁ v r ≡ afterStmt y (assignment text N end at) s) × (n ≡ past (assignment text N end at))
       unfolding execute
-      runs-bool y s b v r n f p w q = (
-        ap (λ (j : ℕ). set s j r) f ∙ ap (set s target) (w ∙ ap bit p) ∙ go (C (at + 1)) assign-bool ∙ sym (ap (λ (x : Read Stmt). afterStmt y x s) as-bool),
+      runs-bool y s s₁ b u v r n f p w q t g = (
+        ap (λ (j : ℕ). set s₁ j r) f ∙ ap (set s₁ target) (w ∙ ap bit p)
+            ∙ ap (λ (z : State). set z target (bit (boolValue y s (C (at + 1))))) (g ∙ ap (λ (x : Bool). markedIf x y s) t)
+            ∙ go (C (at + 1)) assign-bool ∙ sym (ap (λ (x : Read Stmt). afterStmt y x s) as-bool),
         q ∙ sym (one-past (assignB target) (C (at + 1))) ∙ sym (ap past as-bool),
       )
         where
-          go : (x : Read BoolExpr) → isRead x ≡ true → set s target (bit (boolValue y s x)) ≡ afterStmt y (bind x (λ e j. got (assignB target e) j)) s
+          go : (x : Read BoolExpr) → isRead x ≡ true → set (markedIf (boolPasses y s x) y s) target (bit (boolValue y s x)) ≡ afterStmt y (bind x (λ e j. got (assignB target e) j)) s
           go (got e j) k = refl
           go bad k = absurd (false≢true k)

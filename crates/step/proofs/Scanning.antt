@@ -7,7 +7,9 @@ use native.Mathlib.Omega.{arith}
 use native.Mathlib.Numerals.{add-one}
 use lib.ListN.{getD, length, drop}
 use lib.Seq.{drop-cons, drop-length}
-use Rattle.design.specs.Tree.{BoolExpr, constantB, Design}
+use lib.Dec.{ltb}
+use borrow.Author.Tests.{lt-ltb}
+use Rattle.design.specs.Tree.{BoolExpr, constantB, Design, truth}
 use Rattle.design.specs.State.{State, Layout, layout, layoutOf}
 use Rattle.design.specs.Expression.{Names}
 use Rattle.design.specs.DesignFile.{Entry, normal, invalid, c-matrix, c-status, c-event, c-kind, c-past}
@@ -19,7 +21,7 @@ use Rattle.step.specs.Evaluation.{evalBool}
 use Rattle.step.specs.Limits.{lastStateProperty}
 use Rattle.step.specs.Piece.{expressionOf}
 use Rattle.step.specs.Property.{propertyOf}
-use Rattle.step.specs.OneStep.{statusAndEvent, noInvalid, trueAt, holds}
+use Rattle.step.specs.OneStep.{marked, statusAndEvent, noInvalid, trueAt, holds}
 use Rattle.design.specs.declared.shape.Shape.{Shape}
 use Rattle.design.proofs.Widths.{layout-is}
 use Rattle.step.specs.Ready.{ReadyState}
@@ -29,15 +31,43 @@ use Rattle.step.proofs.Cells.{BothAre}
 pub same-layout : (file : List ℕ) (d : Design) (w : Parts file d) (h : Shape) → Shaped file h → layoutOf h ≡ layout d
 same-layout file d w h s = layout-is file d w (h .variables) (h .matrices) (s .variables) (s .matrices)
 
-pub expression-property : (file piece : List ℕ) (d : Design) (w : Parts file d) (h : Shape) → Shaped file h → (p : ℕ) → p ≡ 0 → (s : State) (r : Bool) → r ≡ evalBool (layoutOf h) s (expressionOf file piece d) → r ≡ holds d (propertyOf file piece d p) s
-unfolding trueAt propertyOf
-expression-property file piece d w h q p z s r k = k ∙ ap (λ (l : Layout). evalBool l s (expressionOf file piece d)) (same-layout file d w h q) ∙ ap (λ (j : ℕ). holds d (propertyOf file piece d j) s) (sym z)
+-- what is found in a state counts where the mark is not set, and nothing does where it is
+pub unmarked-counts : (a t : Bool) → t ≡ false → a ≡ (a && not t)
+unmarked-counts true t e = ap not (sym e)
+unmarked-counts false t e = refl
 
-pub invalid-property : (file piece : List ℕ) (d : Design) (w : Parts file d) (h : Shape) → Shaped file h → (p : ℕ) → (p ≡ 0 → ⊥) → p ≤ lastStateProperty → (s : State) (r : Bool) → r ≡ noInvalid (layoutOf h) s (d .invalid) → r ≡ holds d (propertyOf file piece d p) s
-unfolding trueAt propertyOf
-invalid-property file piece d w h q zero z l s r k = absurd (z refl)
-invalid-property file piece d w h q (suc (suc p)) z l s r k = absurd (omega arith)
-invalid-property file piece d w h q (suc zero) z l s r k = k ∙ ap (λ (l : Layout). noInvalid l s (d .invalid)) (same-layout file d w h q)
+pub marked-fails : (a t : Bool) → t ≡ true → false ≡ (a && not t)
+marked-fails true t e = ap not (sym e)
+marked-fails false t e = refl
+
+-- the mark by the number in its slot
+pub set-is : (m n : ℕ) → m ≡ n → ltb 0 m ≡ truth n
+set-is m zero e = ap (ltb 0) e
+set-is m (suc n) e = lt-ltb 0 m (omega arith)
+
+-- the properties of one state; t is what the code finds of the mark
+module _ (file piece : List ℕ) (d : Design) (w : Parts file d) (h : Shape) (q : Shaped file h) (s : State) (t : Bool) (m : t ≡ marked (layoutOf h) s) where
+  mark-same : (b : Bool) → t ≡ b → marked (layout d) s ≡ b
+  mark-same b e = sym (ap (λ (l : Layout). marked l s) (same-layout file d w h q)) ∙ sym m ∙ e
+
+  pub marked-property : t ≡ true → (p : ℕ) → p ≤ lastStateProperty → false ≡ holds d (propertyOf file piece d p) s
+  unfolding trueAt propertyOf
+  marked-property e zero l = marked-fails (evalBool (layout d) s (expressionOf file piece d)) _ (mark-same true e)
+  marked-property e (suc zero) l = marked-fails (noInvalid (layout d) s (d .invalid)) _ (mark-same true e)
+  marked-property e (suc (suc p)) l = absurd (omega arith)
+
+  module _ (e : t ≡ false) (p : ℕ) (r : Bool) where
+    pub expression-property : p ≡ 0 → r ≡ evalBool (layoutOf h) s (expressionOf file piece d) → r ≡ holds d (propertyOf file piece d p) s
+    unfolding trueAt propertyOf
+    expression-property z k =
+        k ∙ ap (λ (l : Layout). evalBool l s (expressionOf file piece d)) (same-layout file d w h q) ∙ unmarked-counts _ _ (mark-same false e)
+        ∙ ap (λ (j : ℕ). holds d (propertyOf file piece d j) s) (sym z)
+
+    pub invalid-property : (p ≡ 0 → ⊥) → p ≤ lastStateProperty → r ≡ noInvalid (layoutOf h) s (d .invalid) → r ≡ holds d (propertyOf file piece d p) s
+    unfolding trueAt propertyOf
+    invalid-property z l k =
+        k ∙ ap (λ (l : Layout). noInvalid l s (d .invalid)) (same-layout file d w h q) ∙ unmarked-counts _ _ (mark-same false e)
+        ∙ ap (λ (j : ℕ). holds d (propertyOf file piece d j) s) (let y : 1 ≡ p = omega arith in y)
 
 -- what is left to look at decides as the whole does
 pub record Scanning (file : List ℕ) (h : Shape) (slots : State) (p i : ℕ) : Type 0 where

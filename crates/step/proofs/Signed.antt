@@ -123,7 +123,7 @@ integer-high p l h =
     ap (λ (z : ℤ). toZ w16 (ofZ w16 z)) (narrow p l h) ∙ toZ-ofZ (fits-less p l) ∙ ap (λ (m : ℕ). negℤ (pos m)) (let z : suc (65536 - suc p) ≡ 65536 - p = omega arith in z)
     ∙ ap (λ (t : Bool). cond t (pos p) (negℤ (pos (65536 - p)))) (sym (le-ltb p 32768 l))
 
-signed-fits : (p : ℕ) → p < 65536 → SFits w16 (signed p)
+pub signed-fits : (p : ℕ) → p < 65536 → SFits w16 (signed p)
 unfolding signed
 signed-fits p h = go (ltb p 32768) refl
   where

@@ -7,21 +7,22 @@ use Prim.Native.Nat.{ℕ, zero, suc, _+_, _*_, _-_, _<_, _≤_}
 use native.Mathlib.Omega.{arith}
 use native.Mathlib.Nat.{eq-or-lt-of-le}
 use lib.ListN.{getD}
+use lib.IntN.{_+ℤ_, _-ℤ_, _*ℤ_}
 use lib.Dec.{ltb, leb, eqb}
 use borrow.Author.Tests.{ltb-true, leb-true, lt-ltb}
 use Rattle.design.specs.Tree.{IntExpr, BoolExpr, constant, variable, status, sum, difference, product, constantB, variableB, notB, andB, orB, equal, less, truth}
 use Rattle.design.specs.State.{State, Layout, slotCount}
-use Rattle.design.specs.Reading.{Read, got, bind}
+use Rattle.design.specs.Reading.{Read, got, bad, bind}
 use Rattle.design.specs.DesignFile.{at16}
 use Rattle.design.specs.Check.{namesOf}
 use Rattle.design.specs.Expression.{Names, withLater, IntOp, BoolOp, intOp, boolOp, legal, numbered, intOf, boolOf, intExpr, boolExpr}
 use Rattle.design.specs.declared.shape.Shape.{Shape}
 use Rattle.design.proofs.Forward.{int-on, bool-on}
 use Rattle.design.proofs.Readers.{int-step, int-none, bool-step, bool-none}
-use Rattle.step.specs.Pattern.{plus, minus, times, below}
-use Rattle.step.specs.Evaluation.{evalInt, evalBool}
-use Rattle.step.specs.Accepted.{slotsNeeded, isRead, past, valueOf, intValue, boolValue}
-use Rattle.step.proofs.Accepted.{read-found, provided-read, bind-read, one-first, one-past, one-value, two, two-first, two-second, two-past, two-value}
+use Rattle.step.specs.Pattern.{plus, minus, times, below, signed, outside}
+use Rattle.step.specs.Evaluation.{evalInt, evalBool, passesInt, passesBool}
+use Rattle.step.specs.Accepted.{slotsNeeded, isRead, past, valueOf, intValue, boolValue, intPasses, boolPasses}
+use Rattle.step.proofs.Accepted.{read-found, provided-read, bind-read, one-first, one-past, one-value, two, two-first, two-second, two-past, two-value, both-value}
 
 one-of-two : (b k : ℕ) → k ≤ b → b < k + 2 → (b ≡ k) ⊎ (b ≡ k + 1)
 one-of-two b k p q = ⊎-elim (λ e. inl (sym e)) (λ l. inr (omega arith)) (eq-or-lt-of-le p)
@@ -99,6 +100,39 @@ unfolding evalBool
 compare-value b l s x y = go (eqb b 0x15)
   where
     go : (t : Bool) → evalBool l s (cond t equal less x y) ≡ cond t (eqb (evalInt l s x) (evalInt l s y)) (below (evalInt l s x) (evalInt l s y))
+    go true = refl
+    go false = refl
+
+-- an expression's value, and whether it passes the end
+abbrev told : Layout → State → IntExpr → ℕ × Bool
+told l s e = (evalInt l s e, passesInt l s e)
+
+-- whether a sum or difference passes the end, by the values of its operands and by whether they do
+abbrev arithmeticPasses : ℕ → ℕ × Bool → ℕ × Bool → Bool
+arithmeticPasses b x y = (x .1 || y .1) || cond (eqb b 0x04) (outside (signed (x .0) +ℤ signed (y .0))) (outside (signed (x .0) -ℤ signed (y .0)))
+
+arithmetic-passes : (b : ℕ) (l : Layout) (s : State) (x y : IntExpr) → passesInt l s (arithmeticOf b x y) ≡ arithmeticPasses b (evalInt l s x, passesInt l s x) (evalInt l s y, passesInt l s y)
+unfolding passesInt
+arithmetic-passes b l s x y = go (eqb b 0x04)
+  where
+    go : (t : Bool) → passesInt l s (cond t sum difference x y)
+        ≡ ((passesInt l s x || passesInt l s y) || cond t (outside (signed (evalInt l s x) +ℤ signed (evalInt l s y))) (outside (signed (evalInt l s x) -ℤ signed (evalInt l s y))))
+    go true = refl
+    go false = refl
+
+logic-passes : (b : ℕ) (l : Layout) (s : State) (x y : BoolExpr) → passesBool l s (logicOf b x y) ≡ (passesBool l s x || passesBool l s y)
+unfolding passesBool
+logic-passes b l s x y = go (eqb b 0x13)
+  where
+    go : (t : Bool) → passesBool l s (cond t andB orB x y) ≡ (passesBool l s x || passesBool l s y)
+    go true = refl
+    go false = refl
+
+compare-passes : (b : ℕ) (l : Layout) (s : State) (x y : IntExpr) → passesBool l s (compareOf b x y) ≡ (passesInt l s x || passesInt l s y)
+unfolding passesBool
+compare-passes b l s x y = go (eqb b 0x15)
+  where
+    go : (t : Bool) → passesBool l s (cond t equal less x y) ≡ (passesInt l s x || passesInt l s y)
     go true = refl
     go false = refl
 
@@ -186,15 +220,24 @@ module _ (text : List ℕ) (N : Names) (end : ℕ) where
       product-first = one-first (product (at16 text (at + 1))) (I (d - 1) (at + 1 + 2)) i-operand
 
       -- the constant that was read and the operand's answers make the answer of the whole
-      pub product-value : (l : Layout) (s : State) (c r n : ℕ) → c ≡ at16 text (at + 1) → r ≡ intValue l s (I (d - 1) (at + 1 + 2)) → n ≡ past (I (d - 1) (at + 1 + 2))
-          → (times c r ≡ intValue l s (I d at)) × (n ≡ past (I d at))
-      unfolding evalInt
-      product-value l s c r n o p q = (
+      pub product-value : (l : Layout) (s : State) (c r n : ℕ) (t : Bool) → c ≡ at16 text (at + 1) → r ≡ intValue l s (I (d - 1) (at + 1 + 2)) → n ≡ past (I (d - 1) (at + 1 + 2))
+          → t ≡ intPasses l s (I (d - 1) (at + 1 + 2))
+          → (times c r ≡ intValue l s (I d at)) × (n ≡ past (I d at)) × ((t || outside (signed c *ℤ signed r)) ≡ intPasses l s (I d at))
+      unfolding evalInt passesInt
+      product-value l s c r n t o p q u = (
         ap₂ times o p
             ∙ sym (one-value (product (at16 text (at + 1))) (evalInt l s) 0 (evalInt l s) 0 (times (at16 text (at + 1))) (λ a. refl) (I (d - 1) (at + 1 + 2)) i-operand)
             ∙ sym (ap (intValue l s) (i-product .1)),
         q ∙ sym (one-past (product (at16 text (at + 1))) (I (d - 1) (at + 1 + 2))) ∙ sym (ap past (i-product .1)),
+        ap₂ (λ (x : Bool) (y : ℕ). x || outside (signed y *ℤ signed r)) u o
+            ∙ ap (λ (y : ℕ). intPasses l s (I (d - 1) (at + 1 + 2)) || outside (signed (at16 text (at + 1)) *ℤ signed y)) p
+            ∙ passed (I (d - 1) (at + 1 + 2)) i-operand ∙ sym (ap (intPasses l s) (i-product .1)),
       )
+        where
+          passed : (x : Read IntExpr) → isRead (bind x (λ a n. got (product (at16 text (at + 1)) a) n)) ≡ true
+              → (intPasses l s x || outside (signed (at16 text (at + 1)) *ℤ signed (intValue l s x))) ≡ intPasses l s (bind x (λ a n. got (product (at16 text (at + 1)) a) n))
+          passed (got a n) h = refl
+          passed bad h = absurd (false≢true h)
 
     module _ (lo : 0x04 ≤ getD text at 0) (hi : getD text at 0 < 0x06) where
       pub i-two : I d at ≡ two (arithmeticOf (getD text at 0)) (I (d - 1) (at + 1)) (I (d - 1))
@@ -210,13 +253,24 @@ module _ (text : List ℕ) (N : Names) (end : ℕ) where
       int-second n q = subst (λ (j : ℕ). isRead (I (d - 1) j) ≡ true) (sym q) (two-second (arithmeticOf (getD text at 0)) (I (d - 1) (at + 1)) (I (d - 1)) i-both)
 
       -- the answers of the operands make the answer of the whole
-      pub int-pair : (l : Layout) (s : State) (r₁ n₁ r₂ n₂ : ℕ) → r₁ ≡ intValue l s (I (d - 1) (at + 1)) → n₁ ≡ past (I (d - 1) (at + 1)) → r₂ ≡ intValue l s (I (d - 1) n₁) → n₂ ≡ past (I (d - 1) n₁) → (cond (eqb (getD text at 0) 0x04) (plus r₁ r₂) (minus r₁ r₂) ≡ intValue l s (I d at)) × (n₂ ≡ past (I d at))
-      int-pair l s r₁ n₁ r₂ n₂ p₁ q₁ p₂ q₂ = (
-        ap₂ (λ x y. cond (eqb (getD text at 0) 0x04) (plus x y) (minus x y)) p₁ (p₂ ∙ ap (λ (j : ℕ). intValue l s (I (d - 1) j)) q₁)
-            ∙ sym (two-value (arithmeticOf (getD text at 0)) (evalInt l s) 0 (evalInt l s) 0 (evalInt l s) 0 (λ x y. cond (eqb (getD text at 0) 0x04) (plus x y) (minus x y)) (arithmetic-value (getD text at 0) l s) (I (d - 1) (at + 1)) (I (d - 1)) i-both)
-            ∙ sym (ap (intValue l s) i-two),
-        q₂ ∙ ap (λ (j : ℕ). past (I (d - 1) j)) q₁ ∙ sym (two-past (arithmeticOf (getD text at 0)) (I (d - 1) (at + 1)) (I (d - 1)) i-both) ∙ sym (ap past i-two),
-      )
+      pub int-pair : (l : Layout) (s : State) (r₁ n₁ : ℕ) (t₁ : Bool) (r₂ n₂ : ℕ) (t₂ : Bool) → r₁ ≡ intValue l s (I (d - 1) (at + 1)) → n₁ ≡ past (I (d - 1) (at + 1)) → t₁ ≡ intPasses l s (I (d - 1) (at + 1))
+          → r₂ ≡ intValue l s (I (d - 1) n₁) → n₂ ≡ past (I (d - 1) n₁) → t₂ ≡ intPasses l s (I (d - 1) n₁)
+          → (cond (eqb (getD text at 0) 0x04) (plus r₁ r₂) (minus r₁ r₂) ≡ intValue l s (I d at)) × (n₂ ≡ past (I d at)) × (arithmeticPasses (getD text at 0) (r₁, t₁) (r₂, t₂) ≡ intPasses l s (I d at))
+      int-pair l s r₁ n₁ t₁ r₂ n₂ t₂ p₁ q₁ u₁ p₂ q₂ u₂ =
+          let f = arithmeticOf (getD text at 0) in
+          let second : r₂ ≡ intValue l s (I (d - 1) (past (I (d - 1) (at + 1)))) = p₂ ∙ ap (λ (j : ℕ). intValue l s (I (d - 1) j)) q₁ in
+          let second′ : t₂ ≡ intPasses l s (I (d - 1) (past (I (d - 1) (at + 1)))) = u₂ ∙ ap (λ (j : ℕ). intPasses l s (I (d - 1) j)) q₁ in (
+            ap₂ (λ x y. cond (eqb (getD text at 0) 0x04) (plus x y) (minus x y)) p₁ second
+                ∙ sym (two-value f (evalInt l s) 0 (evalInt l s) 0 (evalInt l s) 0 (λ x y. cond (eqb (getD text at 0) 0x04) (plus x y) (minus x y)) (arithmetic-value (getD text at 0) l s) (I (d - 1) (at + 1)) (I (d - 1)) i-both)
+                ∙ sym (ap (intValue l s) i-two),
+            q₂ ∙ ap (λ (j : ℕ). past (I (d - 1) j)) q₁ ∙ sym (two-past f (I (d - 1) (at + 1)) (I (d - 1)) i-both) ∙ sym (ap past i-two),
+            ap₂ (arithmeticPasses (getD text at 0)) (ap₂ (λ (x : ℕ) (y : Bool). (x, y)) p₁ u₁ ∙ sym (both (I (d - 1) (at + 1)))) (ap₂ (λ (x : ℕ) (y : Bool). (x, y)) second second′ ∙ sym (both (I (d - 1) (past (I (d - 1) (at + 1))))))
+                ∙ sym (two-value f (passesInt l s) false (told l s) (0, false) (told l s) (0, false) (arithmeticPasses (getD text at 0)) (arithmetic-passes (getD text at 0) l s) (I (d - 1) (at + 1)) (I (d - 1)) i-both)
+                ∙ sym (ap (intPasses l s) i-two),
+          )
+        where
+          both : (x : Read IntExpr) → valueOf (told l s) (0, false) x ≡ (intValue l s x, intPasses l s x)
+          both x = both-value (evalInt l s) (passesInt l s) 0 false x
 
   module _ (d at : ℕ) (h : isRead (B d at) ≡ true) where
     b-step : (o : BoolOp) → boolOp (getD text at 0) ≡ o → B d at ≡ boolOf text N end (I (d - 1)) (B (d - 1)) o (at + 1)
@@ -255,11 +309,13 @@ module _ (text : List ℕ) (N : Names) (end : ℕ) where
       pub not-first : isRead (B (d - 1) (at + 1)) ≡ true
       not-first = one-first notB (B (d - 1) (at + 1)) (sym (ap isRead b-one) ∙ h)
 
-      pub not-value : (l : Layout) (s : State) (r : Bool) (n : ℕ) → r ≡ boolValue l s (B (d - 1) (at + 1)) → n ≡ past (B (d - 1) (at + 1)) → (not r ≡ boolValue l s (B d at)) × (n ≡ past (B d at))
-      unfolding evalBool
-      not-value l s r n p q = (
+      pub not-value : (l : Layout) (s : State) (r : Bool) (n : ℕ) (t : Bool) → r ≡ boolValue l s (B (d - 1) (at + 1)) → n ≡ past (B (d - 1) (at + 1)) → t ≡ boolPasses l s (B (d - 1) (at + 1))
+          → (not r ≡ boolValue l s (B d at)) × (n ≡ past (B d at)) × (t ≡ boolPasses l s (B d at))
+      unfolding evalBool passesBool
+      not-value l s r n t p q u = (
         ap not p ∙ sym (one-value notB (evalBool l s) false (evalBool l s) false not (λ a. refl) (B (d - 1) (at + 1)) (sym (ap isRead b-one) ∙ h)) ∙ sym (ap (boolValue l s) b-one),
         q ∙ sym (one-past notB (B (d - 1) (at + 1))) ∙ sym (ap past b-one),
+        u ∙ sym (one-value notB (passesBool l s) false (passesBool l s) false (λ (x : Bool). x) (λ a. refl) (B (d - 1) (at + 1)) (sym (ap isRead b-one) ∙ h)) ∙ sym (ap (boolPasses l s) b-one),
       )
 
     -- two operands, of Booleans or of integers
@@ -270,11 +326,14 @@ module _ (text : List ℕ) (N : Names) (end : ℕ) where
       b-second : (n : ℕ) → n ≡ past (X (at + 1)) → isRead (X n) ≡ true
       b-second n q = subst (λ (j : ℕ). isRead (X j) ≡ true) (sym q) (two-second f (X (at + 1)) X b-both)
 
-      b-pair : {P : Type 0} (l : Layout) (s : State) (ev : A → P) (z : P) (g : P → P → Bool) → ((a b : A) → evalBool l s (f a b) ≡ g (ev a) (ev b)) → (r₁ : P) (n₁ : ℕ) (r₂ : P) (n₂ : ℕ) → r₁ ≡ valueOf ev z (X (at + 1)) → n₁ ≡ past (X (at + 1)) → r₂ ≡ valueOf ev z (X n₁) → n₂ ≡ past (X n₁) → (g r₁ r₂ ≡ boolValue l s (B d at)) × (n₂ ≡ past (B d at))
-      b-pair l s ev z g law r₁ n₁ r₂ n₂ p₁ q₁ p₂ q₂ = (
-        ap₂ g p₁ (p₂ ∙ ap (λ (j : ℕ). valueOf ev z (X j)) q₁) ∙ sym (two-value f (evalBool l s) false ev z ev z g law (X (at + 1)) X b-both) ∙ sym (ap (boolValue l s) e),
-        q₂ ∙ ap (λ (j : ℕ). past (X j)) q₁ ∙ sym (two-past f (X (at + 1)) X b-both) ∙ sym (ap past e),
-      )
+      module _ {P : Type 0} (l : Layout) (s : State) (ev : A → P) (z : P) (g : P → P → Bool) (law : (a b : A) → evalBool l s (f a b) ≡ g (ev a) (ev b)) (passes : A → Bool) (law′ : (a b : A) → passesBool l s (f a b) ≡ (passes a || passes b)) where
+        b-pair : (r₁ : P) (n₁ : ℕ) (t₁ : Bool) (r₂ : P) (n₂ : ℕ) (t₂ : Bool) → r₁ ≡ valueOf ev z (X (at + 1)) → n₁ ≡ past (X (at + 1)) → t₁ ≡ valueOf passes false (X (at + 1))
+            → r₂ ≡ valueOf ev z (X n₁) → n₂ ≡ past (X n₁) → t₂ ≡ valueOf passes false (X n₁) → (g r₁ r₂ ≡ boolValue l s (B d at)) × (n₂ ≡ past (B d at)) × ((t₁ || t₂) ≡ boolPasses l s (B d at))
+        b-pair r₁ n₁ t₁ r₂ n₂ t₂ p₁ q₁ u₁ p₂ q₂ u₂ = (
+          ap₂ g p₁ (p₂ ∙ ap (λ (j : ℕ). valueOf ev z (X j)) q₁) ∙ sym (two-value f (evalBool l s) false ev z ev z g law (X (at + 1)) X b-both) ∙ sym (ap (boolValue l s) e),
+          q₂ ∙ ap (λ (j : ℕ). past (X j)) q₁ ∙ sym (two-past f (X (at + 1)) X b-both) ∙ sym (ap past e),
+          ap₂ _||_ u₁ (u₂ ∙ ap (λ (j : ℕ). valueOf passes false (X j)) q₁) ∙ sym (two-value f (passesBool l s) false passes false passes false _||_ law′ (X (at + 1)) X b-both) ∙ sym (ap (boolPasses l s) e),
+        )
 
     module _ (lo : 0x13 ≤ getD text at 0) (hi : getD text at 0 < 0x15) where
       pub b-logic : B d at ≡ two (logicOf (getD text at 0)) (B (d - 1) (at + 1)) (B (d - 1))
@@ -286,8 +345,12 @@ module _ (text : List ℕ) (N : Names) (end : ℕ) where
       pub logic-second : (n : ℕ) → n ≡ past (B (d - 1) (at + 1)) → isRead (B (d - 1) n) ≡ true
       logic-second = b-second (B (d - 1)) (logicOf (getD text at 0)) b-logic
 
-      pub logic-pair : (l : Layout) (s : State) (r₁ : Bool) (n₁ : ℕ) (r₂ : Bool) (n₂ : ℕ) → r₁ ≡ boolValue l s (B (d - 1) (at + 1)) → n₁ ≡ past (B (d - 1) (at + 1)) → r₂ ≡ boolValue l s (B (d - 1) n₁) → n₂ ≡ past (B (d - 1) n₁) → (cond (eqb (getD text at 0) 0x13) (r₁ && r₂) (r₁ || r₂) ≡ boolValue l s (B d at)) × (n₂ ≡ past (B d at))
-      logic-pair l s = b-pair (B (d - 1)) (logicOf (getD text at 0)) b-logic l s (evalBool l s) false (λ x y. cond (eqb (getD text at 0) 0x13) (x && y) (x || y)) (logic-value (getD text at 0) l s)
+      pub logic-pair : (l : Layout) (s : State) (r₁ : Bool) (n₁ : ℕ) (t₁ r₂ : Bool) (n₂ : ℕ) (t₂ : Bool) → r₁ ≡ boolValue l s (B (d - 1) (at + 1)) → n₁ ≡ past (B (d - 1) (at + 1)) → t₁ ≡ boolPasses l s (B (d - 1) (at + 1))
+          → r₂ ≡ boolValue l s (B (d - 1) n₁) → n₂ ≡ past (B (d - 1) n₁) → t₂ ≡ boolPasses l s (B (d - 1) n₁)
+          → (cond (eqb (getD text at 0) 0x13) (r₁ && r₂) (r₁ || r₂) ≡ boolValue l s (B d at)) × (n₂ ≡ past (B d at)) × ((t₁ || t₂) ≡ boolPasses l s (B d at))
+      logic-pair l s =
+          b-pair (B (d - 1)) (logicOf (getD text at 0)) b-logic l s (evalBool l s) false (λ x y. cond (eqb (getD text at 0) 0x13) (x && y) (x || y)) (logic-value (getD text at 0) l s)
+          (passesBool l s) (logic-passes (getD text at 0) l s)
 
     module _ (lo : 0x15 ≤ getD text at 0) (hi : getD text at 0 < 0x17) where
       pub b-compare : B d at ≡ two (compareOf (getD text at 0)) (I (d - 1) (at + 1)) (I (d - 1))
@@ -299,8 +362,12 @@ module _ (text : List ℕ) (N : Names) (end : ℕ) where
       pub compare-second : (n : ℕ) → n ≡ past (I (d - 1) (at + 1)) → isRead (I (d - 1) n) ≡ true
       compare-second = b-second (I (d - 1)) (compareOf (getD text at 0)) b-compare
 
-      pub compare-pair : (l : Layout) (s : State) (r₁ n₁ r₂ n₂ : ℕ) → r₁ ≡ intValue l s (I (d - 1) (at + 1)) → n₁ ≡ past (I (d - 1) (at + 1)) → r₂ ≡ intValue l s (I (d - 1) n₁) → n₂ ≡ past (I (d - 1) n₁) → (cond (eqb (getD text at 0) 0x15) (eqb r₁ r₂) (below r₁ r₂) ≡ boolValue l s (B d at)) × (n₂ ≡ past (B d at))
-      compare-pair l s = b-pair (I (d - 1)) (compareOf (getD text at 0)) b-compare l s (evalInt l s) 0 (λ x y. cond (eqb (getD text at 0) 0x15) (eqb x y) (below x y)) (compare-value (getD text at 0) l s)
+      pub compare-pair : (l : Layout) (s : State) (r₁ n₁ : ℕ) (t₁ : Bool) (r₂ n₂ : ℕ) (t₂ : Bool) → r₁ ≡ intValue l s (I (d - 1) (at + 1)) → n₁ ≡ past (I (d - 1) (at + 1)) → t₁ ≡ intPasses l s (I (d - 1) (at + 1))
+          → r₂ ≡ intValue l s (I (d - 1) n₁) → n₂ ≡ past (I (d - 1) n₁) → t₂ ≡ intPasses l s (I (d - 1) n₁)
+          → (cond (eqb (getD text at 0) 0x15) (eqb r₁ r₂) (below r₁ r₂) ≡ boolValue l s (B d at)) × (n₂ ≡ past (B d at)) × ((t₁ || t₂) ≡ boolPasses l s (B d at))
+      compare-pair l s =
+          b-pair (I (d - 1)) (compareOf (getD text at 0)) b-compare l s (evalInt l s) 0 (λ x y. cond (eqb (getD text at 0) 0x15) (eqb x y) (below x y)) (compare-value (getD text at 0) l s)
+          (passesInt l s) (compare-passes (getD text at 0) l s)
 
 -- what the evaluators are given: names by which the reader accepts, of some file, and a slot for each
 abbrev Given : {A : Type 0} → (List ℕ → Names → ℕ → ℕ → ℕ → Read A) → List ℕ → Shape → ℕ → ℕ → ℕ → Type 0

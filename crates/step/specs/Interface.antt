@@ -1,10 +1,10 @@
--- The state as the calls take and give it, 32 values and 8 statuses, and refusal 11 (document 01, "Turned-back calls").
+-- The state as the calls take and give it, 32 values, 8 statuses and the mark, and refusal 11 (document 01, "Turned-back calls"; document 02, R-5).
 -- A value is a signed 16-bit number. In a slot stands its pattern.
 use mathlib.Core.Bool.{Bool, true, false}
 use mathlib.Core.List.{List, [], _∷_, _++_, map}
 use Prim.Native.Nat.{ℕ, suc, _-_}
 use lib.IntN.{ℤ, pos}
-use lib.ListN.{length, take, replicate}
+use lib.ListN.{length, getD, take, replicate}
 use lib.Dec.{ltb, leb, eqb}
 use Rattle.design.specs.Tree.{Kind, boolean, integer, external, Variable, Design}
 use Rattle.design.specs.State.{State, layout, statusesIn}
@@ -36,13 +36,13 @@ firstWrong (false ∷ ts) = 0
 firstWrong (true ∷ ts) = suc (firstWrong ts)
 
 module _ (d : Design) where
-  -- "(place: first such index, statuses from 32)": there are 32 values
-  abbrev pub entriesRight : List ℤ → List ℕ → List Bool
-  entriesRight values statuses = valuesRight (d .variables) (map wrap values) ++ statusesRight (d .statuses) statuses
+  -- "(place: first such index, statuses from 32)": there are 32 values. Of the mark "any value other than 0 or 1 is refusal 11 at place 40": behind 8 statuses.
+  abbrev pub entriesRight : List ℤ → List ℕ → ℕ → List Bool
+  entriesRight values statuses mark = valuesRight (d .variables) (map wrap values) ++ (statusesRight (d .statuses) statuses ++ (leb mark 1 ∷ []))
 
   -- the state that entries give
-  abbrev pub slotsGiven : List ℤ → List ℕ → State
-  slotsGiven values statuses = take (length (d .variables)) (map wrap values) ++ take (length (d .statuses)) statuses
+  abbrev pub slotsGiven : List ℤ → List ℕ → ℕ → State
+  slotsGiven values statuses mark = take (length (d .variables)) (map wrap values) ++ (take (length (d .statuses)) statuses ++ (mark ∷ []))
 
   -- the entries that a state gives; unused ones are 0
   abbrev pub valuesOf : State → List ℤ
@@ -51,10 +51,14 @@ module _ (d : Design) where
   abbrev pub statusesOf : State → List ℕ
   statusesOf s = statusesIn (layout d) s ++ replicate (maxMatrices - length (d .statuses)) 0
 
+  abbrev pub markOf : State → ℕ
+  markOf s = getD s (layout d .mark) 0
+
 -- a state as the calls give it
 pub record StateEntries : Type 0 where
   pub values : List ℤ
   pub statuses : List ℕ
+  pub mark : ℕ
 
 abbrev pub entriesOf : Design → State → StateEntries
-entriesOf d s = record { values = valuesOf d s; statuses = statusesOf d s }
+entriesOf d s = record { values = valuesOf d s; statuses = statusesOf d s; mark = markOf d s }

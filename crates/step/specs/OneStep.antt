@@ -7,16 +7,25 @@ use lib.Dec.{leb, eqb}
 use lib.ListN.{length, getD, set, take, getElem?}
 use Rattle.design.specs.Tree.{BoolExpr, Stmt, Stmts, assign, assignB, ifElse, done, then, InvalidCell, Design, Mover, cell, raise, movers, truth, bit}
 use Rattle.design.specs.State.{State, Layout, layout, statusSlot, start}
-use Rattle.step.specs.Evaluation.{evalInt, evalBool}
+use Rattle.step.specs.Pattern.{signed, outside}
+use Rattle.step.specs.Evaluation.{evalInt, evalBool, passesInt, passesBool}
 use Rattle.step.specs.Piece.{expressionOf}
 use Rattle.step.specs.Property.{Property, invariant, noInvalidCell, constraint, propertyOf}
 
--- "its statements run in order, each reading what earlier ones left"
+-- the mark (document 02, R-5): whether it is set; and the state with it set where a test says so, else as it was
+abbrev pub marked : Layout → State → Bool
+marked l s = truth (getD s (l .mark) 0)
+
+abbrev pub markedIf : Bool → Layout → State → State
+markedIf t l s = cond t (set s (l .mark) 1) s
+
+-- "its statements run in order, each reading what earlier ones left". "A step sets it when a sum, difference or product in a statement or condition it really carries out
+-- (conditions whole) has an exact value outside -32,768..32,767. The value still wraps."
 unfoldable mutual
   pub execute : Stmt → Layout → State → State
-  execute (assign v e) l s = set s v (evalInt l s e)
-  execute (assignB v e) l s = set s v (bit (evalBool l s e))
-  execute (ifElse c a b) l s = cond (evalBool l s c) (executeAll a l s) (executeAll b l s)
+  execute (assign v e) l s = set (markedIf (passesInt l s e) l s) v (evalInt l s e)
+  execute (assignB v e) l s = set (markedIf (passesBool l s e) l s) v (bit (evalBool l s e))
+  execute (ifElse c a b) l s = cond (evalBool l s c) (executeAll a l (markedIf (passesBool l s c) l s)) (executeAll b l (markedIf (passesBool l s c) l s))
 
   pub executeAll : Stmts → Layout → State → State
   executeAll done l s = s
@@ -73,11 +82,12 @@ module _ (d : Design) where
 
   -- Whether a property is true in a state that a run is in, given the state before it, which the first state has not. Properties 0 and 1 are about the state itself.
   -- Property 2 (document 02, R-1) is about two successive states, an idle step's being the same twice: "It can break only at step 1 or later".
+  -- "every property counts as false where it is set; for property 2 the later state decides" (document 02, R-5). The first state, which none is before, has the mark 0.
   unfoldable pub trueAt : Property → Option State → State → Bool
-  trueAt (invariant e) before s = evalBool (layout d) s e
-  trueAt noInvalidCell before s = noInvalid (layout d) s (d .invalid)
+  trueAt (invariant e) before s = evalBool (layout d) s e && not (marked (layout d) s)
+  trueAt noInvalidCell before s = noInvalid (layout d) s (d .invalid) && not (marked (layout d) s)
   trueAt (constraint e) none s = true
-  trueAt (constraint e) (some r) s = evalBool (layout d) (r ++ s) e
+  trueAt (constraint e) (some r) s = evalBool (layout d) (r ++ s) e && not (marked (layout d) s)
 
   -- in a state alone
   abbrev pub holds : Property → State → Bool
@@ -102,5 +112,5 @@ module _ (d : Design) where
 
 -- Not part of the step rule: to unfold this is to unfold all of it, for facts about given designs.
 unfoldable pub stepping : ℕ
-unfolding evalInt evalBool execute executeAll enabled effect move step idle run expressionOf propertyOf trueAt stateBefore breaksAt breaksFrom breaks movers layout start
+unfolding evalInt evalBool outside signed passesInt passesBool execute executeAll enabled effect move step idle run expressionOf propertyOf trueAt stateBefore breaksAt breaksFrom breaks movers layout start
 stepping = 0

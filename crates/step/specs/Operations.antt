@@ -32,13 +32,13 @@ refusedAt number place = record { number = number; place = place }
 abbrev pub allRight : List Bool → Bool
 allRight ts = eqb (firstWrong ts) (length ts)
 
--- START "answers the first state".
+-- START "answers the first state"; "START and STEP return the mark, STEP and HOLDS take it" (document 02, R-5).
 abbrev pub startAnswer : List ℕ → Answer StateEntries
 startAnswer file = onDesign file λ d. answer (entriesOf d (start d))
 
 abbrev pub started : Answer StateEntries → Started
-started (refused number place) = record { refusal = refusedAt number place; values = replicate maxVariables (pos 0); statuses = replicate maxMatrices 0 }
-started (answer e) = record { refusal = refusedAt 0 0; values = e .values; statuses = e .statuses }
+started (refused number place) = record { refusal = refusedAt number place; values = replicate maxVariables (pos 0); statuses = replicate maxMatrices 0; mark = 0 }
+started (answer e) = record { refusal = refusedAt 0 0; values = e .values; statuses = e .statuses; mark = e .mark }
 
 unfoldable pub START : List ℕ → Started
 START file = started (startAnswer file)
@@ -48,34 +48,36 @@ abbrev pub next : Design → State → ℕ → StateEntries × Bool
 next d s choice = (entriesOf d (step d s choice), idle d s choice)
 
 -- STEP: 11; "12 choice not below w (place 0)".
-abbrev pub stepAnswer : List ℕ → List ℤ → List ℕ → ℕ → Answer (StateEntries × Bool)
-stepAnswer file values statuses choice =
+abbrev pub stepAnswer : List ℕ → List ℤ → List ℕ → ℕ → ℕ → Answer (StateEntries × Bool)
+stepAnswer file values statuses mark choice =
     onDesign file λ d.
-    need (allRight (entriesRight d values statuses)) 11 (firstWrong (entriesRight d values statuses))
+    need (allRight (entriesRight d values statuses mark)) 11 (firstWrong (entriesRight d values statuses mark))
     (need (ltb choice (length (movers d))) 12 0
-    (answer (next d (slotsGiven d values statuses) choice)))
+    (answer (next d (slotsGiven d values statuses mark) choice)))
 
 abbrev pub stepped : Answer (StateEntries × Bool) → Stepped
-stepped (refused number place) = record { refusal = refusedAt number place; values = replicate maxVariables (pos 0); statuses = replicate maxMatrices 0; idle = false }
-stepped (answer (e, i)) = record { refusal = refusedAt 0 0; values = e .values; statuses = e .statuses; idle = i }
+stepped (refused number place) = record { refusal = refusedAt number place; values = replicate maxVariables (pos 0); statuses = replicate maxMatrices 0; mark = 0; idle = false }
+stepped (answer (e, i)) = record { refusal = refusedAt 0 0; values = e .values; statuses = e .statuses; mark = e .mark; idle = i }
 
-unfoldable pub STEP : List ℕ → List ℤ → List ℕ → ℕ → Stepped
-STEP file values statuses choice = stepped (stepAnswer file values statuses choice)
+-- of the file, the state's values, statuses and mark, and the choice
+unfoldable pub STEP : List ℕ → List ℤ → List ℕ → ℕ → ℕ → Stepped
+STEP file values statuses mark choice = stepped (stepAnswer file values statuses mark choice)
 
 -- HOLDS "(a state and a property: 11; 13) answers whether the property is true there". Property 2 is about two states, and gets 13 here. HOLDS takes no piece (document 02, R-4).
-abbrev pub holdsAnswer : List ℕ → List ℤ → List ℕ → ℕ → Answer Bool
-holdsAnswer file values statuses p =
+abbrev pub holdsAnswer : List ℕ → List ℤ → List ℕ → ℕ → ℕ → Answer Bool
+holdsAnswer file values statuses mark p =
     onDesign file λ d.
-    need (allRight (entriesRight d values statuses)) 11 (firstWrong (entriesRight d values statuses))
+    need (allRight (entriesRight d values statuses mark)) 11 (firstWrong (entriesRight d values statuses mark))
     (need (leb p lastStateProperty) 13 0
-    (answer (holds d (propertyOf file noPiece d p) (slotsGiven d values statuses))))
+    (answer (holds d (propertyOf file noPiece d p) (slotsGiven d values statuses mark))))
 
 abbrev pub held : Answer Bool → Held
 held (refused number place) = record { refusal = refusedAt number place; holds = false }
 held (answer t) = record { refusal = refusedAt 0 0; holds = t }
 
-unfoldable pub HOLDS : List ℕ → List ℤ → List ℕ → ℕ → Held
-HOLDS file values statuses p = held (holdsAnswer file values statuses p)
+-- of the file, the values, statuses and mark, and the property
+unfoldable pub HOLDS : List ℕ → List ℤ → List ℕ → ℕ → ℕ → Held
+HOLDS file values statuses mark p = held (holdsAnswer file values statuses mark p)
 
 -- the first step, from step i on, at which the property is false; `before` is the state before step i
 module _ (d : Design) (q : Property) where

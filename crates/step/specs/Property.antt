@@ -1,4 +1,5 @@
--- The properties of a design (document 01, "One step"; document 02, R-1 and R-4), and which of them a call's piece and number name.
+-- The properties of a design (document 01, "One step"; document 02, R-1 and R-4), and which of them a call's piece and number name. When one is true, the mark (R-5) included, is said in
+-- OneStep (`trueAt`).
 use Prim.Native.Nat.{ℕ, zero, suc}
 use mathlib.Core.List.{List, _++_}
 use Rattle.design.specs.Tree.{BoolExpr, Design}

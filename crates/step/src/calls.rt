@@ -1,8 +1,7 @@
 // START, STEP and HOLDS on an accepted file.
 ghost use mathlib.Core.Path.{_≡_};
-ghost use mathlib.Core.List.{_++_};
 ghost use Prim.Native.Nat.{_+_, _≤_, _<_};
-ghost use lib.ListN.{length, take, replicate};
+ghost use lib.ListN.{length, replicate};
 ghost use Rattle.design.specs.Limits.{maxVariables, maxMatrices};
 ghost use Rattle.step.specs.Limits.{lastStateProperty};
 ghost use Rattle.design.specs.Tree.{Design};
@@ -15,11 +14,14 @@ ghost use Rattle.step.specs.Piece.{noPiece};
 ghost use Rattle.step.specs.Property.{propertyOf};
 ghost use Rattle.step.specs.OneStep.{holds as holdsIn};
 ghost use Rattle.step.specs.Operations.{started, START, next, stepped, STEP, held, HOLDS};
+ghost use Rattle.step.specs.Entries.{slotsEntered};
 ghost use Rattle.step.specs.Ready.{ReadyState};
 use super::Held;
 use super::Started;
 use super::Stepped;
+use super::interface::Entries;
 use super::interface::copy_slots;
+use super::interface::give_mark;
 use super::interface::give_statuses;
 use super::interface::give_values;
 use super::interface::patterns;
@@ -47,6 +49,7 @@ pub fn refuse_start(number: u8, place: usize) -> Started
         refusal: Refusal { number, place },
         values: [0i16; MAX_VARIABLES],
         statuses: [0u16; MAX_MATRICES],
+        mark: 0,
     }
 }
 
@@ -57,6 +60,7 @@ pub fn refuse_step(number: u8, place: usize) -> Stepped
         refusal: Refusal { number, place },
         values: [0i16; MAX_VARIABLES],
         statuses: [0u16; MAX_MATRICES],
+        mark: 0,
         idle: false,
     }
 }
@@ -78,6 +82,7 @@ pub fn start_slots(file: &[u8], shape: Shape, slots: &mut [u16]) -> Started
     load_start(file, shape, slots);
     let values = give_values(shape.variables, slots);
     let statuses = give_statuses(shape.variables, shape.matrices, slots);
+    let mark = give_mark(shape, slots);
     Started {
         refusal: Refusal {
             number: 0,
@@ -85,6 +90,7 @@ pub fn start_slots(file: &[u8], shape: Shape, slots: &mut [u16]) -> Started
         },
         values,
         statuses,
+        mark,
     }
 }
 
@@ -99,17 +105,13 @@ pub fn start_accepted(file: &[u8]) -> Started
 }
 
 // The state that the entries give, into slots.
-pub fn load_entries(
-    shape: Shape,
-    ps: [u16; MAX_VARIABLES],
-    ss: [u16; MAX_MATRICES],
-    slots: &mut [u16],
-)
+pub fn load_entries(shape: Shape, entries: Entries, slots: &mut [u16])
     requires { ⌜ (shape .variables ≤ maxVariables) × (shape .matrices ≤ maxMatrices) × (length (now slots) ≡ slotCount shape) ⌝ }
-    ensures { λ r. ⌜ now (slots .exit) ≡ take (shape .variables) ps ++ take (shape .matrices) ss ⌝ }
+    ensures { λ r. ⌜ now (slots .exit) ≡ slotsEntered shape entries ⌝ }
 {
-    copy_slots(&ps, shape.variables, 0, slots);
-    copy_slots(&ss, shape.matrices, shape.variables, slots);
+    copy_slots(&entries.patterns, shape.variables, 0, slots);
+    copy_slots(&entries.statuses, shape.matrices, shape.variables, slots);
+    slots[shape.variables + shape.matrices] = entries.mark;
 }
 
 // The step out of the state that the entries give, in `slots`.
@@ -119,17 +121,17 @@ pub fn step_slots(
     cells: &[u16; MAX_MOVERS],
     shape: Shape,
     choice: usize,
-    ps: [u16; MAX_VARIABLES],
-    ss: [u16; MAX_MATRICES],
+    entries: Entries,
     slots: &mut [u16],
 ) -> Stepped
     requires { ⌜ ReadyState (now file) (now events) shape (now slots) × MoversIndexed (now file) (now cells) shape × (choice < shape .normals + shape .externals) ⌝ }
-    ensures { λ r. ⌜ ((d : Design) → check (now (file .entry)) ≡ accepted d → r ≡ stepped (answer (next d (take (shape .variables) ps ++ take (shape .matrices) ss) choice))) ⌝ }
+    ensures { λ r. ⌜ ((d : Design) → check (now (file .entry)) ≡ accepted d → r ≡ stepped (answer (next d (slotsEntered shape entries) choice))) ⌝ }
 {
-    load_entries(shape, ps, ss, slots);
+    load_entries(shape, entries, slots);
     let tested = move_chosen(file, events, cells, shape, choice, slots);
     let values = give_values(shape.variables, slots);
     let statuses = give_statuses(shape.variables, shape.matrices, slots);
+    let mark = give_mark(shape, slots);
     Stepped {
         refusal: Refusal {
             number: 0,
@@ -137,6 +139,7 @@ pub fn step_slots(
         },
         values,
         statuses,
+        mark,
         idle: tested.idle,
     }
 }
@@ -145,16 +148,22 @@ pub fn step_accepted(
     file: &[u8],
     values: [i16; MAX_VARIABLES],
     statuses: [u16; MAX_MATRICES],
+    mark: u16,
     choice: u64,
 ) -> Stepped
     requires { ⌜ Accepted (now file) ⌝ }
-    ensures { λ r. ⌜ r ≡ STEP (now (file .entry)) values statuses choice ⌝ }
+    ensures { λ r. ⌜ r ≡ STEP (now (file .entry)) values statuses mark choice ⌝ }
 {
     let mut cells = [0u16; MAX_MOVERS];
     let normals = index_cells(file, &mut cells);
     let shape = shape(file, normals);
     let ps = patterns(values);
-    let wrong = wrong_entry(file, shape, ps, statuses);
+    let entries = Entries {
+        patterns: ps,
+        statuses,
+        mark,
+    };
+    let wrong = wrong_entry(file, shape, entries);
     if wrong < MAX_SLOTS {
         return refuse_step(11, wrong);
     }
@@ -166,7 +175,7 @@ pub fn step_accepted(
     index_events(file, &mut events);
     let mut all = [0u16; MAX_SLOTS];
     let n = slot_count(shape);
-    step_slots(file, &events, &cells, shape, c, ps, statuses, &mut all[..n])
+    step_slots(file, &events, &cells, shape, c, entries, &mut all[..n])
 }
 
 // Whether the property is true in the state that the entries give, in `slots`.
@@ -175,54 +184,53 @@ pub fn holds_slots(
     events: &[u16; EVENT_PLACES],
     shape: Shape,
     property: u64,
-    ps: [u16; MAX_VARIABLES],
-    ss: [u16; MAX_MATRICES],
+    entries: Entries,
     slots: &mut [u16],
 ) -> bool
     requires { ⌜ ReadyState (now file) (now events) shape (now slots) × (property ≤ lastStateProperty) ⌝ }
-    ensures { λ r. ⌜ ((d : Design) (parts : Parts (now (file .entry)) d) → r ≡ holdsIn d (propertyOf (now (file .entry)) noPiece d property) (take (shape .variables) ps ++ take (shape .matrices) ss)) ⌝ }
+    ensures { λ r. ⌜ ((d : Design) (parts : Parts (now (file .entry)) d) → r ≡ holdsIn d (propertyOf (now (file .entry)) noPiece d property) (slotsEntered shape entries)) ⌝ }
 {
-    load_entries(shape, ps, ss, slots);
+    load_entries(shape, entries, slots);
     property_true(file, b"", events, shape, property, slots)
 }
 
 // Whether the property is true in the state that right entries give.
-pub fn holds_right(
-    file: &[u8],
-    shape: Shape,
-    property: u64,
-    ps: [u16; MAX_VARIABLES],
-    ss: [u16; MAX_MATRICES],
-) -> bool
+pub fn holds_right(file: &[u8], shape: Shape, property: u64, entries: Entries) -> bool
     requires { ⌜ Accepted (now file) × Shaped (now file) shape × (property ≤ lastStateProperty) ⌝ }
-    ensures { λ r. ⌜ ((d : Design) (parts : Parts (now (file .entry)) d) → r ≡ holdsIn d (propertyOf (now (file .entry)) noPiece d property) (take (shape .variables) ps ++ take (shape .matrices) ss)) ⌝ }
+    ensures { λ r. ⌜ ((d : Design) (parts : Parts (now (file .entry)) d) → r ≡ holdsIn d (propertyOf (now (file .entry)) noPiece d property) (slotsEntered shape entries)) ⌝ }
 {
     let mut events = [0u16; EVENT_PLACES];
     index_events(file, &mut events);
     let mut all = [0u16; MAX_SLOTS];
     let n = slot_count(shape);
-    holds_slots(file, &events, shape, property, ps, ss, &mut all[..n])
+    holds_slots(file, &events, shape, property, entries, &mut all[..n])
 }
 
 pub fn holds_accepted(
     file: &[u8],
     values: [i16; MAX_VARIABLES],
     statuses: [u16; MAX_MATRICES],
+    mark: u16,
     property: u64,
 ) -> Held
     requires { ⌜ Accepted (now file) ⌝ }
-    ensures { λ r. ⌜ r ≡ HOLDS (now (file .entry)) values statuses property ⌝ }
+    ensures { λ r. ⌜ r ≡ HOLDS (now (file .entry)) values statuses mark property ⌝ }
 {
     let shape = shape(file, 0);
     let ps = patterns(values);
-    let wrong = wrong_entry(file, shape, ps, statuses);
+    let entries = Entries {
+        patterns: ps,
+        statuses,
+        mark,
+    };
+    let wrong = wrong_entry(file, shape, entries);
     if wrong < MAX_SLOTS {
         return refuse_holds(11, wrong);
     }
     if LAST_STATE_PROPERTY < property {
         return refuse_holds(13, 0);
     }
-    let holds = holds_right(file, shape, property, ps, statuses);
+    let holds = holds_right(file, shape, property, entries);
     Held {
         refusal: Refusal {
             number: 0,

@@ -8,6 +8,7 @@ ghost use Rattle.design.specs.Action.{assignment, statement, list};
 ghost use Rattle.design.specs.Check.{namesOf};
 ghost use Rattle.design.specs.State.{slotCount, layoutOf};
 ghost use Rattle.design.specs.Tree.{bit};
+ghost use Rattle.step.specs.OneStep.{markedIf};
 ghost use Rattle.step.specs.Accepted.{isRead, past, afterStmt, afterList};
 use super::evaluate::eval_bool;
 use super::evaluate::eval_int;
@@ -20,6 +21,16 @@ pub fn bit_of(b: bool) -> u16
     ensures { λ r. ⌜ r ≡ bit b ⌝ }
 {
     if b { 1 } else { 0 }
+}
+
+// Sets the mark where what was carried out passed the end.
+pub fn mark_if(passed: bool, shape: Shape, slots: &mut [u16])
+    requires { ⌜ slotCount shape ≤ length (now slots) ⌝ }
+    ensures { λ r. ⌜ now (slots .exit) ≡ markedIf passed (layoutOf shape) (now (slots .entry)) ⌝ }
+{
+    if passed {
+        slots[shape.variables + shape.matrices] = 1;
+    }
 }
 
 // The position past the list at `at`, which is not taken.
@@ -59,10 +70,12 @@ pub fn run_assign(
     let k = file[3 * v];
     if k == 1 {
         let x = eval_int(text, at + 1, end, shape, slots);
+        mark_if(x.passed, shape, slots);
         slots[v] = x.value;
         x.next
     } else {
         let x = eval_bool(text, at + 1, end, shape, slots);
+        mark_if(x.passed, shape, slots);
         slots[v] = bit_of(x.value);
         x.next
     }
@@ -91,6 +104,7 @@ pub fn run_stmt(
                 return run_assign(text, file, at + 1, end, shape, slots);
             }
             let c = eval_bool(text, at + 1, end, shape, slots);
+            mark_if(c.passed, shape, slots);
             if c.value {
                 let m = run_list(text, file, c.next, end, shape, nest - 1, slots);
                 skip_list(text, file, m, end, shape, nest - 1)

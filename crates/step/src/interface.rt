@@ -1,17 +1,18 @@
-// The 32 values and 8 statuses of the calls: whether they are right, into slots, and back.
+// The 32 values, the 8 statuses and the mark of the calls: whether they are right, into slots, and back.
 ghost use mathlib.Core.Path.{_≡_};
 ghost use mathlib.Core.List.{_++_, map};
 ghost use Prim.Native.Nat.{_+_, _-_, _*_, _≤_, _<_};
-ghost use lib.ListN.{length, take, drop, replicate};
+ghost use lib.ListN.{length, getD, take, drop, replicate};
 ghost use lib.Seq.{paste};
 ghost use lib.IntN.{pos};
 ghost use Rattle.design.specs.Tree.{Design};
 ghost use Rattle.design.specs.Check.{check, accepted, variableCount, matrixCount};
 ghost use Rattle.design.specs.Places.{Accepted, Shaped};
 ghost use Rattle.design.specs.Limits.{maxVariables, maxMatrices};
+ghost use Rattle.design.specs.State.{layoutOf, slotCount};
 ghost use Rattle.step.specs.Pattern.{signed, wrap};
 ghost use Rattle.step.specs.Interface.{firstWrong, valuesRight, statusesRight};
-ghost use Rattle.step.specs.Entries.{valueRight, statusRight};
+ghost use Rattle.step.specs.Entries.{valueRight, statusRight, testsOf};
 use super::number::integer;
 use super::number::pattern;
 use design::index::MATRICES_AT;
@@ -20,6 +21,16 @@ use design::limits::MAX_MATRICES;
 use design::limits::MAX_SLOTS;
 use design::limits::MAX_VARIABLES;
 use design::shape::Shape;
+
+// The entries that a call takes, the values as patterns; they are passed by value.
+pub struct Entries {
+    pub patterns: [u16; MAX_VARIABLES],
+    pub statuses: [u16; MAX_MATRICES],
+    pub mark: u16,
+}
+
+// The place of refusal 11 of the mark, behind those of the values and the statuses.
+const MARK_PLACE: usize = MAX_VARIABLES + MAX_MATRICES;
 
 // The patterns of the values.
 pub fn patterns(values: [i16; MAX_VARIABLES]) -> [u16; MAX_VARIABLES]
@@ -88,23 +99,23 @@ pub fn wrong_status(file: &[u8], matrices: usize, ss: [u16; MAX_MATRICES]) -> us
     m
 }
 
-// The index of the first wrong entry, statuses from 32; 40 where all are right.
-pub fn wrong_entry(
-    file: &[u8],
-    shape: Shape,
-    ps: [u16; MAX_VARIABLES],
-    ss: [u16; MAX_MATRICES],
-) -> usize
+// The index of the first wrong entry, statuses from 32, the mark 40; 41 where all are right.
+pub fn wrong_entry(file: &[u8], shape: Shape, entries: Entries) -> usize
     requires { ⌜ Accepted (now file) × Shaped (now file) shape ⌝ }
-    ensures { λ r. ⌜ ((d : Design) → check (now (file .entry)) ≡ accepted d → r ≡ firstWrong (valuesRight (d .variables) ps ++ statusesRight (d .statuses) ss)) ⌝ }
+    ensures { λ r. ⌜ ((d : Design) → check (now (file .entry)) ≡ accepted d → r ≡ firstWrong (testsOf d entries)) ⌝ }
 {
+    let ps = entries.patterns;
     let i = wrong_value(file, shape.variables, ps);
     if i < MAX_VARIABLES {
         return i;
     }
+    let ss = entries.statuses;
     let m = wrong_status(file, shape.matrices, ss);
     if m < MAX_MATRICES {
         return MAX_VARIABLES + m;
+    }
+    if 1 < entries.mark {
+        return MARK_PLACE;
     }
     MAX_SLOTS
 }
@@ -147,4 +158,12 @@ pub fn give_statuses(n: usize, k: usize, slots: &[u16]) -> [u16; MAX_MATRICES]
         i = i + 1;
     }
     out
+}
+
+// The mark of a state.
+pub fn give_mark(shape: Shape, slots: &[u16]) -> u16
+    requires { ⌜ (shape .variables ≤ maxVariables) × (shape .matrices ≤ maxMatrices) × (slotCount shape ≤ length (now slots)) ⌝ }
+    ensures { λ r. ⌜ r ≡ getD (now (slots .entry)) (layoutOf shape .mark) 0 ⌝ }
+{
+    slots[shape.variables + shape.matrices]
 }

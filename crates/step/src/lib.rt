@@ -31,12 +31,14 @@ pub struct Started {
     pub refusal: Refusal,
     pub values: [i16; MAX_VARIABLES],
     pub statuses: [u16; MAX_MATRICES],
+    pub mark: u16,
 }
 
 pub struct Stepped {
     pub refusal: Refusal,
     pub values: [i16; MAX_VARIABLES],
     pub statuses: [u16; MAX_MATRICES],
+    pub mark: u16,
     pub idle: bool,
 }
 
@@ -70,15 +72,16 @@ pub fn step(
     file: &[u8],
     values: [i16; MAX_VARIABLES],
     statuses: [u16; MAX_MATRICES],
+    mark: u16,
     choice: u64,
 ) -> Stepped
-    ensures { λ r. ⌜ r ≡ STEP (now (file .entry)) values statuses choice ⌝ }
+    ensures { λ r. ⌜ r ≡ STEP (now (file .entry)) values statuses mark choice ⌝ }
 {
     let checked = design::check(file);
     if checked.number != 0 {
         return refuse_step(checked.number, checked.place);
     }
-    step_accepted(file, values, statuses, choice)
+    step_accepted(file, values, statuses, mark, choice)
 }
 
 // HOLDS
@@ -86,15 +89,16 @@ pub fn holds(
     file: &[u8],
     values: [i16; MAX_VARIABLES],
     statuses: [u16; MAX_MATRICES],
+    mark: u16,
     property: u64,
 ) -> Held
-    ensures { λ r. ⌜ r ≡ HOLDS (now (file .entry)) values statuses property ⌝ }
+    ensures { λ r. ⌜ r ≡ HOLDS (now (file .entry)) values statuses mark property ⌝ }
 {
     let checked = design::check(file);
     if checked.number != 0 {
         return refuse_holds(checked.number, checked.place);
     }
-    holds_accepted(file, values, statuses, property)
+    holds_accepted(file, values, statuses, mark, property)
 }
 
 // REPLAY

@@ -1,6 +1,7 @@
 // Integers as 16-bit patterns.
 ghost use mathlib.Core.Path.{_≡_};
-ghost use Rattle.step.specs.Pattern.{plus, minus, times, below, signed, wrap};
+ghost use lib.IntN.{_+ℤ_, _-ℤ_, _*ℤ_};
+ghost use Rattle.step.specs.Pattern.{plus, minus, times, below, signed, wrap, outside};
 
 // The sum of two 16-bit patterns, wrapped.
 pub fn plus16(a: u16, b: u16) -> u16
@@ -50,4 +51,42 @@ pub fn integer(p: u16) -> i16
     } else {
         ((p as i32) - 65536) as i16
     }
+}
+
+// The signed number that a pattern stands for, with room for exact sums and products.
+fn exact(p: u16) -> i32
+    ensures { λ r. ⌜ r ≡ signed p ⌝ }
+{
+    integer(p) as i32
+}
+
+// Whether an exact value is outside what 16 bits hold.
+fn is_outside(x: i32) -> bool
+    ensures { λ r. ⌜ r ≡ outside x ⌝ }
+{
+    if x < -32768 {
+        return true;
+    }
+    32767 < x
+}
+
+// Whether the sum of two patterns passes the end.
+pub fn sum_passes(a: u16, b: u16) -> bool
+    ensures { λ r. ⌜ r ≡ outside (signed a +ℤ signed b) ⌝ }
+{
+    is_outside(exact(a) + exact(b))
+}
+
+// Whether their difference does.
+pub fn difference_passes(a: u16, b: u16) -> bool
+    ensures { λ r. ⌜ r ≡ outside (signed a -ℤ signed b) ⌝ }
+{
+    is_outside(exact(a) - exact(b))
+}
+
+// Whether their product does.
+pub fn product_passes(a: u16, b: u16) -> bool
+    ensures { λ r. ⌜ r ≡ outside (signed a *ℤ signed b) ⌝ }
+{
+    is_outside(exact(a) * exact(b))
 }

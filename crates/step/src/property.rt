@@ -4,17 +4,19 @@ ghost use mathlib.Core.Bool.{true};
 ghost use mathlib.Core.List.{List};
 ghost use Prim.Native.Nat.{ℕ, _≤_};
 ghost use lib.Dec.{ltb};
-ghost use lib.ListN.{drop};
+ghost use lib.ListN.{length, drop};
 ghost use Rattle.design.specs.Tree.{Design};
+ghost use Rattle.design.specs.Limits.{maxVariables, maxMatrices};
 ghost use Rattle.design.specs.State.{layoutOf, slotCount};
 ghost use Rattle.design.specs.Sections.{Parts};
 ghost use Rattle.step.specs.Evaluation.{evalBool};
 ghost use Rattle.step.specs.Piece.{pieceRight, expressionOf};
 ghost use Rattle.step.specs.Property.{propertyOf};
 ghost use Rattle.step.specs.Limits.{lastStateProperty};
-ghost use Rattle.step.specs.OneStep.{noInvalid, trueAt, holds};
+ghost use Rattle.step.specs.OneStep.{marked, noInvalid, trueAt, holds};
 ghost use Rattle.step.specs.Ready.{ReadyState, ReadyPair, beforeIn};
 use super::evaluate::eval_bool;
+use super::interface::give_mark;
 use super::limits::LAST_STATE_PROPERTY;
 use super::mover::status_and_event;
 use super::piece::expression;
@@ -59,7 +61,16 @@ pub fn no_invalid(file: &[u8], events: &[u16; EVENT_PLACES], shape: Shape, slots
     true
 }
 
-// Property 0 is an expression, property 1 is about invalid cells: both are true or false of one state.
+// Whether the mark is set.
+pub fn is_marked(shape: Shape, slots: &[u16]) -> bool
+    requires { ⌜ (shape .variables ≤ maxVariables) × (shape .matrices ≤ maxMatrices) × (slotCount shape ≤ length (now slots)) ⌝ }
+    ensures { λ r. ⌜ r ≡ marked (layoutOf shape) (now (slots .entry)) ⌝ }
+{
+    let mark = give_mark(shape, slots);
+    0 < mark
+}
+
+// Property 0 is an expression, property 1 is about invalid cells: both are true or false of one state, and false where the mark is set.
 pub fn property_true<'a>(
     file: &'a [u8],
     piece: &'a [u8],
@@ -71,6 +82,9 @@ pub fn property_true<'a>(
     requires { ⌜ ReadyState (now file) (now events) shape (now slots) × (pieceRight (now file) (now piece) property ≡ true) × (property ≤ lastStateProperty) ⌝ }
     ensures { λ r. ⌜ ((d : Design) (parts : Parts (now (file .entry)) d) → r ≡ holds d (propertyOf (now (file .entry)) (now (piece .entry)) d property) (now (slots .entry))) ⌝ }
 {
+    if is_marked(shape, slots) {
+        return false;
+    }
     if property == 0 {
         expression_true(file, piece, shape, slots)
     } else {
@@ -99,7 +113,7 @@ pub fn constraint_true(file: &[u8], shape: Shape, pair: &[u16]) -> bool
 }
 
 // Whether the property is true in the second state of a pair, the first being the state before it. The first state of a run has none before it: there `first` holds,
-// and the constraint is true.
+// and the constraint is true. But for that, no property is true where the second state's mark is set.
 pub fn true_at<'a>(
     file: &'a [u8],
     piece: &'a [u8],
@@ -113,12 +127,15 @@ pub fn true_at<'a>(
     ensures { λ r. ⌜ ((d : Design) (parts : Parts (now (file .entry)) d)
         → r ≡ trueAt d (propertyOf (now (file .entry)) (now (piece .entry)) d property) (beforeIn first (slotCount shape) (now (pair .entry))) (drop (slotCount shape) (now (pair .entry)))) ⌝ }
 {
+    let n = slot_count(shape);
     if property <= LAST_STATE_PROPERTY {
-        let n = slot_count(shape);
         return property_true(file, piece, events, shape, property, &pair[n..]);
     }
     if first {
         return true;
+    }
+    if is_marked(shape, &pair[n..]) {
+        return false;
     }
     constraint_true(file, shape, pair)
 }

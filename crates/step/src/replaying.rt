@@ -49,7 +49,7 @@ pub fn first_over(choices: &[u8], w: usize) -> usize
     i
 }
 
-// The first state, in slots that are 0.
+// The first state, in slots that are 0, as its statuses and its mark are.
 pub fn load_start(file: &[u8], shape: Shape, slots: &mut [u16])
     requires { ⌜ Accepted (now file) × Shaped (now file) shape × (now slots ≡ replicate (slotCount shape) 0) ⌝ }
     ensures { λ r. ⌜ ((d : Design) → check (now (file .entry)) ≡ accepted d → now (slots .exit) ≡ start d) ⌝ }

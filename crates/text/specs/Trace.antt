@@ -25,7 +25,8 @@ use Rattle.text.specs.Text.{digits, decimal}
 use Rattle.text.specs.Line.{spaced, head, tail, line}
 
 module _ (d : Design) (q : Property) where
-  -- the line of a state, with the step and the mover that led to it, and the state before: variables as signed numbers, then statuses
+  -- the line of a state, with the step and the mover that led to it, and the state before: variables as signed numbers, then statuses. The mark (document 02,
+  -- R-5) is not shown, but whether the property is true follows it.
   unfoldable pub stateLine : ℕ → ℕ → Bool → Option State → State → List ℕ
   stateLine i mover idled before s = line i mover idled (trueAt d q before s) (take (length (d .variables)) (map signed s)) (map pos (statusesIn (layout d) s))
 

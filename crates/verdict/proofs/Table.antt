@@ -4,9 +4,10 @@ use mathlib.Core.List.{_++_}
 use Rattle.design.specs.DesignA.{bytesA, pieceA, designA, count, check-A}
 use Rattle.design.specs.Constrained.{bytesMoved, designMoved, check-moved, bytesNoIdle, designNoIdle, check-noIdle}
 use Rattle.design.specs.Multiplied.{check-multiplied}
+use Rattle.design.specs.Passing.{bytesPassing, designPassing, wrapsBelow, check-passing}
 use Rattle.design.specs.Check.{checking}
 use Rattle.design.specs.Answer.{onDesign}
-use Rattle.step.specs.Pattern.{signed, wrap}
+use Rattle.step.specs.Pattern.{signed, wrap, outside}
 use Rattle.step.specs.Piece.{pieceRight}
 use Rattle.step.specs.Gate.{gate}
 use Rattle.step.specs.OneStep.{stepping}
@@ -15,10 +16,11 @@ use Rattle.step.specs.Operations.{firstBreak}
 use Rattle.clauses.specs.Formula.{encoding}
 use Rattle.clauses.proofs.DesignA.{models-3, models-4, models-lent}
 use Rattle.clauses.proofs.Constrained.{models-moved, models-noIdle}
-use Rattle.clauses.proofs.Multiplied.{frame-multiplied, bound-multiplied-0, bound-multiplied-2, broken-multiplied, never-multiplied, models-multiplied-1, models-multiplied-2}
+use Rattle.clauses.proofs.Multiplied.{frame-multiplied, frame-multiplied-1, broken-multiplied-1, bound-multiplied-0, bound-multiplied-2, broken-multiplied, never-multiplied, models-multiplied-1, models-multiplied-2}
+use Rattle.clauses.proofs.Passing.{frame-passing, frame-passing-2, models-passing}
 use Rattle.search.specs.Search.{turn, solved}
 use Rattle.search.specs.Solve.{solve}
-use Rattle.verdict.specs.Table.{AllHold, bareCases, pieceCases, table}
+use Rattle.verdict.specs.Table.{AllHold, bareCases, pieceCases, passingCases, table}
 
 bare-hold : AllHold bareCases
 unfolding bytesA pieceA bytesMoved bytesNoIdle designA designMoved designNoIdle count checking stepping pieceRight gate onDesign eventReadOf guardReadOf eventReadBy guardReadBy countFrom firstBreak encoding signed wrap turn solved solve
@@ -27,6 +29,55 @@ bare-hold = (refl, (refl, (refl, (refl, (refl, (refl, (refl, (refl, tt))))))))
 pieces-hold : AllHold (pieceCases ++ bareCases)
 unfolding bytesA pieceA bytesMoved bytesNoIdle designA designMoved designNoIdle count checking stepping pieceRight gate onDesign eventReadOf guardReadOf eventReadBy guardReadBy countFrom firstBreak encoding signed wrap turn solved solve
 pieces-hold = ((refl, refl, refl, refl, refl), ((refl, refl), ((refl, refl), ((refl, refl), (refl, (refl, (models-lent, (refl, ((refl, refl), (refl, (refl, (refl, (refl, (refl, (refl, (refl, (refl, (refl, (refl, (refl, (refl, (refl, (refl, (refl, (refl, (refl, bare-hold))))))))))))))))))))))))))
+
+passing-hold : AllHold (passingCases ++ (pieceCases ++ bareCases))
+unfolding bytesPassing designPassing wrapsBelow designA stepping firstBreak signed wrap outside
+passing-hold = (
+  check-passing,
+  (
+    frame-passing,
+    (
+      refl,
+      (
+        (refl, refl),
+        (
+          (refl, refl),
+          (
+            refl,
+            (
+              models-passing,
+              (
+                frame-passing-2,
+                (
+                  (refl, refl),
+                  (
+                    refl,
+                    (
+                      frame-multiplied-1,
+                      (
+                        broken-multiplied-1,
+                        (
+                          refl,
+                          (
+                            refl,
+                            (
+                              refl,
+                              (refl, (refl, (refl, (refl, (refl, (refl, (refl, (refl, ((refl, refl), ((refl, refl), ((refl, refl), ((refl, refl), pieces-hold)))))))))))),
+                            ),
+                          ),
+                        ),
+                      ),
+                    ),
+                  ),
+                ),
+              ),
+            ),
+          ),
+        ),
+      ),
+    ),
+  ),
+)
 
 pub table-holds : AllHold table
 unfolding bytesA pieceA bytesMoved bytesNoIdle designA designMoved designNoIdle count checking stepping pieceRight gate onDesign eventReadOf guardReadOf eventReadBy guardReadBy countFrom firstBreak encoding signed wrap turn solved solve
@@ -92,7 +143,7 @@ table-holds = (
                                                             models-multiplied-1,
                                                             (
                                                               models-multiplied-2,
-                                                              (refl, (refl, (refl, (refl, (refl, ((refl, refl), ((refl, refl), ((refl, refl), ((refl, refl), pieces-hold))))))))),
+                                                              (refl, (refl, (refl, (refl, (refl, ((refl, refl), ((refl, refl), ((refl, refl), ((refl, refl), passing-hold))))))))),
                                                             ),
                                                           ),
                                                         ),

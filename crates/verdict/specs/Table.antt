@@ -1,25 +1,30 @@
--- Document 01's cases marked *, as one table over the definitions (its section "Design A"), and cases of the requests of document 02. That it holds is one theorem
+-- Document 01's cases with a *, as one table over the definitions (its section "Design A"), where a request of document 02 gives other numbers with those, and cases of the requests. That it holds is one theorem
 -- (proofs/Table.antt).
 use mathlib.Core.Path.{_≡_}
-use mathlib.Core.Bool.{true, false}
+use mathlib.Core.Bool.{Bool, true, false}
 use mathlib.Core.List.{List, [], _∷_, _++_}
 use mathlib.Core.Option.{none, some}
 use Prim.Native.Nat.{ℕ}
 use lib.IntN.{ℤ, pos, negℤ}
 use lib.ListN.{length, replicate}
-use Rattle.design.specs.Tree.{Design}
+use Rattle.design.specs.Tree.{IntExpr, constant, Design}
+use Rattle.design.specs.Limits.{maxVariables}
 use Rattle.design.specs.Check.{accepted, check}
-use Rattle.design.specs.State.{start}
+use Rattle.design.specs.State.{layoutIn, start}
 use Rattle.design.specs.DesignA.{bytesA, pieceA, designA}
 use Rattle.design.specs.Constrained.{bytesMoved, designMoved, bytesNoIdle, designNoIdle}
 use Rattle.design.specs.Multiplied.{bytesMultiplied, designMultiplied}
+use Rattle.design.specs.Passing.{bytesPassing, designPassing}
 use Rattle.step.specs.Piece.{noPiece}
 use Rattle.step.specs.Property.{Property, propertyOf}
 use Rattle.step.specs.Gate.{gateRefusal}
 use Rattle.step.specs.Pattern.{plus, minus, times, signed, wrap}
+use Rattle.step.specs.Evaluation.{passesInt}
 use Rattle.step.specs.OneStep.{breaksAt, breaks}
+use Rattle.step.specs.Interface.{firstWrong, entriesRight}
 use Rattle.step.specs.StatusEventGuard.{eventsRead, guardsRead}
 use Rattle.step.specs.Operations.{firstBreak}
+use Rattle.clauses.specs.Expression.{leastOperand, largestOperand}
 use Rattle.clauses.specs.Formula.{S, P, w, G, F, n, lastClause, formula}
 use Rattle.clauses.specs.Theorem.{Model, Exactly}
 use Rattle.search.specs.Solve.{solve}
@@ -44,6 +49,17 @@ noIdleStep = record { design = designNoIdle; property = propertyOf bytesNoIdle n
 
 abbrev tripled : Subject
 tripled = record { design = designMultiplied; property = propertyOf bytesMultiplied noPiece designMultiplied 0 }
+
+-- property 1 of the design with products, which has no invalid cell
+abbrev tripledCells : Subject
+tripledCells = record { design = designMultiplied; property = propertyOf bytesMultiplied noPiece designMultiplied 1 }
+
+-- properties 0 and 2 of the design whose counter passes the end
+abbrev passing : Subject
+passing = record { design = designPassing; property = propertyOf bytesPassing noPiece designPassing 0 }
+
+abbrev passingNext : Subject
+passingNext = record { design = designPassing; property = propertyOf bytesPassing noPiece designPassing 2 }
 
 -- property 0 of Design A with a piece, not (0 < c), and with the piece 10 01, true; properties 1 and 2 with a piece, which they do not read
 abbrev lentA : Subject
@@ -70,6 +86,8 @@ pub data Case : Type 0 where
   -- these choices break at this step, and not before; these never
   broken : Subject → List ℕ → ℕ → Case
   never : Subject → List ℕ → Case
+  -- these choices break at this step, whether or not they break before
+  stillBroken : Subject → List ℕ → ℕ → Case
   -- so many events and guards are read along these choices
   counts : Design → List ℕ → ℕ → ℕ → Case
   -- a bound has so many models
@@ -78,6 +96,12 @@ pub data Case : Type 0 where
   gated : List ℕ → List ℕ → ℕ → ℕ → ℕ → Case
   -- two integers, and their sum, difference or product
   sum difference product : ℤ → ℤ → ℤ → Case
+  -- two integers, and whether their sum, difference or product passes the end
+  sumPasses differencePasses productPasses : ℤ → ℤ → Bool → Case
+  -- a design's entries, of all values 0, statuses and a mark: the index of the first that is wrong, 41 where none is
+  entries : Design → List ℕ → ℕ → ℕ → Case
+  -- a constant, and the least and the largest operand whose product by it stays inside
+  operands : ℤ → ℤ → ℤ → Case
   -- SOLVE: n, words, budget; answer, tries and the values left
   solves : ℕ → List ℤ → ℕ → Answered → ℕ → List ℕ → Case
 
@@ -90,12 +114,18 @@ Holds (last s k literals) = length (lastClause (s .design) (s .property) k) ≡ 
 Holds (broken s cs i) =
     (breaksAt (s .design) (s .property) cs i ≡ true) × (firstBreak (s .design) (s .property) none (start (s .design)) cs 0 ≡ some i)
 Holds (never s cs) = breaks (s .design) (s .property) cs ≡ false
+Holds (stillBroken s cs i) = breaksAt (s .design) (s .property) cs i ≡ true
 Holds (counts d cs events guards) = (eventsRead d (start d) cs ≡ events) × (guardsRead d (start d) cs ≡ guards)
 Holds (models s k count) = Exactly (Model (s .design) (s .property) k) count
 Holds (gated file piece p k number) = gateRefusal file piece p k ≡ record { number = number; place = 0 }
 Holds (sum a b c) = signed (plus (wrap a) (wrap b)) ≡ c
 Holds (difference a b c) = signed (minus (wrap a) (wrap b)) ≡ c
 Holds (product a b c) = signed (times (wrap a) (wrap b)) ≡ c
+Holds (sumPasses a b t) = passesInt (layoutIn 0 0) [] (IntExpr.sum (constant (wrap a)) (constant (wrap b))) ≡ t
+Holds (differencePasses a b t) = passesInt (layoutIn 0 0) [] (IntExpr.difference (constant (wrap a)) (constant (wrap b))) ≡ t
+Holds (productPasses a b t) = passesInt (layoutIn 0 0) [] (IntExpr.product (wrap a) (constant (wrap b))) ≡ t
+Holds (entries d statuses mark i) = firstWrong (entriesRight d (replicate maxVariables (pos 0)) statuses mark) ≡ i
+Holds (operands c l h) = (leastOperand (signed (wrap c)) ≡ l) × (largestOperand (signed (wrap c)) ≡ h)
 Holds (solves variables words budget answer tries values) =
     solve variables words (replicate variables 7) (replicate variables 7) budget
     ≡ record { reply = Done (record { answer = answer; tries = tries }); values = values; trail = replicate variables 0 }
@@ -128,9 +158,9 @@ bareCases =
 abbrev pub pieceCases : List Case
 pieceCases =
     -- A piece (document 02, R-4) is judged in the invariant's place, and not beside it: the invariant breaks at 3. Its names are Design A's: c is its variable 1.
-    frame lentTrue 21 0 3 371 395
-    ∷ bound lentTrue 0 22 23
-    ∷ bound lentA 0 102 295
+    frame lentTrue 22 1 3 378 404
+    ∷ bound lentTrue 0 24 27
+    ∷ bound lentA 0 104 299
     ∷ broken lentA (2 ∷ 0 ∷ 1 ∷ []) 2
     ∷ never lentA (0 ∷ 1 ∷ 2 ∷ [])
     ∷ never lentTrue (2 ∷ 0 ∷ 1 ∷ [])
@@ -161,25 +191,64 @@ pieceCases =
     ∷ gated bytesMoved (0x00 ∷ []) 2 3 0
     ∷ []
 
+-- counters that pass the end
+abbrev pub passingCases : List Case
+passingCases =
+    -- Document 02, R-5. The invariant and cell 0's event and guard have a sum that wraps: "Guards, events and properties go on wrapping." Cell 1 has one in a branch that is not taken.
+    reads bytesPassing designPassing
+    ∷ frame passing 22 161 4 1077 1264
+    ∷ never passing (0 ∷ 1 ∷ 0 ∷ [])
+    -- Cell 2 sets the mark though v is 32,767 again, and cell 3 by its condition alone, an or whose first side is true already: "conditions whole"
+    ∷ broken passing (2 ∷ []) 1
+    ∷ broken passing (1 ∷ 0 ∷ 3 ∷ []) 3
+    -- "Once set it remains set"
+    ∷ stillBroken passing (2 ∷ 0 ∷ 1 ∷ []) 3
+    ∷ models passing 1 2
+    -- "for property 2 the later state decides": the constraint is true, and the first step breaks
+    ∷ frame passingNext 22 0 4 1078 1104
+    ∷ broken passingNext (2 ∷ []) 1
+    ∷ never passingNext (0 ∷ 1 ∷ [])
+    -- a product: 3 to the 10th is past the end; without invalid cells property 1 has the and alone
+    ∷ frame tripledCells 21 1 1 1497 1520
+    ∷ broken tripledCells (replicate 10 0) 10
+    -- "any value other than 0 or 1 is refusal 11 at place 40", behind the values and the statuses
+    ∷ entries designA (replicate 8 0) 1 41
+    ∷ entries designA (replicate 8 0) 2 40
+    ∷ entries designA (2 ∷ replicate 7 0) 2 32
+    -- "outside -32,768..32,767", at both ends
+    ∷ sumPasses (pos 32767) (pos 1) true
+    ∷ sumPasses (pos 32767) (pos 0) false
+    ∷ sumPasses (negℤ (pos 32768)) (negℤ (pos 1)) true
+    ∷ differencePasses (pos 0) (negℤ (pos 32768)) true
+    ∷ differencePasses (negℤ (pos 1)) (pos 32767) false
+    ∷ productPasses (negℤ (pos 1)) (negℤ (pos 32768)) true
+    ∷ productPasses (pos 2) (pos 16384) true
+    ∷ productPasses (pos 2) (negℤ (pos 16384)) false
+    -- "the least and largest operand whose exact product stays inside"
+    ∷ operands (pos 0) (negℤ (pos 32768)) (pos 32767)
+    ∷ operands (pos 3) (negℤ (pos 10922)) (pos 10922)
+    ∷ operands (negℤ (pos 1)) (negℤ (pos 32767)) (pos 32767)
+    ∷ operands (negℤ (pos 32768)) (pos 0) (pos 1)
+    ∷ []
+
 abbrev pub table : List Case
 table =
     reads bytesA designA
-    -- "S=21, P=80, w=3, G=371, F=475."
-    ∷ frame invariantA 21 80 3 371 475
-    -- "Bound 0: n=102, 295 clauses." "Bound 3: n=1527, 5413 clauses."
-    ∷ bound invariantA 0 102 295
-    ∷ bound invariantA 3 1527 5413
+    -- document 02, R-5: "Design A now has S=22, P=81, G=378, F=484; bound 0 n=104 and 299 clauses, bound 3 n=1556 and 5522."
+    ∷ frame invariantA 22 81 3 378 484
+    ∷ bound invariantA 0 104 299
+    ∷ bound invariantA 3 1556 5522
     -- "Choices 2,0,1 break at 3"; "0,1,2 never."
     ∷ broken invariantA (2 ∷ 0 ∷ 1 ∷ []) 3
     ∷ never invariantA (0 ∷ 1 ∷ 2 ∷ [])
     -- "Bound 3 has 1 model; bound 4 has 9."
     ∷ models invariantA 3 1
     ∷ models invariantA 4 9
-    -- Property 2 (document 02, R-1). The constraint has 146 gates, which are added to Design A's 371 of the step, and "P is 0".
+    -- Property 2 (document 02, R-1). The constraint has 146 gates and the and with the mark, which are added to Design A's 378 of the step, and "P is 0".
     ∷ reads bytesMoved designMoved
-    ∷ frame movedBelow 21 0 3 517 541
-    ∷ bound movedBelow 0 22 23
-    ∷ bound movedBelow 3 1645 5831
+    ∷ frame movedBelow 22 0 3 525 550
+    ∷ bound movedBelow 0 23 24
+    ∷ bound movedBelow 3 1673 5937
     -- "at bound 0 the last clause is empty"; "the last clause takes frames 0 to k-1", and with another property "frames 0..k"
     ∷ last movedBelow 0 0
     ∷ last movedBelow 3 3
@@ -193,11 +262,12 @@ table =
     ∷ never noIdleStep (1 ∷ 0 ∷ 0 ∷ [])
     ∷ never noIdleStep []
     ∷ models noIdleStep 2 3
-    -- Products (document 02, R-2): v is tripled, and -20 < -3 * v breaks. The action and the invariant have "1,280 gates" each, beside 54 and 80.
+    -- Products (document 02, R-2): v is tripled, and -20 < -3 * v breaks. The action and the invariant have "1,280 gates" each; beside them the step has
+    -- 217 (34 of the cell's place, 162 that mark, 21 muxes) and the property 81 (less, and the and).
     ∷ reads bytesMultiplied designMultiplied
-    ∷ frame tripled 20 1360 1 1334 2715
-    ∷ bound tripled 0 1381 4646
-    ∷ bound tripled 2 6811 23076
+    ∷ frame tripled 21 1361 1 1497 2880
+    ∷ bound tripled 0 1383 4650
+    ∷ bound tripled 2 7143 24198
     ∷ broken tripled (0 ∷ 0 ∷ []) 2
     ∷ never tripled (0 ∷ [])
     ∷ models tripled 1 0
@@ -215,4 +285,4 @@ table =
     -- past the break at 3, and where the guard is false
     ∷ broken invariantA (2 ∷ 0 ∷ 1 ∷ 0 ∷ 1 ∷ []) 3
     ∷ counts designA (2 ∷ 0 ∷ 1 ∷ 0 ∷ 1 ∷ []) 4 4
-    ∷ pieceCases ++ bareCases
+    ∷ passingCases ++ (pieceCases ++ bareCases)

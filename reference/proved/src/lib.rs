@@ -30,32 +30,38 @@ fn answered<T>(code: u64, done: impl FnOnce() -> T) -> Answer<T> {
 pub struct Lent {
     pub values: [i16; MAX_VARIABLES],
     pub statuses: [u16; MAX_MATRICES],
+    pub mark: [u16; 1],
 }
 
 impl Lent {
     /// What stands in lent memory before START; a refused call must leave it.
-    pub const FILLED: Lent = Lent { values: [-77; MAX_VARIABLES], statuses: [777; MAX_MATRICES] };
+    pub const FILLED: Lent = Lent { values: [-77; MAX_VARIABLES], statuses: [777; MAX_MATRICES], mark: [7_777] };
+    /// Every entry 0, and no mark.
+    pub const ZERO: Lent = Lent { values: [0; MAX_VARIABLES], statuses: [0; MAX_MATRICES], mark: [0] };
 
     fn of(state: &State) -> Lent {
-        Lent { values: state.values, statuses: state.statuses.map(u16::from) }
+        Lent { values: state.values, statuses: state.statuses.map(u16::from), mark: [state.mark] }
     }
 
     fn state(&self) -> State {
-        State { values: self.values, statuses: self.statuses.map(|s| u8::try_from(s).expect("a status over 255")) }
+        let statuses = self.statuses.map(|s| u8::try_from(s).expect("a status over 255"));
+        State { values: self.values, statuses, mark: self.mark[0] }
     }
 }
 
 /// The entries on lent memory, as C calls them.
 pub fn start(design: &[u8], lent: &mut Lent) -> u64 {
-    unsafe { stm_start(design.as_ptr(), design.len(), &mut lent.values, &mut lent.statuses) }
+    unsafe { stm_start(design.as_ptr(), design.len(), &mut lent.values, &mut lent.statuses, &mut lent.mark) }
 }
 
 pub fn step(design: &[u8], lent: &mut Lent, choice: u64, idle: &mut [u8; 1]) -> u64 {
-    unsafe { stm_step(design.as_ptr(), design.len(), &mut lent.values, &mut lent.statuses, choice, idle) }
+    let Lent { values, statuses, mark } = lent;
+    unsafe { stm_step(design.as_ptr(), design.len(), values, statuses, mark, choice, idle) }
 }
 
 pub fn holds(design: &[u8], lent: &Lent, property: u64, holds: &mut [u8; 1]) -> u64 {
-    unsafe { stm_holds(design.as_ptr(), design.len(), &lent.values, &lent.statuses, property, holds) }
+    let Lent { values, statuses, mark: [mark] } = lent;
+    unsafe { stm_holds(design.as_ptr(), design.len(), values, statuses, *mark, property, holds) }
 }
 
 pub fn replay(query: Query<[u8]>, choices: &[u8], answer: &mut [u64; 4]) -> u64 {

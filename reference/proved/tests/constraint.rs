@@ -58,8 +58,8 @@ fn parts_are_the_second_implementations() {
 #[test]
 fn verdicts() {
     let file = file_bytes(&moved());
-    let (words, n) = (21_699, 1_645);
-    for (bound, finding, tries) in [(0, Finding::Clean, 0), (2, Finding::Clean, 0), (3, Finding::Violated(3), 2)] {
+    let (words, n) = (22_103, 1_673);
+    for (bound, finding, tries) in [(0, Finding::Clean, 0), (2, Finding::Clean, 4), (3, Finding::Violated(3), 13)] {
         let mut choices = [255; 3];
         let lent = verdict::Lent {
             clauses: &mut vec![0; words],

@@ -1,4 +1,4 @@
-//! SIZE, ENCODE, DECODE and VERDICT of the proved archive on Design A: document 01's numbers, and the second implementation's
+//! SIZE, ENCODE, DECODE and VERDICT of the proved archive on Design A: the papers' numbers, and the second implementation's
 //! words.
 
 use proved::Proved;
@@ -18,9 +18,9 @@ fn size(bound: u64) -> Size {
 }
 
 #[test]
-fn sizes_of_document_01() {
-    let frame = (21, 80, 3, 371);
-    for (bound, numbers) in [(0, (102, 295, 1_038)), (3, (1_527, 5_413, 20_136))] {
+fn sizes_of_design_a() {
+    let frame = (22, 81, 3, 378);
+    for (bound, numbers) in [(0, (104, 299, 1_050)), (3, (1_556, 5_522, 20_550))] {
         let size = size(bound);
         assert_eq!((size.state_bits, size.property_gates, size.movers, size.step_gates), frame);
         assert_eq!((size.variables, size.clauses, size.words), numbers);
@@ -49,9 +49,9 @@ fn properties_and_bounds_are_not_cut_to_a_byte() {
         for (property, bound, number) in [(over, 0, 13), (0, over, 14)] {
             let query = Query::new(&file[..], property);
             assert_eq!(Proved.size(query, bound), Answer::Refused(refused(number)));
-            assert_eq!(Proved.encode(query, bound, 0, &mut [0; 44]), Answer::Refused(refused(number)));
-            assert_eq!(Proved.decode(query, bound, &[0; 102], &mut [0; 100]), Answer::Refused(refused(number)));
-            let (clauses, values, trail) = (&mut [0; 1_038], &mut [0; 102], &mut [0; 102]);
+            assert_eq!(Proved.encode(query, bound, 0, &mut [0; 46]), Answer::Refused(refused(number)));
+            assert_eq!(Proved.decode(query, bound, &[0; 104], &mut [0; 100]), Answer::Refused(refused(number)));
+            let (clauses, values, trail) = (&mut [0; 1_050], &mut [0; 104], &mut [0; 104]);
             let lent = Lent { clauses, values, trail, choices: &mut [0; 100] };
             assert_eq!(Proved.verdict(query, bound, 0, lent), Answer::Refused(refused(number)));
         }

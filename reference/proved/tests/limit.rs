@@ -134,9 +134,9 @@ fn most_gates_and_other_calls() {
     let design = most_gates();
     let file = file_bytes(&design);
     let query = Query::new(&file[..], NO_INVALID_CELL);
-    let expected = size(Query::new(&design, NO_INVALID_CELL), 70).unwrap();
-    assert_eq!(Proved.size(query, 70), Answer::Done(expected));
-    assert_eq!(Proved.size(query, 71), refused(19));
+    let expected = size(Query::new(&design, NO_INVALID_CELL), 69).unwrap();
+    assert_eq!(Proved.size(query, 69), Answer::Done(expected));
+    assert_eq!(Proved.size(query, 70), refused(19));
     // Mover 0 is a cell of the last status, which no run comes to.
     let replayed = Replayed { broken: None, events: 0, guards: 0 };
     assert_eq!(Proved.replay(query, &[0; 100]), Answer::Done(replayed));

@@ -14,6 +14,9 @@ use reference::verdict::{Finding, Lent, Verdict};
 
 const NUMBERS: [i16; 9] = [i16::MIN, -1, 0, 1, i16::MAX, 3, -3, 256, 0x5555];
 
+/// The gates of a product in an action: 16 sums, and for the mark two comparisons and two ors.
+const MARKING_GATES: u64 = 1_280 + 160 + 2;
+
 /// The product by i32, cut to 16 bits.
 fn product(a: i16, b: i16) -> i16 {
     (a as i32 * b as i32) as i16
@@ -74,7 +77,8 @@ fn steps_and_properties_have_the_wrapped_product() {
         let file = file_bytes(&one_step(1, times(c), Boolean::Constant(true)));
         for a in NUMBERS {
             let stepped = done(Proved.step(&file, &state(a), 0));
-            assert_eq!((stepped.state, stepped.idle), (state(product(c, a)), false), "{c} times {a}");
+            let after = State { mark: c.checked_mul(a).is_none() as u16, ..state(product(c, a)) };
+            assert_eq!((stepped.state, stepped.idle), (after, false), "{c} times {a}");
             for (value, truth) in [(product(c, a), true), (product(c, a).wrapping_add(1), false)] {
                 let file = file_bytes(&one_step(1, times(c), is(times(c), value)));
                 let held = Proved.holds(&file, &state(a), INVARIANT);
@@ -85,7 +89,7 @@ fn steps_and_properties_have_the_wrapped_product() {
 }
 
 /// The invariant is false, so the formula for bound 1 has one model, that of the one run. SOLVE finds it without a try, and its
-/// last frame has x's bits before the status's four.
+/// last frame has x's bits before the status's four, the mark and the property's gate.
 #[test]
 fn the_formula_has_the_wrapped_product() {
     for c in NUMBERS {
@@ -95,18 +99,20 @@ fn the_formula_has_the_wrapped_product() {
             let (mut values, mut trail) = (vec![7; n], vec![7; n]);
             let solved = Proved.solve(n as u64, &words(&design, 1), &mut values, &mut trail, 0);
             assert_eq!(solved, Answer::Done(Solved { outcome: Outcome::Sat, tries: 0 }), "{c} times {a}");
-            let bits = &values[n - 20..n - 4];
+            let bits = &values[n - 22..n - 6];
             let x = bits.iter().rev().fold(0u16, |word, &bit| word << 1 | bit as u16) as i16;
             assert_eq!(x, product(c, a), "{c} times {a}");
         }
     }
 }
 
+/// Or that the product passes an end, where another number is asked for.
 #[test]
 fn a_verdict_finds_the_wrapped_product() {
-    for (c, a) in [(-1, i16::MIN + 1), (i16::MIN, 3), (i16::MAX, i16::MAX), (3, 11_000), (-3, 11_000)] {
+    for (c, a) in [(-1, i16::MIN + 1), (i16::MIN, 3), (i16::MAX, i16::MAX), (3, 11_000), (-3, 10_900)] {
+        let other = if c.checked_mul(a).is_none() { Finding::Violated(1) } else { Finding::Clean };
         for (value, finding) in
-            [(product(c, a), Finding::Violated(1)), (product(c, a).wrapping_add(1), Finding::Clean)]
+            [(product(c, a), Finding::Violated(1)), (product(c, a).wrapping_add(1), other)]
         {
             let design = one_step(a, times(c), Boolean::Not(Box::new(is(Integer::Variable(0), value))));
             let size = size(&design, 1);
@@ -123,14 +129,14 @@ fn a_verdict_finds_the_wrapped_product() {
 
 /// Also for the bits of the constant that are 0.
 #[test]
-fn every_constant_has_1280_gates() {
+fn every_constant_has_as_many_gates() {
     let without = size(&one_step(1, Integer::Variable(0), Boolean::Constant(true)), 1);
     for c in NUMBERS {
         let with = size(&one_step(1, times(c), Boolean::Constant(true)), 1);
-        assert_eq!(with.step_gates, without.step_gates + 1_280, "{c}");
-        assert_eq!(with.variables, without.variables + 1_280, "{c}");
-        assert_eq!(with.clauses, without.clauses + 16 * 272, "{c}");
-        assert_eq!(with.words, without.words + 16 * 992, "{c}");
+        assert_eq!(with.step_gates, without.step_gates + MARKING_GATES, "{c}");
+        assert_eq!(with.variables, without.variables + MARKING_GATES, "{c}");
+        assert_eq!(with.clauses, without.clauses + 18 * 272 + 2 * 3, "{c}");
+        assert_eq!(with.words, without.words + 18 * 992 + 2 * 10, "{c}");
     }
 }
 

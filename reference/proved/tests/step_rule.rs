@@ -13,7 +13,7 @@ fn the_run_of_document_01() {
     let query = Query::new(&file[..], 0);
     let mut lent = Lent::FILLED;
     assert_eq!(start(&file, &mut lent), 0);
-    assert_eq!(lent, Lent { values: [0; 32], statuses: [0; 8] });
+    assert_eq!(lent, Lent::ZERO);
     for (choice, external, count, status, kept) in [(2, 1, 0, 0, 1), (0, 1, 1, 1, 1), (1, 1, 2, 0, 0)] {
         let (mut idle, mut held) = ([7], [7]);
         assert_eq!(step(&file, &mut lent, choice, &mut idle), 0);
@@ -32,7 +32,7 @@ fn the_run_of_document_01() {
 fn a_status_over_a_byte_is_refused() {
     let file = file_bytes(&design_a());
     for status in [2, 255, 256, 257, 65_535] {
-        let mut lent = Lent { values: [0; 32], statuses: [0; 8] };
+        let mut lent = Lent::ZERO;
         lent.statuses[0] = status;
         let (before, mut idle, mut held) = (lent, [7], [7]);
         assert_eq!(step(&file, &mut lent, 0, &mut idle), REFUSED_STATUS_0);
@@ -44,7 +44,7 @@ fn a_status_over_a_byte_is_refused() {
 #[test]
 fn a_property_is_not_cut_to_a_byte() {
     let file = file_bytes(&design_a());
-    let lent = Lent { values: [0; 32], statuses: [0; 8] };
+    let lent = Lent::ZERO;
     for property in [2, 256, 257, 1 << 32, u64::MAX] {
         let query = Query::new(&file[..], property);
         assert_eq!(holds(&file, &lent, property, &mut [7]), 13);
@@ -56,7 +56,7 @@ fn a_property_is_not_cut_to_a_byte() {
 fn a_choice_is_not_cut_to_a_byte() {
     let file = file_bytes(&design_a());
     for choice in [3, 256, 258, 1 << 32, u64::MAX] {
-        let mut lent = Lent { values: [0; 32], statuses: [0; 8] };
+        let mut lent = Lent::ZERO;
         assert_eq!(step(&file, &mut lent, choice, &mut [7]), 12);
     }
 }

@@ -192,7 +192,7 @@ impl Seen {
         if piece {
             *self.by_pieces.entry(operation.to_string()).or_default() += 1;
         }
-        if let Some(answer) = named_answer(operation, &words) {
+        if let Some(answer) = named_answer(&fields, &words) {
             *self.answers.entry(answer).or_default() += 1;
         }
         if let Some(property) = property(&fields) {
@@ -238,7 +238,7 @@ fn required<T: Ord + Display>(
 fn property(fields: &[&str]) -> Option<u64> {
     let at = match fields[0] {
         "check" | "start" | "step" | "solve" => return None,
-        "holds" => 4,
+        "holds" => 5,
         _ => 3,
     };
     fields.get(at)?.parse().ok()
@@ -250,17 +250,26 @@ fn has_piece(fields: &[&str]) -> bool {
 }
 
 /// A name for answers worth counting apart.
-fn named_answer(operation: &str, words: &[&str]) -> Option<String> {
-    let second = words.get(1)?;
+fn named_answer(fields: &[&str], words: &[&str]) -> Option<String> {
+    let (operation, second) = (fields[0], words.get(1)?);
     let named = match operation {
         "solve" | "holds" => second.to_string(),
         "verdict" if *second == "clean" => second.to_string(),
         "verdict" => format!("{second} {}", words.get(2)?),
         "replay" => replay_name(words)?,
-        "step" => format!("idle {}", words.last()?),
+        "step" => format!("idle {}, {}", words.last()?, mark_name(fields.get(4)?, words.get(3)?)),
         _ => return None,
     };
     Some(format!("{operation} {named}"))
+}
+
+/// What became of the mark in a step.
+fn mark_name(before: &str, after: &str) -> &'static str {
+    match (before, after) {
+        ("0", "0") => "no mark",
+        ("0", _) => "mark set",
+        _ => "mark kept",
+    }
 }
 
 /// Whether the property was broken, and whether the counts of events and guards read are 0 or the same.

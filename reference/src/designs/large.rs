@@ -17,6 +17,9 @@ const NORMAL_PLACE: Place = (MATRICES - 1, STATUSES - 1, 0);
 const PRODUCT: u64 = 1_280;
 const SUM: u64 = 80;
 const PLACE: u64 = 34;
+/// In an action a product and a sum set the mark, too: by two comparisons and two ors, and by an xor and an or.
+const MARKING_PRODUCT: u64 = PRODUCT + 2 * SUM + 2;
+const MARKING_SUM: u64 = SUM + 2;
 /// Products inside one another: as many as an assigned expression may have.
 const CHAIN: usize = 15;
 
@@ -108,8 +111,10 @@ pub const LARGE_BOUNDS: std::ops::RangeInclusive<u64> = 72..=84;
 /// normal cells and the action of the first bring w + G to the quotient.
 pub fn design_of_variables(n: u64, bound: u64) -> Design {
     const INVALID: u64 = 190;
-    const STATE_BITS: u64 = 16 + 1 + 4 * MATRICES as u64;
-    let property = INVALID * (PLACE + LONG_EVENT) + PLACE;
+    // An integer, a Boolean, the statuses and the mark.
+    const STATE_BITS: u64 = 16 + 1 + 4 * MATRICES as u64 + 1;
+    // The last and is that with the mark.
+    let property = INVALID * (PLACE + LONG_EVENT) + PLACE + 1;
     let ands = (n - 1 + bound - (STATE_BITS + property) % bound) % bound;
     let step = (n - 1 - (bound + 1) * (STATE_BITS + property + ands)) / bound;
     // The flag counts like a gate of its mover.
@@ -142,15 +147,23 @@ fn ands_of(count: u64) -> Boolean {
     }
 }
 
+/// An expression of so many sums.
+fn sums_of(count: u64, leaf: &Integer) -> Integer {
+    match count {
+        0 => leaf.clone(),
+        _ => plus(sums_of((count - 1) / 2, leaf), sums_of(count / 2, leaf)),
+    }
+}
+
 /// An action of so many gates, by products, sums and ands.
 fn action_of(gates: u64) -> Vec<Statement> {
-    let (products, sums, ands) = (gates / PRODUCT, gates % PRODUCT / SUM, gates % SUM);
+    let (products, rest) = (gates / MARKING_PRODUCT, gates % MARKING_PRODUCT);
+    let (sums, ands) = (rest / MARKING_SUM, rest % MARKING_SUM);
     let leaf = number(0);
     let chains = products as usize / CHAIN;
-    let sum = (0..sums).fold(leaf.clone(), |e, _| plus(leaf.clone(), e));
     let mut list = vec![assign_integer(0, chain(CHAIN, &leaf)); chains];
     list.push(assign_integer(0, chain(products as usize % CHAIN, &leaf)));
-    list.push(assign_integer(0, sum));
+    list.push(assign_integer(0, sums_of(sums, &leaf)));
     list.push(assign_boolean(1, ands_of(ands)));
     list
 }

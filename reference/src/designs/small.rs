@@ -26,6 +26,10 @@ pub fn all() -> Vec<(&'static str, Design)> {
         ("vending", vending()),
         ("minus-three", minus_three()),
         ("barrier", barrier()),
+        ("branch-taken", branch_taken()),
+        ("wrapping-guard", wrapping_guard()),
+        ("negated", negated()),
+        ("later-mark", later_mark()),
     ]
 }
 
@@ -143,7 +147,7 @@ pub fn peterson() -> Design {
     }
 }
 
-/// A sum that passes 32,767 and a difference that passes -32,768: both wrap, and both change their sign.
+/// A sum that passes 32,767 and a difference that passes -32,768: both wrap, both change their sign, and both set the mark.
 pub fn wrap() -> Design {
     const UP: u8 = 0;
     const DOWN: u8 = 1;
@@ -277,7 +281,7 @@ pub fn moved() -> Design {
     Design { constraint: Some(implies(moved_back, below_two)), ..design_a() }
 }
 
-/// Every step changes the state: only an idle step breaks that, and it does so at step 1 already.
+/// Every step changes the state: within 100 choices only an idle step breaks that, and it does so at step 1 already.
 pub fn no_idle() -> Design {
     const ALLOWED: u8 = 0;
     const COUNT: u8 = 1;
@@ -317,7 +321,7 @@ pub fn vending() -> Design {
 }
 
 /// Each step multiplies by -3, so the sign changes each time: 1300, -3900, 11700. Then -35100 wraps to 30436, which
-/// breaks the invariant. The constraint, which wraps likewise, never breaks.
+/// breaks the invariant. The constraint wraps likewise, and is true of that step, too; but the step sets the mark.
 pub fn minus_three() -> Design {
     const X: u8 = 0;
     const NEGATIVE: u8 = 1;
@@ -351,6 +355,74 @@ pub fn barrier() -> Design {
         ],
         invariant: is_free(),
         constraint: None,
+    }
+}
+
+/// A counter at 32,767 that counts only where the external stands: a list that is not taken passes no end.
+pub fn branch_taken() -> Design {
+    const COUNTS: u8 = 0;
+    const COUNT: u8 = 1;
+    let count = assign_integer(COUNT, plus(number(COUNT), constant(1)));
+    Design {
+        variables: vec![external(), integer_from(i16::MAX)],
+        matrices: vec![matrix(1, vec![truth(true)])],
+        cells: vec![normal((0, 0, 0), 0, None, vec![when(is(COUNTS), vec![count], vec![])])],
+        invariant: truth(true),
+        constraint: None,
+    }
+}
+
+/// A counter that starts again before it passes the end. Both guards and the invariant find the end by a sum that wraps, which sets no
+/// mark: nothing ever breaks.
+pub fn wrapping_guard() -> Design {
+    const COUNT: u8 = 0;
+    let next = || plus(number(COUNT), constant(1));
+    let goes_on = || less(number(COUNT), next());
+    let count = assign_integer(COUNT, next());
+    let restart = assign_integer(COUNT, constant(0));
+    Design {
+        variables: vec![integer_from(i16::MAX - 1)],
+        matrices: vec![matrix(1, vec![truth(true)])],
+        cells: vec![
+            normal((0, 0, 0), 0, Some(goes_on()), vec![count]),
+            normal((0, 0, 0), 0, Some(not(goes_on())), vec![restart]),
+        ],
+        invariant: not(equal(next(), constant(0))),
+        constraint: None,
+    }
+}
+
+/// A number that is counted down, and negated by a product: -32,768 has no counterpart, so that both movers pass an end there.
+pub fn negated() -> Design {
+    const X: u8 = 0;
+    let down = assign_integer(X, minus(number(X), constant(1)));
+    let negate = assign_integer(X, times(-1, number(X)));
+    Design {
+        variables: vec![integer_from(-32_766)],
+        matrices: vec![matrix(1, vec![truth(true), truth(true)])],
+        cells: vec![
+            normal((0, 0, 0), 0, None, vec![down]),
+            normal((0, 0, 1), 0, None, vec![negate]),
+        ],
+        invariant: not(equal(number(X), constant(0))),
+        constraint: None,
+    }
+}
+
+/// The constraint says that a step counts by 1, wrapping, or changes nothing, which is true of every step. The step that sets the mark
+/// breaks it all the same: its later state has the mark.
+pub fn later_mark() -> Design {
+    const COUNTS: u8 = 0;
+    const COUNT: u8 = 1;
+    let next = || plus(number(COUNT), constant(1));
+    let counted = equal(next_number(COUNT), next());
+    let kept = equal(next_number(COUNT), number(COUNT));
+    Design {
+        variables: vec![external(), integer_from(i16::MAX - 1)],
+        matrices: vec![matrix(1, vec![is(COUNTS)])],
+        cells: vec![normal((0, 0, 0), 0, None, vec![assign_integer(COUNT, next())])],
+        invariant: truth(true),
+        constraint: Some(or(counted, kept)),
     }
 }
 

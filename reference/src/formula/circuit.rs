@@ -21,6 +21,28 @@ fn shifted(word: &Word, by: usize) -> Word {
     std::array::from_fn(|i| if i < by { FALSE } else { word[i - by] })
 }
 
+/// The least and the largest operand whose exact product with the constant
+/// fits 16 bits. Division drops what is behind the point, so that both lie
+/// inside.
+fn fitting_operands(constant: i16) -> (i16, i16) {
+    let (least, largest) = (i16::MIN as i32, i16::MAX as i32);
+    let constant = constant as i32;
+    let (low, high) = match constant.signum() {
+        0 => (least, largest),
+        1 => (least / constant, largest / constant),
+        _ => (largest / constant, least / constant),
+    };
+    // -1 fits with 32,768, too, which is no operand.
+    (low as i16, high.min(largest) as i16)
+}
+
+/// The bits of a sum or difference, and its last two carries: the one into the
+/// top bit and the one out of it.
+pub struct Sum {
+    pub word: Word,
+    pub carries: [i32; 2],
+}
+
 /// Writes gates; each takes the next variable. Nothing is folded or shared.
 pub struct Circuit<'a, S: Sink> {
     pub bits: &'a BitPlaces,
@@ -69,22 +91,29 @@ impl<S: Sink> Circuit<'_, S> {
         a.iter().zip(b).map(|(a, b)| self.mux(c, *a, *b)).collect()
     }
 
-    /// The sum and its last carry.
-    pub fn sum(&mut self, a: &Word, b: &Word, carry: i32) -> (Word, i32) {
-        let mut c = carry;
-        let mut sum = [0; INTEGER_WIDTH];
+    pub fn sum(&mut self, a: &Word, b: &Word, carry: i32) -> Sum {
+        let mut carries = [FALSE, carry];
+        let mut word = [0; INTEGER_WIDTH];
         for i in 0..INTEGER_WIDTH {
+            let c = carries[1];
             let p = self.xor(a[i], b[i]);
-            sum[i] = self.xor(p, c);
+            word[i] = self.xor(p, c);
             let u = self.and(a[i], b[i]);
             let t = self.and(p, c);
-            c = self.or(u, t);
+            carries = [c, self.or(u, t)];
         }
-        (sum, c)
+        Sum { word, carries }
     }
 
-    pub fn difference(&mut self, a: &Word, b: &Word) -> (Word, i32) {
+    pub fn difference(&mut self, a: &Word, b: &Word) -> Sum {
         self.sum(a, &negated(b), TRUE)
+    }
+
+    /// The mark after a sum or difference: the exact value does not fit where
+    /// the last two carries differ.
+    pub fn mark_after_sum(&mut self, mark: i32, [before, last]: [i32; 2]) -> i32 {
+        let outside = self.xor(before, last);
+        self.or(mark, outside)
     }
 
     /// A sum for each bit of the constant from the lowest, also for one that is 0.
@@ -92,15 +121,25 @@ impl<S: Sink> Circuit<'_, S> {
         let none = [FALSE; INTEGER_WIDTH];
         (0..INTEGER_WIDTH).fold(none, |so_far, i| {
             let addend = if constant >> i & 1 == 1 { shifted(operand, i) } else { none };
-            self.sum(&so_far, &addend, FALSE).0
+            self.sum(&so_far, &addend, FALSE).word
         })
+    }
+
+    /// The mark after a product, also where every operand fits.
+    pub fn mark_after_product(&mut self, mark: i32, constant: i16, operand: &Word) -> i32 {
+        let (low, high) = fitting_operands(constant);
+        let below = self.less(*operand, constant_word(low));
+        let above = self.less(constant_word(high), *operand);
+        let outside = self.or(below, above);
+        self.or(mark, outside)
     }
 
     /// With the top bits negated, the signed order is the unsigned one.
     pub fn less(&mut self, mut a: Word, mut b: Word) -> i32 {
         a[15] = -a[15];
         b[15] = -b[15];
-        -self.difference(&a, &b).1
+        let [_, last] = self.difference(&a, &b).carries;
+        -last
     }
 
     pub fn equal(&mut self, a: &Word, b: &Word) -> i32 {

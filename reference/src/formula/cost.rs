@@ -19,6 +19,7 @@ pub struct Gates {
 const WIDTH: u64 = INTEGER_WIDTH as u64;
 const NONE: Gates = Gates { ands: 0, xors_and_muxes: 0 };
 const AND: Gates = Gates { ands: 1, xors_and_muxes: 0 };
+const XOR: Gates = Gates { ands: 0, xors_and_muxes: 1 };
 /// A difference and a less have these gates, too.
 const SUM: Gates = Gates { ands: 3 * WIDTH, xors_and_muxes: 2 * WIDTH };
 const EQUAL: Gates = Gates { ands: WIDTH, xors_and_muxes: WIDTH };
@@ -63,23 +64,61 @@ impl Sum for Gates {
     }
 }
 
-fn integer(e: &Integer) -> Gates {
-    match e {
-        Integer::Constant(_) | Integer::Variable(_) | Integer::Status(_) => NONE,
-        Integer::NextVariable(_) | Integer::NextStatus(_) => NONE,
-        Integer::Sum(a, b) | Integer::Difference(a, b) => integer(a) + integer(b) + SUM,
-        Integer::Product(_, a) => integer(a) + SUM * WIDTH,
+/// Whether the sums, differences and products of an expression set the mark.
+#[derive(Clone, Copy)]
+enum Sums {
+    Wrap,
+    Mark,
+}
+
+impl Sums {
+    /// A difference costs the same.
+    fn sum(self) -> Gates {
+        match self {
+            Sums::Wrap => SUM,
+            Sums::Mark => SUM + XOR + AND,
+        }
+    }
+
+    /// Two comparisons and two ors set the mark.
+    fn product(self) -> Gates {
+        let sums = SUM * WIDTH;
+        match self {
+            Sums::Wrap => sums,
+            Sums::Mark => sums + SUM * 2 + AND * 2,
+        }
     }
 }
 
-pub fn boolean(e: &Boolean) -> Gates {
+fn integer(e: &Integer, sums: Sums) -> Gates {
+    match e {
+        Integer::Constant(_) | Integer::Variable(_) | Integer::Status(_) => NONE,
+        Integer::NextVariable(_) | Integer::NextStatus(_) => NONE,
+        Integer::Sum(a, b) | Integer::Difference(a, b) => {
+            integer(a, sums) + integer(b, sums) + sums.sum()
+        }
+        Integer::Product(_, a) => integer(a, sums) + sums.product(),
+    }
+}
+
+fn boolean(e: &Boolean, sums: Sums) -> Gates {
     match e {
         Boolean::Constant(_) | Boolean::Variable(_) | Boolean::NextVariable(_) => NONE,
-        Boolean::Not(a) => boolean(a),
-        Boolean::And(a, b) | Boolean::Or(a, b) => boolean(a) + boolean(b) + AND,
-        Boolean::Equal(a, b) => integer(a) + integer(b) + EQUAL,
-        Boolean::Less(a, b) => integer(a) + integer(b) + SUM,
+        Boolean::Not(a) => boolean(a, sums),
+        Boolean::And(a, b) | Boolean::Or(a, b) => boolean(a, sums) + boolean(b, sums) + AND,
+        Boolean::Equal(a, b) => integer(a, sums) + integer(b, sums) + EQUAL,
+        Boolean::Less(a, b) => integer(a, sums) + integer(b, sums) + SUM,
     }
+}
+
+/// A guard or an event: its sums set no mark.
+fn truth(e: &Boolean) -> Gates {
+    boolean(e, Sums::Wrap)
+}
+
+/// A property that is an expression, and its and with the mark.
+pub fn property(e: &Boolean) -> Gates {
+    truth(e) + AND
 }
 
 /// What the cells of a design cost. An event's gates are written anew for
@@ -93,15 +132,16 @@ pub struct Costs<'a> {
 
 impl<'a> Costs<'a> {
     pub fn new(design: &'a Design, state_bits: u64) -> Costs<'a> {
-        let of_matrix = |events: &Vec<Boolean>| events.iter().map(boolean).collect();
+        let of_matrix = |events: &Vec<Boolean>| events.iter().map(truth).collect();
         let events = design.matrices.iter().map(|m| of_matrix(&m.events)).collect();
         Costs { design, events, muxes: Gates { ands: 0, xors_and_muxes: state_bits } }
     }
 
-    /// Of property 1: each invalid cell, with its link of the chain.
+    /// Of property 1: each invalid cell, with its link of the chain, and the
+    /// and with the mark.
     pub fn unreached(&self) -> Gates {
         let invalid = self.design.cells.iter().filter(|c| c.kind == CellKind::Invalid);
-        invalid.map(|cell| self.at_place(cell) + AND).sum()
+        invalid.map(|cell| self.at_place(cell) + AND).sum::<Gates>() + AND
     }
 
     pub fn mover(&self, mover: Mover) -> Gates {
@@ -120,7 +160,7 @@ impl<'a> Costs<'a> {
         let CellKind::Normal { guard, action, .. } = &cell.kind else {
             return NONE;
         };
-        let guard = guard.as_ref().map_or(NONE, boolean);
+        let guard = guard.as_ref().map_or(NONE, truth);
         self.at_place(cell) + guard + AND + self.list(action)
     }
 
@@ -130,10 +170,11 @@ impl<'a> Costs<'a> {
 
     fn statement(&self, statement: &Statement) -> Gates {
         match statement {
-            Statement::AssignInteger(_, e) => integer(e),
-            Statement::AssignBoolean(_, e) => boolean(e),
+            Statement::AssignInteger(_, e) => integer(e, Sums::Mark),
+            Statement::AssignBoolean(_, e) => boolean(e, Sums::Mark),
             Statement::If(condition, then, other) => {
-                boolean(condition) + self.list(then) + self.list(other) + self.muxes
+                let condition = boolean(condition, Sums::Mark);
+                condition + self.list(then) + self.list(other) + self.muxes
             }
         }
     }

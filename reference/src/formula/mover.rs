@@ -12,20 +12,25 @@ impl<S: Sink> Circuit<'_, S> {
     }
 
     fn statement(&mut self, mut state: Vec<i32>, statement: &Statement) -> Vec<i32> {
+        let mut mark = state[self.bits.mark];
         match statement {
             Statement::AssignInteger(v, e) => {
-                let word = self.integer(Pair::one(&state), e);
+                let word = self.integer(Pair::one(&state), e, Some(&mut mark));
                 let first = self.bits.variables[*v as usize];
                 state[first..first + word.len()].copy_from_slice(&word);
+                state[self.bits.mark] = mark;
                 state
             }
             Statement::AssignBoolean(v, e) => {
-                let literal = self.boolean(Pair::one(&state), e);
+                let literal = self.boolean(Pair::one(&state), e, Some(&mut mark));
                 state[self.bits.variables[*v as usize]] = literal;
+                state[self.bits.mark] = mark;
                 state
             }
             Statement::If(condition, then, other) => {
-                let c = self.boolean(Pair::one(&state), condition);
+                let c = self.boolean(Pair::one(&state), condition, Some(&mut mark));
+                // Both lists start from the mark that the condition left.
+                state[self.bits.mark] = mark;
                 let a = self.list(state.clone(), then);
                 let b = self.list(state, other);
                 self.muxes(c, &a, &b)
@@ -37,7 +42,7 @@ impl<S: Sink> Circuit<'_, S> {
     pub fn at_place(&mut self, design: &Design, state: &[i32], cell: &Cell) -> i32 {
         let status = self.status_word(state, cell.matrix);
         let equal = self.equal(&status, &constant_word(cell.status as i16));
-        let event = self.boolean(Pair::one(state), design.event_of(cell));
+        let event = self.truth(Pair::one(state), design.event_of(cell));
         self.and(equal, event)
     }
 
@@ -59,7 +64,7 @@ impl<S: Sink> Circuit<'_, S> {
             return (FALSE, state.to_vec());
         };
         let place = self.at_place(design, state, cell);
-        let guard = guard.as_ref().map_or(TRUE, |g| self.boolean(Pair::one(state), g));
+        let guard = guard.as_ref().map_or(TRUE, |g| self.truth(Pair::one(state), g));
         let enable = self.and(place, guard);
         let mut effect = self.list(state.to_vec(), action);
         let first = self.bits.statuses[cell.matrix as usize];

@@ -1,7 +1,7 @@
 //! The frames and parts of a formula, and what they count to.
 
 use super::circuit::{Circuit, TRUE};
-use super::cost::{boolean, Costs, Gates};
+use super::cost::{property, Costs, Gates};
 use super::sink::{Count, Sink, Unseen, Writer};
 use super::state::BitPlaces;
 use crate::design::{refusal, CellKind, Design, Mover, Refusal};
@@ -73,9 +73,9 @@ impl FrameGates {
         let movers = movers.iter().map(|mover| costs.mover(*mover)).sum();
         let gates = FrameGates { movers, ..FrameGates::default() };
         match claim {
-            Claim::Invariant(e) => FrameGates { property: boolean(e), ..gates },
+            Claim::Invariant(e) => FrameGates { property: property(e), ..gates },
             Claim::NoInvalidCell => FrameGates { property: costs.unreached(), ..gates },
-            Claim::Constraint(e) => FrameGates { constraint: boolean(e), ..gates },
+            Claim::Constraint(e) => FrameGates { constraint: property(e), ..gates },
         }
     }
 
@@ -109,10 +109,11 @@ impl<'a> Formula<'a> {
     }
 
     /// Below 2^32 for every design and bound, so u64 holds it before 19 is
-    /// tested: at most 256 cells write an event of 255 bytes each, no byte of
-    /// an expression or action has more than 1,280 / 3 gates, and a mover's
-    /// own gates are few. That is below 35 million gates a frame. A piece adds
-    /// to property 0 alone, where invalid cells write no gates: below 21 million.
+    /// tested: at most 256 cells write an event of 255 bytes each; 15 products
+    /// over a leaf have 47 bytes, so no expression has more than 15 * 1,280 / 47
+    /// gates a byte and no action more than 15 * 1,442 / 47; and a mover's own
+    /// gates are few. That is below 35 million gates a frame. A piece adds to
+    /// property 0 alone, where invalid cells write no gates: below 21 million.
     pub fn variables(&self) -> u64 {
         let last_frame = self.state_bits() + self.gates.property.total();
         1 + self.bound * self.frame_length() + last_frame
@@ -275,11 +276,12 @@ impl<'a> Formula<'a> {
     fn write_property(&self, frame: u64, sink: &mut impl Sink) -> Option<i32> {
         let state = self.frame_state(frame);
         let mut circuit = self.circuit(self.frame_start(frame) + self.bits.total as u32, sink);
-        match &self.claim {
-            Claim::Invariant(e) => Some(circuit.boolean(Pair::one(&state), e)),
-            Claim::NoInvalidCell => Some(self.write_unreached(&mut circuit, &state)),
-            Claim::Constraint(_) => None,
-        }
+        let holds = match &self.claim {
+            Claim::Invariant(e) => circuit.truth(Pair::one(&state), e),
+            Claim::NoInvalidCell => self.write_unreached(&mut circuit, &state),
+            Claim::Constraint(_) => return None,
+        };
+        Some(circuit.and(holds, -state[self.bits.mark]))
     }
 
     fn write_unreached<S: Sink>(&self, circuit: &mut Circuit<S>, state: &[i32]) -> i32 {
@@ -304,14 +306,17 @@ impl<'a> Formula<'a> {
     }
 
     /// The constraint's literal, where that is the property. Its gates follow
-    /// those of the movers and read this frame and the next one.
+    /// those of the movers and read this frame and the next one, whose mark
+    /// decides, too.
     fn write_constraint(&self, frame: u64, sink: &mut impl Sink) -> Option<i32> {
         let Claim::Constraint(e) = &self.claim else {
             return None;
         };
         let (earlier, next) = (self.frame_state(frame), self.frame_state(frame + 1));
         let first = self.first_step_gate(frame) + self.gates.movers.total() as u32;
-        Some(self.circuit(first, sink).boolean(Pair { earlier: &earlier[..], next: &next }, e))
+        let mut circuit = self.circuit(first, sink);
+        let holds = circuit.truth(Pair { earlier: &earlier[..], next: &next }, e);
+        Some(circuit.and(holds, -next[self.bits.mark]))
     }
 
     /// The mover with the one flag of each frame.

@@ -13,10 +13,12 @@ fn width(kind: Kind) -> usize {
     }
 }
 
-/// Where each variable and status starts among the state bits.
+/// Where each variable and status starts among the state bits, and the mark.
 pub struct BitPlaces {
     pub variables: Vec<usize>,
     pub statuses: Vec<usize>,
+    /// The last bit.
+    pub mark: usize,
     pub total: usize,
 }
 
@@ -29,10 +31,11 @@ impl BitPlaces {
         };
         let variables = design.variables.iter().map(|v| place(width(v.kind))).collect();
         let statuses = design.matrices.iter().map(|_| place(STATUS_WIDTH)).collect();
-        BitPlaces { variables, statuses, total }
+        let mark = place(1);
+        BitPlaces { variables, statuses, mark, total }
     }
 
-    /// The first state: initial values, every status 0.
+    /// The first state: initial values, every status 0, no mark.
     pub fn initial(&self, design: &Design) -> Vec<bool> {
         let mut bits = Vec::new();
         for variable in &design.variables {

@@ -2,16 +2,17 @@
 
 use super::choices::any_choices;
 use super::files::{
-    any_design, any_file, design_to_encode, design_to_replay, design_with_product, small_design,
+    any_design, any_file, design_to_encode, design_to_replay, design_with_counter,
+    design_with_product, small_design,
 };
 use super::near::{
     affordable_bound, budget_near, exact_tries, formula_of, length_near, property_of, MAX_TRIES,
 };
 use super::pieces::any_piece;
-use super::trees::number;
+use super::trees::{near_end, number};
 use crate::design::{Design, Kind, MAX_MATRICES, MAX_VARIABLES};
 use crate::formula::Formula;
-use crate::protocol::{hex, list_text};
+use crate::protocol::{hex, list_text, state_text};
 use crate::query::{Query, MAX_BOUND};
 use crate::random::Random;
 use crate::step::State;
@@ -22,7 +23,8 @@ const MAX_VALUES: u64 = 8_000;
 /// A search over a formula is affordable below this product of its variables
 /// and words.
 const MAX_SEARCH: u64 = 4_000_000;
-/// The same for designs with a product, of which there are few.
+/// The same for designs with a counter or a product, of which there are few.
+const MAX_COUNTER_SEARCH: u64 = 30_000_000;
 const MAX_PRODUCT_SEARCH: u64 = 120_000_000;
 
 pub fn check(random: &mut Random) -> String {
@@ -35,7 +37,8 @@ pub fn start(random: &mut Random) -> String {
 }
 
 pub fn step(random: &mut Random) -> String {
-    let (design, file) = any_design(random);
+    let counter = random.chance(30);
+    let (design, file) = if counter { design_with_counter(random) } else { any_design(random) };
     let movers = design.movers().len();
     let choice = any_choice(random, movers as u64);
     format!("step {} {} {choice}", hex(&file), state_fields(random, &design))
@@ -99,6 +102,7 @@ pub fn decode(random: &mut Random) -> String {
 pub fn verdict(random: &mut Random) -> String {
     let ((design, file), most) = match random.below(25) {
         0 => (design_with_product(random), MAX_PRODUCT_SEARCH),
+        1..=3 => (design_with_counter(random), MAX_COUNTER_SEARCH),
         _ => (small_design(random), MAX_SEARCH),
     };
     let (property, piece) = (any_property(random, &design), any_piece(random, &design));
@@ -212,7 +216,7 @@ fn state_fields(random: &mut Random, design: &Design) -> String {
             state_fault(random, design, &mut state);
         }
     }
-    format!("{} {}", list_text(&state.values), list_text(&state.statuses))
+    state_text(&state)
 }
 
 /// A state of the design, often at the place of one of its cells.
@@ -220,6 +224,7 @@ fn any_state(random: &mut Random, design: &Design) -> State {
     let mut state = State::ZERO;
     for (value, variable) in state.values.iter_mut().zip(&design.variables) {
         *value = match variable.kind {
+            Kind::Integer if random.chance(40) => near_end(random),
             Kind::Integer => number(random),
             _ => random.chance(60) as i16,
         };
@@ -231,19 +236,25 @@ fn any_state(random: &mut Random, design: &Design) -> State {
         let cell = &design.cells[random.below(design.cells.len())];
         state.statuses[cell.matrix as usize] = cell.status;
     }
+    state.mark = random.chance(20) as u16;
     state
 }
 
 fn state_fault(random: &mut Random, design: &Design, state: &mut State) {
-    if random.chance(50) {
-        let at = random.below(MAX_VARIABLES);
-        let integer = design.variables.get(at).is_some_and(|v| v.kind == Kind::Integer);
-        state.values[at] = if integer { number(random) } else { random.pick(&[1, 2, -1, 256]) };
-        return;
+    match random.below(5) {
+        0 | 1 => {
+            let at = random.below(MAX_VARIABLES);
+            let integer = design.variables.get(at).is_some_and(|v| v.kind == Kind::Integer);
+            state.values[at] = if integer { number(random) } else { random.pick(&[1, 2, -1, 256]) };
+        }
+        2 | 3 => {
+            let at = random.below(MAX_MATRICES);
+            let statuses = design.matrices.get(at).map_or(1, |m| m.statuses);
+            state.statuses[at] = random.pick(&[statuses - 1, statuses, statuses + 1, 255]);
+        }
+        // Cut to a byte, two of these would be taken.
+        _ => state.mark = random.pick(&[2, 255, 256, 257, u16::MAX]),
     }
-    let at = random.below(MAX_MATRICES);
-    let statuses = design.matrices.get(at).map_or(1, |m| m.statuses);
-    state.statuses[at] = random.pick(&[statuses - 1, statuses, statuses + 1, 255]);
 }
 
 /// Values with one flag set in each frame, except for some faults. Values

@@ -17,7 +17,12 @@ const OPERATORS: [u8; 21] = [
 
 /// The file of a design of this plan, with up to three faults.
 pub fn faulty_file(random: &mut Random, plan: Plan) -> Vec<u8> {
-    let mut tree = design(random, plan);
+    let tree = design(random, plan);
+    damaged(random, tree)
+}
+
+/// The file of a design, with up to three faults.
+pub fn damaged(random: &mut Random, mut tree: Design) -> Vec<u8> {
     let in_tree = random.chance(20);
     if in_tree {
         tree_fault(random, &mut tree);

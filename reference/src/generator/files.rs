@@ -1,6 +1,7 @@
 //! Design files for requests, good and bad ones.
 
 use super::constraints::breakable_constraint;
+use super::counters::counter_design;
 use super::faults;
 use super::limit::large_design;
 use super::products::product_design;
@@ -33,7 +34,11 @@ pub fn any_design(random: &mut Random) -> (Design, Vec<u8>) {
         return (design, file);
     }
     let plan = any_plan(random);
-    let design = if random.chance(5) { any_known(random) } else { accepted(random, plan) };
+    let design = match random.below(20) {
+        0 => any_known(random),
+        1..=3 => counter_design(random),
+        _ => accepted(random, plan),
+    };
     let file = file_or_fault(random, &design);
     (design, file)
 }
@@ -41,11 +46,14 @@ pub fn any_design(random: &mut Random) -> (Design, Vec<u8>) {
 /// Half of them have cells whose events and guards a run reads, and properties
 /// that break on the way.
 pub fn design_to_replay(random: &mut Random) -> (Design, Vec<u8>) {
-    if random.chance(50) {
-        return any_design(random);
-    }
-    let plan = busy_plan(random);
-    let design = breakable_design(random, plan);
+    let design = match random.below(10) {
+        0..=4 => return any_design(random),
+        5 => counter_design(random),
+        _ => {
+            let plan = busy_plan(random);
+            breakable_design(random, plan)
+        }
+    };
     let file = file_or_fault(random, &design);
     (design, file)
 }
@@ -64,7 +72,14 @@ pub fn design_with_product(random: &mut Random) -> (Design, Vec<u8>) {
     (design, file)
 }
 
-/// Mostly a small design; else one with a product, deep trees or many movers, or a known one.
+/// As `small_design`, with a counter near an end.
+pub fn design_with_counter(random: &mut Random) -> (Design, Vec<u8>) {
+    let design = counter_design(random);
+    let file = file_or_fault(random, &design);
+    (design, file)
+}
+
+/// Mostly a small design; else one with a product, a counter, deep trees or many movers, or a known one.
 pub fn design_to_encode(random: &mut Random) -> (Design, Vec<u8>) {
     let design = match random.below(20) {
         0 | 1 => {
@@ -77,6 +92,7 @@ pub fn design_to_encode(random: &mut Random) -> (Design, Vec<u8>) {
         }
         3 => any_known(random),
         4 | 5 => product_design(random),
+        6 | 7 => counter_design(random),
         _ => return small_design(random),
     };
     let file = file_or_fault(random, &design);
@@ -108,10 +124,11 @@ fn accepted(random: &mut Random, plan: Plan) -> Design {
 
 fn file_or_fault(random: &mut Random, design: &Design) -> Vec<u8> {
     match random.below(100) {
-        0..=7 => {
+        0..=4 => {
             let plan = tiny_plan(random);
             faults::faulty_file(random, plan)
         }
+        5..=7 => faults::damaged(random, design.clone()),
         8 => file_without_right_movers(random),
         _ => file_bytes(design),
     }

@@ -12,7 +12,7 @@ use crate::query::Query;
 use crate::random::Random;
 
 /// Small designs and the bounds up to which a verdict on them takes few tries.
-const VERDICTS: [(&str, u64); 16] = [
+const VERDICTS: [(&str, u64); 20] = [
     ("design-a.stm", 4),
     ("first-state.stm", 4),
     ("turnstile.stm", 4),
@@ -29,6 +29,10 @@ const VERDICTS: [(&str, u64); 16] = [
     ("vending.stm", 1),
     ("minus-three.stm", 2),
     ("barrier.stm", 3),
+    ("branch-taken.stm", 3),
+    ("wrapping-guard.stm", 3),
+    ("negated.stm", 2),
+    ("later-mark.stm", 3),
 ];
 
 fn design_for_verdict(random: &mut Random) -> (Design, u64) {

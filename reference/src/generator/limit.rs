@@ -16,7 +16,7 @@ const MAX_LENT: usize = 300;
 /// A design near the limit, and the bound at which its variables are near it.
 pub fn large_design(random: &mut Random) -> (Design, u64) {
     if random.chance(20) {
-        return (most_gates(), random.pick(&[70, 71]));
+        return (most_gates(), random.pick(&[69, 70]));
     }
     let bound = random.between(*LARGE_BOUNDS.start() as usize, *LARGE_BOUNDS.end() as usize) as u64;
     let n = match random.below(6) {

@@ -190,17 +190,23 @@ fn variable(random: &mut Random, plan: &Plan, external: bool) -> Variable {
     Variable { kind, initial: random.pick(&[0, 0, 0, 1]) }
 }
 
-/// A number, often at an end of the range.
+/// A number, often at or near an end of the range.
 pub fn number(random: &mut Random) -> i16 {
-    match random.below(8) {
+    match random.below(9) {
         0 => 0,
         1 => 1,
         2 => -1,
         3 => i16::MAX,
         4 => i16::MIN,
-        5 => random.between(0, 16) as i16,
+        5 => near_end(random),
+        6 => random.between(0, 16) as i16,
         _ => random.word() as i16,
     }
+}
+
+/// One of the first four numbers or of the last four.
+pub fn near_end(random: &mut Random) -> i16 {
+    (i16::MAX - 3).wrapping_add(random.below(8) as i16)
 }
 
 /// Makes trees over the variables and matrices of one design.

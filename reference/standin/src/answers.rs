@@ -23,18 +23,24 @@ fn code<T>(answer: Answer<T>, done: impl FnOnce(T)) -> u64 {
 }
 
 /// A state as it is lent; a status over 255 is refused like 255, which no design has either.
-fn state(values: &[i16; MAX_VARIABLES], statuses: &[u16; MAX_MATRICES]) -> State {
-    State { values: *values, statuses: statuses.map(|s| s.min(255) as u8) }
+fn state(values: &[i16; MAX_VARIABLES], statuses: &[u16; MAX_MATRICES], mark: u16) -> State {
+    State { values: *values, statuses: statuses.map(|s| s.min(255) as u8), mark }
 }
 
 pub fn stm_check(design: &[u8]) -> u64 {
     code(Reference.check(design), |()| ())
 }
 
-pub fn stm_start(design: &[u8], values: &mut [i16; MAX_VARIABLES], statuses: &mut [u16; MAX_MATRICES]) -> u64 {
+pub fn stm_start(
+    design: &[u8],
+    values: &mut [i16; MAX_VARIABLES],
+    statuses: &mut [u16; MAX_MATRICES],
+    mark: &mut [u16; 1],
+) -> u64 {
     code(Reference.start(design), |first| {
         *values = first.values;
         *statuses = first.statuses.map(u16::from);
+        *mark = [first.mark];
     })
 }
 
@@ -42,13 +48,15 @@ pub fn stm_step(
     design: &[u8],
     values: &mut [i16; MAX_VARIABLES],
     statuses: &mut [u16; MAX_MATRICES],
+    mark: &mut [u16; 1],
     choice: u64,
     idle: &mut [u8; 1],
 ) -> u64 {
-    let before = state(values, statuses);
+    let before = state(values, statuses, mark[0]);
     code(Reference.step(design, &before, choice), |stepped| {
         *values = stepped.state.values;
         *statuses = stepped.state.statuses.map(u16::from);
+        *mark = [stepped.state.mark];
         *idle = [stepped.idle as u8];
     })
 }
@@ -57,10 +65,12 @@ pub fn stm_holds(
     design: &[u8],
     values: &[i16; MAX_VARIABLES],
     statuses: &[u16; MAX_MATRICES],
+    mark: u16,
     property: u64,
     holds: &mut [u8; 1],
 ) -> u64 {
-    code(Reference.holds(design, &state(values, statuses), property), |found| *holds = [found as u8])
+    let state = state(values, statuses, mark);
+    code(Reference.holds(design, &state, property), |found| *holds = [found as u8])
 }
 
 pub fn stm_replay(query: Query<[u8]>, choices: &[u8], answer: &mut [u64; 4]) -> u64 {

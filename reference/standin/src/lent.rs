@@ -18,6 +18,14 @@ impl Lent<'_> for (u64,) {
     }
 }
 
+impl Lent<'_> for (u16,) {
+    type Form = u16;
+
+    unsafe fn lent(self) -> u16 {
+        self.0
+    }
+}
+
 impl<'a, T: 'a> Lent<'a> for (*const T,) {
     type Form = &'a T;
 

@@ -36,7 +36,9 @@ pub fn breaks(design: &Design, property: u64, choices: &[u8]) -> bool {
 /// Whether the property is false of a step's two states.
 fn bad_step(design: &Design, property: u64, before: &State, after: &State) -> bool {
     match &design.constraint {
-        Some(constraint) if property == CONSTRAINT => !says(constraint, before, after),
+        Some(constraint) if property == CONSTRAINT => {
+            after.mark == 1 || !says(constraint, before, after)
+        }
         _ => !holds(design, after, property).unwrap(),
     }
 }
@@ -107,7 +109,7 @@ pub fn wrapped(n: i32) -> i32 {
 }
 
 /// By remainders, where the code under test wraps.
-fn number_in(e: &Integer, before: &State, after: &State) -> i32 {
+pub fn number_in(e: &Integer, before: &State, after: &State) -> i32 {
     let of = |a: &Integer| number_in(a, before, after);
     match e {
         Integer::Constant(c) => *c as i32,
@@ -119,6 +121,30 @@ fn number_in(e: &Integer, before: &State, after: &State) -> i32 {
         Integer::Difference(a, b) => wrapped(of(a) - of(b)),
         Integer::Product(c, a) => wrapped(*c as i32 * of(a)),
     }
+}
+
+/// Whether a sum, difference or product of the expression has an exact value
+/// that does not fit 16 bits.
+pub fn passes_an_end(e: &Boolean, state: &State) -> bool {
+    match e {
+        Boolean::Constant(_) | Boolean::Variable(_) | Boolean::NextVariable(_) => false,
+        Boolean::Not(a) => passes_an_end(a, state),
+        Boolean::And(a, b) | Boolean::Or(a, b) => [a, b].iter().any(|e| passes_an_end(e, state)),
+        Boolean::Equal(a, b) | Boolean::Less(a, b) => {
+            [a, b].iter().any(|e| number_passes_an_end(e, state))
+        }
+    }
+}
+
+pub fn number_passes_an_end(e: &Integer, state: &State) -> bool {
+    let value = |a: &Integer| number_in(a, state, state);
+    let (operands, exact) = match e {
+        Integer::Sum(a, b) => (vec![a, b], value(a) + value(b)),
+        Integer::Difference(a, b) => (vec![a, b], value(a) - value(b)),
+        Integer::Product(c, a) => (vec![a], *c as i32 * value(a)),
+        _ => return false,
+    };
+    exact != wrapped(exact) || operands.iter().any(|a| number_passes_an_end(a, state))
 }
 
 pub fn breaking_lists(design: &Design, property: u64, length: usize) -> Vec<Vec<u8>> {

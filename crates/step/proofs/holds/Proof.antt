@@ -17,7 +17,7 @@ refuse-holds-requires : tie.Need-refuse-holds-requires
 refuse-holds-requires c κs = search needs
 
 returns : tie.Need-returns
-returns c = c .refuse-holds .ensures ∙ holds-refused _ _ _ _ _ (c .before .before .before .check .ensures) (c .before .if1 .taken)
+returns c = c .refuse-holds .ensures ∙ holds-refused _ _ _ _ _ _ (c .before .before .before .check .ensures) (c .before .if1 .taken)
 
 holds-accepted-requires : tie.Need-holds-accepted-requires
 holds-accepted-requires c κs = sym (ap (λ (y : Refusal). y .number) (c .before .before .check .ensures)) ∙ c .if1 .left

@@ -17,7 +17,7 @@ refuse-step-requires : tie.Need-refuse-step-requires
 refuse-step-requires c κs = search needs
 
 returns : tie.Need-returns
-returns c = c .refuse-step .ensures ∙ step-refused _ _ _ _ _ (c .before .before .before .check .ensures) (c .before .if1 .taken)
+returns c = c .refuse-step .ensures ∙ step-refused _ _ _ _ _ _ (c .before .before .before .check .ensures) (c .before .if1 .taken)
 
 step-accepted-requires : tie.Need-step-accepted-requires
 step-accepted-requires c κs = sym (ap (λ (y : Refusal). y .number) (c .before .before .check .ensures)) ∙ c .if1 .left

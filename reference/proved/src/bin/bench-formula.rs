@@ -113,8 +113,8 @@ fn main() {
     size("money-changer-uic1", 0, 100);
     size("wide", 1, 100);
     size("money-changer-dyn", 2, 100);
-    // At bound 71 its formula is refused by 19.
-    size("most-gates", 1, 70);
+    // At bound 70 its formula is refused by 19.
+    size("most-gates", 1, 69);
     encode("design-a", 0, 3);
     encode("design-a", 0, 100);
     encode("money-changer-uic1", 0, 21);

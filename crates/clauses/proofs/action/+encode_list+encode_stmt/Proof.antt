@@ -2,8 +2,9 @@ use mathlib.Core.Bool.{false}
 use native.Mathlib.Omega.{arith}
 use mathlib.Core.Path.{_≡_, refl, sym, _∙_}
 use Prim.Native.Nat.{_+_, _-_, _*_}
-use lib.ListN.{length}
-use Rattle.clauses.proofs.EmitStates.{slotted-again}
+use lib.ListN.{length, getD, set, length-set}
+use Rattle.clauses.proofs.EmitSlots.{bits-some, mark-read}
+use Rattle.clauses.proofs.EmitStates.{slotted-again, mark-over}
 use Rattle.clauses.proofs.EmitActions.{Listing, list-here, listing-start, listing-here, listing-on, listing-end, stmt-here, stmt-assign-here, stmt-assign-node, if-test-here, if-first-here, if-first-on, if-second-here, if-second-on, if-node}
 use Prim.Native.Nat.{ℕ, _<_}
 use borrow.Fn.Kinds.{In}
@@ -138,66 +139,68 @@ encode-stmt-returns t c =
       c .before .encode-assign .ensures .1,
     )
 
+encode-stmt-sub-last : (t : ℕ) → encode-stmt-lts.Need-sub-last (encode-stmt-claims t) (encode-stmt-at t) encode-stmt.Post
+encode-stmt-sub-last t c = omega (arith, bits-some (c .before .before .before .before .pre .1 .0))
+
+encode-stmt-mul-t22 : (t : ℕ) → encode-stmt-lts.Need-mul-t22 (encode-stmt-claims t) (encode-stmt-at t) encode-stmt.Post
+encode-stmt-mul-t22 t c = search needs
+
+encode-stmt-element-copy-out-t25 : (t : ℕ) → encode-stmt-lts.Need-element-copy-out-t25 (encode-stmt-claims t) (encode-stmt-at t) encode-stmt.Post
+encode-stmt-element-copy-out-t25 t c = omega (arith, (c .before .before .before .before .pre .1 .0) .few, c .before .before .before .before .pre .1 .1)
+
 encode-stmt-add-encode-bool : (t : ℕ) → encode-stmt-lts.Need-add-encode-bool (encode-stmt-claims t) (encode-stmt-at t) encode-stmt.Post
 encode-stmt-add-encode-bool t c =
-    let entry = c .before .before .before in
+    let entry = c .before .before .before .before .before in
     omega (arith, stmt-here (entry .args .file .now) (entry .args .shape) (entry .pre .1 .2))
 
 encode-stmt-encode-bool-requires : (t : ℕ) → encode-stmt-lts.Need-encode-bool-requires (encode-stmt-claims t) (encode-stmt-at t) encode-stmt.Post
 encode-stmt-encode-bool-requires t c κs =
-    let entry = c .before .before .before .before .before .before in
-    (false, (entry .pre .1 .0), if-test-here (entry .args .file .now) (entry .args .shape) (entry .pre .1 .2) (c .before .before .before .if1 .left))
+    let entry = c .before .before .before .before .before .before .before .before in
+    (false, entry .pre .1 .0, if-test-here (entry .args .file .now) (entry .args .shape) (entry .pre .1 .2) (c .before .before .before .before .before .if1 .left))
+
+encode-stmt-mul-state : (t : ℕ) → encode-stmt-lts.Need-mul-state (encode-stmt-claims t) (encode-stmt-at t) encode-stmt.Post
+encode-stmt-mul-state t c = search needs
+
+encode-stmt-element-write-state : (t : ℕ) → encode-stmt-lts.Need-element-write-state (encode-stmt-claims t) (encode-stmt-at t) encode-stmt.Post
+encode-stmt-element-write-state t c =
+    let entry = c .before .before .before .before .before .before .before .before .before .before in
+    omega (arith, entry .pre .1 .0 .few, entry .pre .1 .1)
 
 encode-stmt-encode-list-requires : (t : ℕ) → encode-stmt-lts.Need-encode-list-requires (encode-stmt-claims t) (encode-stmt-at t) encode-stmt.Post
 encode-stmt-encode-list-requires t c κs =
     let at-encode-bool = c .before .before .before .before in
-    let at-if1 = at-encode-bool .before .before .before .before in
+    let at-if1 = at-encode-bool .before .before .before .before .before .before in
     let entry = at-if1 .before .before .before in
     let file = entry .args .file .now in
-    let shape = entry .args .shape in (
-      omega (
-        arith,
-        entry .pre .0,
-        stmt-here file shape (entry .pre .1 .2),
-        if-first-on file shape (entry .pre .1 .2) (at-if1 .if1 .left) (entry .args
-            .state .now) (at-encode-bool .encode-bool .ensures false),
-      ),
-      (
-        (entry .pre .1 .0),
-        (entry .pre .1 .1),
-        if-first-here file shape (entry .pre .1 .2)
-            (at-if1 .if1 .left) (entry .args .state .now) (at-encode-bool .encode-bool .ensures false),
-      ),
+    let shape = entry .args .shape in
+    let state = entry .args .state .now in
+    let x = at-encode-bool .encode-bool in
+    let size = length-set state (shape .bits - 1) (x .result .pen .mark) in (
+      omega (arith, entry .pre .0, stmt-here file shape (entry .pre .1 .2), if-first-on file shape (entry .pre .1 .2) (at-if1 .if1 .left) state (x .ensures false)),
+      (slotted-again (entry .pre .1 .0) (sym size), size ∙ entry .pre .1 .1, if-first-here file shape (entry .pre .1 .2) (at-if1 .if1 .left) state (x .ensures false)),
     )
 
 encode-stmt-encode-list-requires-2 : (t : ℕ) → encode-stmt-lts.Need-encode-list-requires-2 (encode-stmt-claims t) (encode-stmt-at t) encode-stmt.Post
 encode-stmt-encode-list-requires-2 t c κs =
     let at-encode-list = c .before .before .before in
     let at-encode-bool = at-encode-list .before .before .before .before .before in
-    let at-if1 = at-encode-bool .before .before .before .before in
+    let at-if1 = at-encode-bool .before .before .before .before .before .before in
     let entry = at-if1 .before .before .before in
     let file = entry .args .file .now in
-    let shape = entry .args .shape in (
-      omega (
-        arith,
-        entry .pre .0,
-        stmt-here file shape (entry .pre .1 .2),
-        if-second-on file shape (entry .pre .1 .2) (at-if1 .if1 .left) (entry .args
-            .state .now) (at-encode-bool .encode-bool .ensures false) (at-encode-list .encode-list .ensures .0),
-      ),
-      (
-        (entry .pre .1 .0),
-        (entry .pre .1 .1),
-        if-second-here file shape (entry .pre .1 .2) (at-if1 .if1 .left) (entry .args .state .now) (at-encode-bool .encode-bool .ensures false)
-            (at-encode-list .encode-list .ensures .0),
-      ),
+    let shape = entry .args .shape in
+    let state = entry .args .state .now in
+    let x = at-encode-bool .encode-bool in
+    let size = length-set state (shape .bits - 1) (x .result .pen .mark) in
+    let marked = set state (shape .bits - 1) (x .result .pen .mark) in (
+      omega (arith, entry .pre .0, stmt-here file shape (entry .pre .1 .2), if-second-on file shape (entry .pre .1 .2) (at-if1 .if1 .left) state (x .ensures false) marked (at-encode-list .encode-list .ensures .0)),
+      (slotted-again (entry .pre .1 .0) (sym size), size ∙ entry .pre .1 .1, if-second-here file shape (entry .pre .1 .2) (at-if1 .if1 .left) state (x .ensures false) marked (at-encode-list .encode-list .ensures .0)),
     )
 
 encode-stmt-muxes-requires : (t : ℕ) → encode-stmt-lts.Need-muxes-requires (encode-stmt-claims t) (encode-stmt-at t) encode-stmt.Post
 encode-stmt-muxes-requires t c κs =
     let at-encode-list = c .before .before .before .before .before .before .before .before in
-    let entry = at-encode-list .before .before .before .before .before .before .before .before .before .before .before .before in
-    ((entry .pre .1 .0) .few, at-encode-list .encode-list .ensures .1, c .before .before .before .before .encode-list2 .ensures .1)
+    let entry = at-encode-list .before .before .before .before .before .before .before .before .before .before .before .before .before .before in
+    (entry .pre .1 .0 .few, at-encode-list .encode-list .ensures .1, c .before .before .before .before .encode-list2 .ensures .1)
 
 encode-stmt-same-length-2 : (t : ℕ) → encode-stmt-lts.Need-same-length-2 (encode-stmt-claims t) (encode-stmt-at t) encode-stmt.Post
 encode-stmt-same-length-2 t c = search needs
@@ -206,11 +209,17 @@ encode-stmt-returns-2 : (t : ℕ) → encode-stmt-lts.Need-returns-2 (encode-stm
 encode-stmt-returns-2 t c =
     let at-encode-list = c .before .before .before .before .before .before .before .before .before .before in
     let at-encode-bool = at-encode-list .before .before .before .before .before in
-    let at-if1 = at-encode-bool .before .before .before .before in
-    let entry = at-if1 .before .before .before in (
-      if-node (entry .args .file .now) (entry .args .shape) (entry .args .state .now) _ _ _ (at-if1 .if1 .left) (at-encode-bool .encode-bool .ensures false)
-          (at-encode-list .encode-list .ensures .0) (c .before .before .before .before .before .before .encode-list2 .ensures .0) (c .before .muxes
-          .ensures .0 (entry .args .file .now) ((entry .pre .1 .0) .sum)),
+    let at-if1 = at-encode-bool .before .before .before .before .before .before in
+    let entry = at-if1 .before .before .before in
+    let file = entry .args .file .now in
+    let shape = entry .args .shape in
+    let state = entry .args .state .now in
+    let x = at-encode-bool .encode-bool in
+    let size = length-set state (shape .bits - 1) (x .result .pen .mark) in
+    let marked = set state (shape .bits - 1) (x .result .pen .mark) in (
+      if-node file shape state marked _ _ _ (x .result .lit) (entry .args .pen) (getD state (shape .bits - 1) 0) (x .result .pen) (at-if1 .if1 .left) (mark-read false (entry .pre .1 .0) (omega arith) false refl .1)
+          (mark-over file shape (entry .pre .1 .0) (entry .pre .1 .0 .bits) (x .result .pen .mark)) (x .ensures false) (at-encode-list .encode-list .ensures .0) (c .before .before .before .before .before .before .encode-list2 .ensures .0)
+          (c .before .muxes .ensures .0 file (entry .pre .1 .0 .sum)),
       c .before .muxes .ensures .1,
     )
 
@@ -238,8 +247,13 @@ pub +encode-list+encode-stmt-spec : {M : Type 1} → statement M
     (encode-stmt-encode-assign-requires t)
     (encode-stmt-same-length t)
     (encode-stmt-returns t)
+    (encode-stmt-sub-last t)
+    (encode-stmt-mul-t22 t)
+    (encode-stmt-element-copy-out-t25 t)
     (encode-stmt-add-encode-bool t)
     (encode-stmt-encode-bool-requires t)
+    (encode-stmt-mul-state t)
+    (encode-stmt-element-write-state t)
     (encode-stmt-encode-list-requires t)
     (encode-stmt-encode-list-requires-2 t)
     (encode-stmt-muxes-requires t)

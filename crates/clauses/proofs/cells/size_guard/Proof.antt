@@ -59,7 +59,7 @@ returns-2 c =
     let inside = guard-inside _ _ _ ready _ (entry .pre .1) _ length in
     let reads = guard-reads _ _ _ ready _ (entry .pre .1) _ length (c .before .if1 .left) in
     let counted = c .size-bool .ensures (entry .args .file .now) maxDepth false reads in (
-      few-gates _ (bool-few _ _ _ (omega (arith, inside, sizes (ready .shaped))) _ _ _ counted),
+      few-gates _ (bool-few _ _ _ (omega (arith, inside, sizes (ready .shaped))) _ _ _ _ counted),
       λ x. guard-gates _ _ _ ready _ x _ length (c .before .if1 .left) _ counted,
     )
 

@@ -7,15 +7,12 @@ use Rattle.clauses.specs.Writing.{fromCode}
 use Rattle.clauses.proofs.EmitCircuits.{Summing, summing-start, summing-on, summing-end}
 use Rattle.clauses.proofs.circuit.sum.Statement.{statement}
 use Rattle.clauses.proofs.circuit.sum.Tie as tie
-use Rattle.clauses.proofs.circuit.sum.Reads as reads
-use Rattle.clauses.proofs.circuit.sum.Lts as lts
-use Rattle.clauses.proofs.circuit.sum_bit.Reads as sum-bit-reads
 
 abbrev Inv-loop : tie.InvT-loop
-Inv-loop c buf₀ cur var a b out₀ carry₀ at₀ g₀ i₀ buf out carry at g i = Summing a b (fromCode c) var buf₀ cur buf out (fromCode carry) at g i × (length buf ≡ length buf₀)
+Inv-loop c buf₀ cur var a b out₀ carry₀ earlier₀ at₀ g₀ i₀ buf out carry earlier at g i = Summing a b (fromCode c) var buf₀ cur buf out (fromCode carry) (fromCode earlier) at g i × (length buf ≡ length buf₀)
 
 abbrev μ-loop : tie.MeasureT-loop
-μ-loop c buf₀ cur var a b out₀ carry₀ at₀ g₀ i₀ buf out carry at g i = 16 - i
+μ-loop c buf₀ cur var a b out₀ carry₀ earlier₀ at₀ g₀ i₀ buf out carry earlier at g i = 16 - i
 
 loop-holds : tie.Need-loop-holds Inv-loop μ-loop
 loop-holds c = (
@@ -55,7 +52,7 @@ loop-again : tie.Need-loop-again Inv-loop μ-loop
 loop-again c = (
   summing-on (c .before .before .before .before .before .args .t1) (c .before .before .before .before .before .args .t2) (let h : length (c .before
       .before .before .before .before .args .t1) ≡ 16 = search needs in h) (let h : length (c .before .before .before .before .before .args .t2) ≡
-      16 = search needs in h) _ _ _ _ _ _ (c .before .before .before .loop-test .taken) (c .before .before .before .before .loop .inv .0) _ _ (c
+      16 = search needs in h) _ _ _ _ _ _ _ (c .before .before .before .loop-test .taken) (c .before .before .before .before .loop .inv .0) _ _ (c
       .before .sum-bit .ensures),
   omega arith,
 )
@@ -66,7 +63,7 @@ same-length c = omega arith
 returns : tie.Need-returns Inv-loop μ-loop
 returns c =
     summing-end (c .before .before .args .t1) (c .before .before .args .t2) (let h : length (c .before .before .args .t1) ≡ 16 = search needs in h) (let h
-    : length (c .before .before .args .t2) ≡ 16 = search needs in h) _ _ _ _ _ _ (c .loop-test .left) (c .before .loop .inv .0)
+    : length (c .before .before .args .t2) ≡ 16 = search needs in h) _ _ _ _ _ _ _ (c .loop-test .left) (c .before .loop .inv .0)
 
 pub sum-spec : {M : Type 1} → statement M
 sum-spec =

@@ -68,9 +68,9 @@ size-bool-size-bool-requires-3 t c κs =
     let (file, depth, later, h) = c .before .before .before .before .before .before .before .pre .1 .0 in
     let first = logic-first _ _ _ _ _ h (omega arith) (omega arith) in
     let a = c .size-bool2 .ensures file (depth - 1) later first in (
-      omega (arith, bool-live _ _ _ _ _ h .inside, bool-next _ _ _ _ _ first _ a),
+      omega (arith, bool-live _ _ _ _ _ h .inside, bool-next _ _ _ _ _ first _ _ a),
       (
-        (file, depth - 1, later, bool-then _ _ _ _ _ h (omega arith) (omega arith) _ a),
+        (file, depth - 1, later, bool-then _ _ _ _ _ h _ (omega arith) (omega arith) _ a),
         omega
             arith,
         omega arith,
@@ -82,9 +82,9 @@ size-bool-join-requires t c κs =
     let entry = c .before .before .before .before .before .before .before .before in
     let (file, depth, later, h) = entry .pre .1 .0 in
     let a = c .before .size-bool2 .ensures file (depth - 1) later (logic-first _ _ _ _ _ h (omega arith) (omega arith)) in
-    let b = c .size-bool3 .ensures file (depth - 1) later (bool-then _ _ _ _ _ h (omega arith) (omega arith) _ a) in
-    let f = bool-few _ _ _ (entry .pre .1 .2) _ _ _ a in
-    let g = bool-few _ _ _ (entry .pre .1 .2) _ _ _ b in
+    let b = c .size-bool3 .ensures file (depth - 1) later (bool-then _ _ _ _ _ h _ (omega arith) (omega arith) _ a) in
+    let f = bool-few _ _ _ (entry .pre .1 .2) _ _ _ _ a in
+    let g = bool-few _ _ _ (entry .pre .1 .2) _ _ _ _ b in
     (omega (arith, f .ands, g .ands), omega (arith, f .wides, g .wides))
 
 size-bool-add-size-int : (t : ℕ) → size-bool-lts.Need-add-size-int (size-bool-claims t) (size-bool-at t) size-bool.Post
@@ -100,16 +100,16 @@ size-bool-size-int-requires-2 t c κs =
     let entry = c .before .before .before .before .before .before .before .before in
     let (file, depth, later, h) = entry .pre .1 .0 in
     let a = c .size-int .ensures file (depth - 1) later (compare-first _ _ _ _ _ h (omega arith) (omega arith)) in
-    ((file, depth - 1, later, compare-then _ _ _ _ _ h (omega arith) (omega arith) _ a), omega arith, omega arith)
+    ((file, depth - 1, later, compare-then _ _ _ _ _ h _ (omega arith) (omega arith) _ a), omega arith, omega arith)
 
 size-bool-join-requires-2 : (t : ℕ) → size-bool-lts.Need-join-requires-2 (size-bool-claims t) (size-bool-at t) size-bool.Post
 size-bool-join-requires-2 t c κs =
     let entry = c .before .before .before .before .before .before .before .before .before .before in
     let (file, depth, later, h) = entry .pre .1 .0 in
     let a = c .before .before .size-int .ensures file (depth - 1) later (compare-first _ _ _ _ _ h (omega arith) (omega arith)) in
-    let b = c .before .size-int2 .ensures file (depth - 1) later (compare-then _ _ _ _ _ h (omega arith) (omega arith) _ a) in
-    let f = int-few _ _ _ (entry .pre .1 .2) _ _ _ a in
-    let g = int-few _ _ _ (entry .pre .1 .2) _ _ _ b in
+    let b = c .before .size-int2 .ensures file (depth - 1) later (compare-then _ _ _ _ _ h _ (omega arith) (omega arith) _ a) in
+    let f = int-few _ _ _ (entry .pre .1 .2) _ _ _ _ a in
+    let g = int-few _ _ _ (entry .pre .1 .2) _ _ _ _ b in
     (omega (arith, f .ands, g .ands), omega (arith, f .wides, g .wides))
 
 size-bool-join-requires-3 : (t : ℕ) → size-bool-lts.Need-join-requires-3 (size-bool-claims t) (size-bool-at t) size-bool.Post
@@ -117,9 +117,9 @@ size-bool-join-requires-3 t c κs =
     let entry = c .before .before .before .before .before .before .before .before .before .before in
     let (file, depth, later, h) = entry .pre .1 .0 in
     let a = c .before .before .size-int .ensures file (depth - 1) later (compare-first _ _ _ _ _ h (omega arith) (omega arith)) in
-    let b = c .before .size-int2 .ensures file (depth - 1) later (compare-then _ _ _ _ _ h (omega arith) (omega arith) _ a) in
-    let f = int-few _ _ _ (entry .pre .1 .2) _ _ _ a in
-    let g = int-few _ _ _ (entry .pre .1 .2) _ _ _ b in
+    let b = c .before .size-int2 .ensures file (depth - 1) later (compare-then _ _ _ _ _ h _ (omega arith) (omega arith) _ a) in
+    let f = int-few _ _ _ (entry .pre .1 .2) _ _ _ _ a in
+    let g = int-few _ _ _ (entry .pre .1 .2) _ _ _ _ b in
     (omega (arith, f .ands, g .ands), omega (arith, f .wides, g .wides))
 
 size-bool-no-gates-requires-3 : (t : ℕ) → size-bool-lts.Need-no-gates-requires-3 (size-bool-claims t) (size-bool-at t) size-bool.Post
@@ -127,31 +127,31 @@ size-bool-no-gates-requires-3 t c κs = tt
 
 size-bool-returns : (t : ℕ) → size-bool-lts.Need-returns (size-bool-claims t) (size-bool-at t) size-bool.Post
 size-bool-returns t c =
-    λ file depth later h. bool-negated _ _ _ _ _ h (c .before .match .keys1) _ (c .size-bool .ensures file (depth - 1) later (not-first _ _ _ _ _ h (c .before .match
+    λ file depth later h. bool-negated _ _ _ _ _ h _ (c .before .match .keys1) _ (c .size-bool .ensures file (depth - 1) later (not-first _ _ _ _ _ h (c .before .match
     .keys1)))
 
 size-bool-returns-2 : (t : ℕ) → size-bool-lts.Need-returns-2 (size-bool-claims t) (size-bool-at t) size-bool.Post
-size-bool-returns-2 t c = λ file depth later h. c .no-gates .ensures ∙ bool-slot _ _ _ _ _ h true (c .before .match .keys2) .1
+size-bool-returns-2 t c = λ file depth later h. c .no-gates .ensures ∙ bool-slot _ _ _ _ _ h true (c .before .match .keys2) .1 _
 
 size-bool-returns-3 : (t : ℕ) → size-bool-lts.Need-returns-3 (size-bool-claims t) (size-bool-at t) size-bool.Post
-size-bool-returns-3 t c = λ file depth later h. c .no-gates2 .ensures ∙ bool-name _ _ _ _ _ h (omega arith) (omega arith) .1
+size-bool-returns-3 t c = λ file depth later h. c .no-gates2 .ensures ∙ bool-name _ _ _ _ _ h (omega arith) (omega arith) .1 _
 
 size-bool-returns-4 : (t : ℕ) → size-bool-lts.Need-returns-4 (size-bool-claims t) (size-bool-at t) size-bool.Post
 size-bool-returns-4 t c =
     λ file depth later h. let a = c .before .before .size-bool2 .ensures file (depth - 1) later (logic-first _ _ _ _ _ h (omega arith) (omega arith)) in let b = c .before
-    .size-bool3 .ensures file (depth - 1) later (bool-then _ _ _ _ _ h (omega arith) (omega arith) _ a) in c .join .ensures ∙ bool-joined _ _ _ _ _ h (omega arith) (omega
+    .size-bool3 .ensures file (depth - 1) later (bool-then _ _ _ _ _ h _ (omega arith) (omega arith) _ a) in c .join .ensures ∙ bool-joined _ _ _ _ _ h _ (omega arith) (omega
     arith) _ _ a b
 
 size-bool-returns-5 : (t : ℕ) → size-bool-lts.Need-returns-5 (size-bool-claims t) (size-bool-at t) size-bool.Post
 size-bool-returns-5 t c =
     λ file depth later h. let a = c .before .before .before .size-int .ensures file (depth - 1) later (compare-first _ _ _ _ _ h (omega arith) (omega arith)) in let b = c
-    .before .before .size-int2 .ensures file (depth - 1) later (compare-then _ _ _ _ _ h (omega arith) (omega arith) _ a) in c .join2 .ensures ∙ equal-joined _ _ _ _ _ h
+    .before .before .size-int2 .ensures file (depth - 1) later (compare-then _ _ _ _ _ h _ (omega arith) (omega arith) _ a) in c .join2 .ensures ∙ equal-joined _ _ _ _ _ h _
     (omega arith) (omega arith) _ _ a b (c .before .if5 .taken)
 
 size-bool-returns-6 : (t : ℕ) → size-bool-lts.Need-returns-6 (size-bool-claims t) (size-bool-at t) size-bool.Post
 size-bool-returns-6 t c =
     λ file depth later h. let a = c .before .before .before .size-int .ensures file (depth - 1) later (compare-first _ _ _ _ _ h (omega arith) (omega arith)) in let b = c
-    .before .before .size-int2 .ensures file (depth - 1) later (compare-then _ _ _ _ _ h (omega arith) (omega arith) _ a) in c .join3 .ensures ∙ less-joined _ _ _ _ _ h
+    .before .before .size-int2 .ensures file (depth - 1) later (compare-then _ _ _ _ _ h _ (omega arith) (omega arith) _ a) in c .join3 .ensures ∙ less-joined _ _ _ _ _ h _
     (omega arith) (omega arith) _ _ a b (c .before .if5 .left)
 
 size-bool-returns-7 : (t : ℕ) → size-bool-lts.Need-returns-7 (size-bool-claims t) (size-bool-at t) size-bool.Post

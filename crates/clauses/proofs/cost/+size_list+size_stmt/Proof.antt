@@ -162,7 +162,7 @@ size-stmt-join-requires t c κs =
     let h = entry .pre .1 .0 in
     let ne = c .before .before .before .if3 .left in
     let test = c .before .before .size-bool .ensures (entry .args .file .now) maxDepth false (if-test _ _ _ _ _ h ne) in
-    let f = bool-few _ _ _ (entry .pre .1 .1 .1) _ _ _ test in
+    let f = bool-few _ _ _ (entry .pre .1 .1 .1) _ _ _ _ test in
     let g = list-few _ _ _ (entry .pre .1 .1 .1) _ (entry .pre .1 .1 .3) _ _ _ (c .before .size-list .ensures) in
     (omega (arith, f .ands, g .ands), omega (arith, f .wides, g .wides))
 
@@ -172,7 +172,7 @@ size-stmt-join-requires-2 t c κs =
     let h = entry .pre .1 .0 in
     let ne = c .before .before .before .before .if3 .left in
     let test = c .before .before .before .size-bool .ensures (entry .args .file .now) maxDepth false (if-test _ _ _ _ _ h ne) in
-    let f = bool-few _ _ _ (entry .pre .1 .1 .1) _ _ _ test in
+    let f = bool-few _ _ _ (entry .pre .1 .1 .1) _ _ _ _ test in
     let g = list-few _ _ _ (entry .pre .1 .1 .1) _ (entry .pre .1 .1 .3) _ _ _ (c .before .before .size-list .ensures) in
     let k = list-few _ _ _ (entry .pre .1 .1 .1) _ (entry .pre .1 .1 .3) _ _ _ (c .before .size-list2 .ensures) in
     let e = c .join .ensures in (

@@ -4,11 +4,12 @@ use Prim.Native.Nat.{_-_}
 use lib.ListN.{length, getD}
 use Rattle.design.specs.Tree.{notB}
 use Rattle.step.proofs.Values.{logicOf}
-use Rattle.clauses.specs.Literal.{negate}
-use Rattle.clauses.specs.Expression.{bool! }
-use Rattle.clauses.specs.Builders.{logic! }
+use mathlib.Core.Bool.{Bool}
+use Rattle.clauses.specs.Literal.{Literal, negate}
+use Rattle.clauses.specs.Circuit.{WithMark}
+use Rattle.clauses.specs.Builders.{beside!, logic! }
 use Rattle.clauses.specs.FlatState.{readSlots, layoutOf}
-use Rattle.clauses.specs.Encoders.{boolsAt}
+use Rattle.clauses.specs.Encoders.{boolsAt, boolGates}
 use Rattle.clauses.proofs.EmitExpressions.{bool-byte, bools-ahead, not-one, logic-pair, only-here, only-node, first-here, second-here, second-on, pair-node, not-tree, logic-tree}
 use borrow.Author.Needs.{needs}
 use Prim.Native.Nat.{ℕ, _<_}
@@ -101,9 +102,9 @@ encode-bool-returns-3 t c =
     let file = entry .args .file .now in
     let shape = entry .args .shape in
     let at = entry .args .at in
-    λ later. only-node (boolsAt text file shape later) (boolsAt text file shape later) notB (not-one text file shape later at (c .before .before .before .before .before
-    .if3 .taken)) (bool! (layoutOf shape) (readSlots later file shape bits)) (bool! (layoutOf shape) (readSlots later file shape bits)) negate (not-tree (layoutOf shape)
-    (readSlots later file shape bits)) _ _ (c .before .before .before .encode-bool .ensures later) (c .before .negate .ensures)
+    λ later. only-node (boolsAt text file shape later) (boolsAt text file shape later) (boolGates text file shape later bits) (boolGates text file shape later bits) notB
+    (not-one text file shape later at (c .before .before .before .before .before .if3 .taken)) negate (not-tree (layoutOf shape) (readSlots later file shape bits)) (entry .args .pen) _ _ _
+    (c .before .before .before .encode-bool .ensures later) (c .before .negate .ensures)
 
 encode-bool-add-encode-bool-2 : (t : ℕ) → encode-bool-lts.Need-add-encode-bool-2 (encode-bool-claims t) (encode-bool-at t) encode-bool.Post
 encode-bool-add-encode-bool-2 t c =
@@ -149,15 +150,14 @@ encode-bool-encode-bool-requires-3 t c κs =
         arith,
         entry .pre .0,
         bool-byte text file shape later at here,
-        second-on (boolsAt text file shape later) (boolsAt text file shape later) (logicOf (getD text
-            at 0)) (bool! (layoutOf shape) (readSlots later file shape (entry .args .bits .now))) (logic-pair text file shape later at (at-if1 .if1 .left) (at-if3 .if3 .left)
+        second-on (boolsAt text file shape later) (boolsAt text file shape later) (logicOf (getD text at 0)) (logic-pair text file shape later at (at-if1 .if1 .left) (at-if3 .if3 .left)
             (at-if4 .if4 .taken)) first here (bools-ahead text file shape later at),
       ),
       (
         later,
         slots,
         second-here (boolsAt text file shape later) (boolsAt text file shape later)
-            (logicOf (getD text at 0)) (bool! (layoutOf shape) (readSlots later file shape (entry .args .bits .now))) (logic-pair text file shape later at (at-if1 .if1 .left)
+            (logicOf (getD text at 0)) (logic-pair text file shape later at (at-if1 .if1 .left)
             (at-if3 .if3 .left) (at-if4 .if4 .taken)) first here,
       ),
     )
@@ -179,10 +179,10 @@ encode-bool-returns-4 t c =
     let file = entry .args .file .now in
     let shape = entry .args .shape in
     let at = entry .args .at in
-    λ later. pair-node (boolsAt text file shape later) (boolsAt text file shape later) (logicOf (getD text at 0)) (logic-pair text file shape later at (at-if1 .if1 .left)
-    (at-if3 .if3 .left) (at-if4 .if4 .taken)) (bool! (layoutOf shape) (readSlots later file shape bits)) (bool! (layoutOf shape) (readSlots later file shape bits))
-    (logic! (getD text at 0)) (logic-tree (layoutOf shape) (readSlots later file shape bits) (getD text at 0)) _ _ (c .before .before .before .before .before .before
-    .before .encode-bool2 .ensures later) (c .before .before .before .before .encode-bool3 .ensures later) (c .before .logic .ensures)
+    λ later. pair-node (boolsAt text file shape later) (boolsAt text file shape later) (boolGates text file shape later bits) (boolGates text file shape later bits) (logicOf (getD text at 0))
+    (logic-pair text file shape later at (at-if1 .if1 .left) (at-if3 .if3 .left) (at-if4 .if4 .taken)) (λ (marks : Bool) (x : Literal) (y : WithMark Literal). beside! (y .mark) (logic! (getD text at 0) x (y .result)))
+    (λ marks m. logic-tree (layoutOf shape) (readSlots later file shape bits) marks m (getD text at 0)) (entry .args .pen) _ _ _ _ _ (c .before .before .before .before .before .before .before .encode-bool2 .ensures later)
+    (c .before .before .before .before .encode-bool3 .ensures later) (c .before .logic .ensures)
 
 encode-bool-encode-compare-requires : (t : ℕ) → encode-bool-lts.Need-encode-compare-requires (encode-bool-claims t) (encode-bool-at t) encode-bool.Post
 encode-bool-encode-compare-requires t c κs =

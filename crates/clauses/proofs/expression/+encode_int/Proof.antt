@@ -5,12 +5,10 @@ use lib.ListN.{length, getD}
 use Rattle.design.specs.DesignFile.{at16}
 use Rattle.design.specs.Tree.{product}
 use Rattle.step.proofs.Values.{arithmeticOf}
-use Rattle.clauses.specs.Circuit.{product! }
-use Rattle.clauses.specs.Expression.{int! }
 use Rattle.clauses.specs.Builders.{arithmetic! }
 use Rattle.clauses.specs.FlatState.{readSlots, layoutOf}
-use Rattle.clauses.specs.Encoders.{intsAt}
-use Rattle.clauses.proofs.EmitExpressions.{int-byte, ints-ahead, arithmetic-pair, product-one, product-here, product-node, from-parts, only-here, first-here, second-here, second-on, pair-node, arithmetic-tree}
+use Rattle.clauses.specs.Encoders.{intsAt, intGates}
+use Rattle.clauses.proofs.EmitExpressions.{int-byte, ints-ahead, arithmetic-pair, product-one, product-here, product-node, only-here, first-here, second-here, second-on, pair-node, arithmetic-tree}
 use borrow.Author.Needs.{needs}
 use Prim.Native.Nat.{ℕ, _<_}
 use borrow.Fn.Kinds.{In}
@@ -19,10 +17,8 @@ use Rattle.clauses.proofs.expression.encode_int.Reads as encode-int
 use Rattle.clauses.proofs.expression.encode_int.Kinds as encode-int-kinds
 use Rattle.clauses.proofs.expression.+encode_int.Lts-encode_int as encode-int-lts
 use Rattle.clauses.proofs.expression.arithmetic.Reads as arithmetic-reads
-use Rattle.clauses.proofs.expression.constant.Reads as constant-reads
 use Rattle.clauses.proofs.expression.int_leaf.Reads as int-leaf-reads
-use Rattle.clauses.proofs.expression.int_out.Reads as int-out-reads
-use Rattle.clauses.proofs.expression.product.Reads as product-reads
+use Rattle.clauses.proofs.expression.multiply.Reads as multiply-reads
 use Rattle.design.proofs.bytes.word.Reads as word-reads
 use Rattle.clauses.proofs.expression.+encode_int.{statement}
 use Rattle.clauses.proofs.expression.+encode_int.Tie.{close}
@@ -44,14 +40,10 @@ encode-int-claims t = (
   int-leaf-reads.Learnt,
   encode-int-below t,
   encode-int.Post,
-  constant-reads.Asked,
-  constant-reads.Learnt,
-  int-out-reads.Asked,
-  int-out-reads.Learnt,
   word-reads.Asked,
   word-reads.Learnt,
-  product-reads.Asked,
-  product-reads.Learnt,
+  multiply-reads.Asked,
+  multiply-reads.Learnt,
   arithmetic-reads.Asked,
   arithmetic-reads.Learnt,
 )
@@ -99,15 +91,9 @@ encode-int-encode-int-requires t c κs =
       ),
     )
 
-encode-int-constant-requires : (t : ℕ) → encode-int-lts.Need-constant-requires (encode-int-claims t) (encode-int-at t) encode-int.Post
-encode-int-constant-requires t c κs = search needs
-
-encode-int-int-out-requires : (t : ℕ) → encode-int-lts.Need-int-out-requires (encode-int-claims t) (encode-int-at t) encode-int.Post
-encode-int-int-out-requires t c κs = search needs
-
 encode-int-add-word : (t : ℕ) → encode-int-lts.Need-add-word (encode-int-claims t) (encode-int-at t) encode-int.Post
 encode-int-add-word t c =
-    let at-if2 = c .before .before .before .before .before .before in
+    let at-if2 = c .before .before .before in
     let entry = at-if2 .before .before .before .before .before .before in
     let text = entry .args .text .now in
     let file = entry .args .file .now in
@@ -118,7 +104,7 @@ encode-int-add-word t c =
 
 encode-int-word-requires : (t : ℕ) → encode-int-lts.Need-word-requires (encode-int-claims t) (encode-int-at t) encode-int.Post
 encode-int-word-requires t c κs =
-    let at-if2 = c .before .before .before .before .before .before in
+    let at-if2 = c .before .before .before in
     let entry = at-if2 .before .before .before .before .before .before in
     let text = entry .args .text .now in
     let file = entry .args .file .now in
@@ -127,27 +113,26 @@ encode-int-word-requires t c κs =
     let (later, slots, here) = entry .pre .1 in
     omega (arith, product-here text file shape later at here (at-if2 .if2 .taken))
 
-encode-int-cast-product : (t : ℕ) → encode-int-lts.Need-cast-product (encode-int-claims t) (encode-int-at t) encode-int.Post
-encode-int-cast-product t c = search needs
+encode-int-cast-multiply : (t : ℕ) → encode-int-lts.Need-cast-multiply (encode-int-claims t) (encode-int-at t) encode-int.Post
+encode-int-cast-multiply t c = search needs
 
-encode-int-product-requires : (t : ℕ) → encode-int-lts.Need-product-requires (encode-int-claims t) (encode-int-at t) encode-int.Post
-encode-int-product-requires t c κs = search needs
+encode-int-multiply-requires : (t : ℕ) → encode-int-lts.Need-multiply-requires (encode-int-claims t) (encode-int-at t) encode-int.Post
+encode-int-multiply-requires t c κs = search needs
 
 encode-int-same-length : (t : ℕ) → encode-int-lts.Need-same-length (encode-int-claims t) (encode-int-at t) encode-int.Post
 encode-int-same-length t c = search needs
 
 encode-int-returns-2 : (t : ℕ) → encode-int-lts.Need-returns-2 (encode-int-claims t) (encode-int-at t) encode-int.Post
 encode-int-returns-2 t c =
-    let at-int-out = c .before .before .before .before in
-    let at-if2 = at-int-out .before .before .before .before .before .before in
+    let at-encode-int = c .before .before .before .before .before in
+    let at-if2 = at-encode-int .before .before in
     let entry = at-if2 .before .before .before .before .before .before in
     let text = entry .args .text .now in
     let file = entry .args .file .now in
     let shape = entry .args .shape in
     let at = entry .args .at in
-    λ later. product-node text file shape later at (entry .args .bits .now) (at-if2 .if2 .taken) _ _ (c .before .before .before .word .ensures .0)
-    (at-int-out .before .constant .ensures) _ (at-int-out .before .before .before .before .encode-int .ensures later)
-    (from-parts (product! 16 _ _) (at-int-out .int-out .result) (at-int-out .int-out .ensures) (c .before .product .ensures))
+    λ later. product-node text file shape later at (entry .args .bits .now) (at-if2 .if2 .taken) _ (c .before .before .before .word .ensures .0) (entry .args .pen) _ _ _ (at-encode-int .encode-int .ensures later)
+    (c .before .multiply .ensures)
 
 encode-int-int-leaf-requires-2 : (t : ℕ) → encode-int-lts.Need-int-leaf-requires-2 (encode-int-claims t) (encode-int-at t) encode-int.Post
 encode-int-int-leaf-requires-2 t c κs = (c .before .before .before .before .before .before .before .pre .1, inr (c .if3 .taken), c .before .if2 .left)
@@ -199,13 +184,13 @@ encode-int-encode-int-requires-3 t c κs =
         arith,
         entry .pre .0,
         int-byte text file shape later at here,
-        second-on (intsAt text file shape later) (intsAt text file shape later) (arithmeticOf (getD text at 0)) (int! (layoutOf shape) (readSlots later file shape (entry .args .bits .now)))
+        second-on (intsAt text file shape later) (intsAt text file shape later) (arithmeticOf (getD text at 0))
             (arithmetic-pair text file shape later at (at-if1 .if1 .left) (at-if3 .if3 .left)) first here (ints-ahead text file shape later at),
       ),
       (
         later,
         slots,
-        second-here (intsAt text file shape later) (intsAt text file shape later) (arithmeticOf (getD text at 0)) (int! (layoutOf shape) (readSlots later file shape (entry .args .bits .now)))
+        second-here (intsAt text file shape later) (intsAt text file shape later) (arithmeticOf (getD text at 0))
             (arithmetic-pair text file shape later at (at-if1 .if1 .left) (at-if3 .if3 .left)) first here,
       ),
     )
@@ -227,10 +212,9 @@ encode-int-returns-4 t c =
     let file = entry .args .file .now in
     let shape = entry .args .shape in
     let at = entry .args .at in
-    λ later. pair-node (intsAt text file shape later) (intsAt text file shape later) (arithmeticOf (getD text at 0)) (arithmetic-pair text file shape later at (at-if1 .if1 .left) (at-if3 .if3 .left))
-    (int! (layoutOf shape) (readSlots later file shape bits)) (int! (layoutOf shape) (readSlots later file shape bits)) (arithmetic! (getD text at 0))
-    (arithmetic-tree (layoutOf shape) (readSlots later file shape bits) (getD text at 0))
-    _ _ (at-encode-int2 .encode-int2 .ensures later) (c .before .before .before .before .before .encode-int3 .ensures later) (c .before .arithmetic .ensures)
+    λ later. pair-node (intsAt text file shape later) (intsAt text file shape later) (intGates text file shape later bits) (intGates text file shape later bits) (arithmeticOf (getD text at 0))
+    (arithmetic-pair text file shape later at (at-if1 .if1 .left) (at-if3 .if3 .left)) (arithmetic! (getD text at 0)) (λ marks m. arithmetic-tree (layoutOf shape) (readSlots later file shape bits) marks m (getD text at 0))
+    (entry .args .pen) _ _ _ _ _ (at-encode-int2 .encode-int2 .ensures later) (c .before .before .before .before .before .encode-int3 .ensures later) (c .before .arithmetic .ensures)
 
 pub +encode-int-spec : {M : Type 1} → statement M
 +encode-int-spec = close μ-encode-int λ t. encode-int-lts.spec (
@@ -238,14 +222,10 @@ pub +encode-int-spec : {M : Type 1} → statement M
   int-leaf-reads.Learnt,
   encode-int-below t,
   encode-int.Post,
-  constant-reads.Asked,
-  constant-reads.Learnt,
-  int-out-reads.Asked,
-  int-out-reads.Learnt,
   word-reads.Asked,
   word-reads.Learnt,
-  product-reads.Asked,
-  product-reads.Learnt,
+  multiply-reads.Asked,
+  multiply-reads.Learnt,
   arithmetic-reads.Asked,
   arithmetic-reads.Learnt,
 )
@@ -256,12 +236,10 @@ pub +encode-int-spec : {M : Type 1} → statement M
     (encode-int-returns t)
     (encode-int-add-encode-int t)
     (encode-int-encode-int-requires t)
-    (encode-int-constant-requires t)
-    (encode-int-int-out-requires t)
     (encode-int-add-word t)
     (encode-int-word-requires t)
-    (encode-int-cast-product t)
-    (encode-int-product-requires t)
+    (encode-int-cast-multiply t)
+    (encode-int-multiply-requires t)
     (encode-int-same-length t)
     (encode-int-returns-2 t)
     (encode-int-int-leaf-requires-2 t)

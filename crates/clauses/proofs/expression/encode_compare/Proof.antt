@@ -1,10 +1,11 @@
 use native.Mathlib.Omega.{arith}
 use lib.ListN.{getD}
 use Rattle.step.proofs.Values.{compareOf}
-use Rattle.clauses.specs.Expression.{int!, bool! }
-use Rattle.clauses.specs.Builders.{compare! }
+use mathlib.Core.Bool.{Bool}
+use Rattle.clauses.specs.Circuit.{Bits, WithMark}
+use Rattle.clauses.specs.Builders.{beside!, compare! }
 use Rattle.clauses.specs.FlatState.{readSlots, layoutOf}
-use Rattle.clauses.specs.Encoders.{intsAt, boolsAt}
+use Rattle.clauses.specs.Encoders.{intsAt, boolsAt, intGates, boolGates}
 use Rattle.clauses.proofs.EmitExpressions.{bool-byte, compare-pair, first-here, second-here, pair-node, compare-tree}
 use borrow.Author.Needs.{needs}
 use Rattle.clauses.proofs.expression.encode_compare.Statement.{statement}
@@ -36,7 +37,7 @@ encode-int-requires-2 c κs =
     let (later, slots, here) = entry .pre .0 in (
       later,
       slots,
-      second-here (intsAt text file shape later) (boolsAt text file shape later) (compareOf (getD text at 0)) (int! (layoutOf shape) (readSlots later file shape (entry .args .bits .now)))
+      second-here (intsAt text file shape later) (boolsAt text file shape later) (compareOf (getD text at 0))
           (compare-pair text file shape later at (entry .pre .1) (entry .pre .2)) (c .before .before .encode-int .ensures later) here,
     )
 
@@ -61,9 +62,10 @@ returns c =
     let shape = entry .args .shape in
     let at = entry .args .at in
     let bits = entry .args .bits .now in
-    λ later. pair-node (intsAt text file shape later) (boolsAt text file shape later) (compareOf (getD text at 0)) (compare-pair text file shape later at (entry .pre .1) (entry .pre .2))
-    (int! (layoutOf shape) (readSlots later file shape bits)) (bool! (layoutOf shape) (readSlots later file shape bits)) (compare! (getD text at 0))
-    (compare-tree (layoutOf shape) (readSlots later file shape bits) (getD text at 0)) _ _ (at-encode-int .encode-int .ensures later) (c .before .before .before .before .before .before .encode-int2 .ensures later) (c .before .compare .ensures)
+    λ later. pair-node (intsAt text file shape later) (boolsAt text file shape later) (intGates text file shape later bits) (boolGates text file shape later bits) (compareOf (getD text at 0))
+    (compare-pair text file shape later at (entry .pre .1) (entry .pre .2)) (λ (marks : Bool) (x : Bits) (y : WithMark Bits). beside! (y .mark) (compare! (getD text at 0) x (y .result)))
+    (λ marks m. compare-tree (layoutOf shape) (readSlots later file shape bits) marks m (getD text at 0)) (entry .args .pen) _ _ _ _ _ (at-encode-int .encode-int .ensures later)
+    (c .before .before .before .before .before .before .encode-int2 .ensures later) (c .before .compare .ensures)
 
 pub encode-compare-spec : {M : Type 1} → statement M
 encode-compare-spec =

@@ -53,6 +53,15 @@ mul-put-units c =
           .pre) .counts .variables) ((entry .pre) .counts .matrices) (c .before .before .offset .result) (c .before .before .offset .ensures),
     )
 
+add-put-units : tie.Need-add-put-units
+add-put-units c =
+    let entry = c .before .before .before .before .before .before .before .before .before .before in
+    omega (
+      arith,
+      first-small (entry .args .file .now) ((entry .pre) .accepted) (entry .args .shape .variables) (entry .args .shape .matrices) ((entry
+          .pre) .counts .variables) ((entry .pre) .counts .matrices) (c .before .before .offset .result) (c .before .before .offset .ensures),
+    )
+
 put-units-requires : tie.Need-put-units-requires
 put-units-requires c κs =
     let entry = c .before .before .before .before .before .before .before .before .before .before in
@@ -84,6 +93,7 @@ put-first-spec =
     add-x
     cast-put-units
     mul-put-units
+    add-put-units
     put-units-requires
     same-length
     returns)

@@ -1,7 +1,9 @@
 use native.Mathlib.Omega.{arith}
 use mathlib.Core.Bool.{false}
+use Prim.Native.Nat.{ℕ, _<_}
+use lib.ListN.{getD}
 use Rattle.design.specs.Limits.{maxDepth}
-use Rattle.clauses.proofs.CellCounts.{expression-short, expression-reads, expression-gates, property-gates, property-without}
+use Rattle.clauses.proofs.CellCounts.{expression-short, expression-reads, expression-few, expression-gates, property-gates, property-without}
 use Rattle.clauses.proofs.frame.size_property.Statement.{statement}
 use Rattle.clauses.proofs.frame.size_property.Tie as tie
 
@@ -23,22 +25,35 @@ size-bool-requires c κs =
           (c .before .before .before .before .pre .0) _ _ (c .before .before .before .before .pre .1) (c .before .if1 .taken) _ text,
     )
 
+ends-unmarked-requires : tie.Need-ends-unmarked-requires
+ends-unmarked-requires c κs =
+    let entry = c .before .before .before .before .before in
+    let zero = c .before .before .if1 .taken in
+    let text = c .before .expression .ensures in
+    let reads = expression-reads _ _ _ (entry .pre .0) _ _ (entry .pre .1) zero _ text in
+    expression-few _ _ _ (entry .pre .0) _ _ (entry .pre .1) zero _ text _ (c .size-bool .ensures (entry .args .file .now) maxDepth false reads)
+
 returns : tie.Need-returns
 returns c =
-    let entry = c .before .before .before .before .before in
-    let text = c .before .expression .ensures in expression-gates _ _ _ (entry .pre .0) _ _ (entry .pre .1) (c .before .before .if1 .taken) _ text _ (c
-    .size-bool .ensures (entry .args .file .now) maxDepth false (expression-reads _ _ _ (entry .pre .0) _ _ (entry .pre .1) (c .before .before
-    .if1 .taken) _ text))
+    let entry = c .before .before .before .before .before .before in
+    let zero = c .before .before .before .if1 .taken in
+    let text = c .before .before .expression .ensures in
+    let reads = expression-reads _ _ _ (entry .pre .0) _ _ (entry .pre .1) zero _ text in
+    let counted = c .before .size-bool .ensures (entry .args .file .now) maxDepth false reads in
+    expression-gates _ _ _ (entry .pre .0) _ _ (entry .pre .1) zero _ text _ counted _ (c .ends-unmarked .ensures)
 
 size-cells-requires : tie.Need-size-cells-requires
 size-cells-requires c κs = c .before .before .before .before .pre .0
 
+ends-unmarked-requires-2 : tie.Need-ends-unmarked-requires-2
+ends-unmarked-requires-2 c κs = c .size-cells .ensures .0
+
 returns-2 : tie.Need-returns-2
-returns-2 c = (
-  c .size-cells .ensures .0,
-  property-gates _ _ _ (c .before .before .before .before .before .pre .0) _ _ (c .before .if2 .taken) _ (c .size-cells
-      .ensures .1),
-)
+returns-2 c =
+    let at-known = c .before .before .before .before .before in
+    let entry = at-known .before in
+    let bytes : (i : ℕ) → getD (entry .args .file .now) i 0 < 256 = λ i. omega (arith, at-known .shared-slice-known .given i) in
+    property-gates _ _ _ (entry .pre .0) bytes _ _ (entry .pre .1) (c .before .before .if2 .taken) _ _ (c .before .size-cells .ensures .1) (c .ends-unmarked2 .ensures)
 
 no-gates-requires : tie.Need-no-gates-requires
 no-gates-requires c κs = tt
@@ -53,8 +68,10 @@ size-property-spec =
     (tie.spec
     expression-requires
     size-bool-requires
+    ends-unmarked-requires
     returns
     size-cells-requires
+    ends-unmarked-requires-2
     returns-2
     no-gates-requires
     returns-3)

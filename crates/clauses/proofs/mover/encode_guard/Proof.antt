@@ -7,8 +7,6 @@ use Rattle.clauses.proofs.EmitCells.{slotted, normal-fields, guard-none
 use borrow.Author.Needs.{needs}
 use Rattle.clauses.proofs.mover.encode_guard.Statement.{statement}
 use Rattle.clauses.proofs.mover.encode_guard.Tie as tie
-use Rattle.clauses.proofs.mover.encode_guard.Reads as reads
-use Rattle.clauses.proofs.mover.encode_guard.Lts as lts
 
 add-wide : tie.Need-add-wide
 add-wide c = omega (arith, (normal-fields (c .before .pre .0 .1) (c .before .args .p) (c .before .pre .2)) .header, sizes (c .before .pre .0 .1 .shaped))
@@ -30,13 +28,13 @@ returns c =
     λ x. guard-true (layoutOf (entry .args .shape)) (slotsOf (entry .args .file .now) (entry .args .shape) (entry .args .bits .now)) _ _ _ _ (guard-none
     (entry .pre .0 .1) (entry .args .p) x (sym (c .before .wide .ensures .0) ∙ c .if1 .taken))
 
-add-encode-bool : tie.Need-add-encode-bool
-add-encode-bool c =
+add-encode-test : tie.Need-add-encode-test
+add-encode-test c =
     let entry = c .before .before .before .before in
     omega (arith, (normal-fields (entry .pre .0 .1) (entry .args .p) (entry .pre .2)) .header, sizes (entry .pre .0 .1 .shaped))
 
-encode-bool-requires : tie.Need-encode-bool-requires
-encode-bool-requires c κs =
+encode-test-requires : tie.Need-encode-test-requires
+encode-test-requires c κs =
     let at-wide = c .before .before .before in
     let entry = at-wide .before .before .before in (
       false,
@@ -53,7 +51,7 @@ returns-2 c =
     let at-wide = c .before .before .before .before .before in
     let entry = at-wide .before .before .before in
     λ x. guard-writes (entry .pre .0 .1) (entry .args .p) x (at-wide .wide .result) (at-wide .wide .ensures .0) (c .before .before .before .before .if1
-    .left) (entry .args .bits .now) (c .before .encode-bool .result) (c .before .encode-bool .ensures false)
+    .left) (entry .args .bits .now) (c .before .encode-test .result) (c .before .encode-test .ensures false)
 
 pub encode-guard-spec : {M : Type 1} → statement M
 encode-guard-spec =
@@ -63,7 +61,7 @@ encode-guard-spec =
     shared-slice-read-wide
     wide-requires
     returns
-    add-encode-bool
-    encode-bool-requires
+    add-encode-test
+    encode-test-requires
     same-length
     returns-2)

@@ -11,8 +11,6 @@ use Rattle.clauses.proofs.EmitCells.{slotted, event-slot, event-inside,
 use borrow.Author.Needs.{needs}
 use Rattle.clauses.proofs.mover.status_and_event.Statement.{statement}
 use Rattle.clauses.proofs.mover.status_and_event.Tie as tie
-use Rattle.clauses.proofs.mover.status_and_event.Reads as reads
-use Rattle.clauses.proofs.mover.status_and_event.Lts as lts
 
 shared-slice-read-wide : tie.Need-shared-slice-read-wide
 shared-slice-read-wide c = omega (arith, c .before .before .pre .2 .header, sizes (c .before .before .pre .0 .shaped))
@@ -98,14 +96,14 @@ cast-at c =
     let entry = at-wide .before .before .before in
     omega (arith, event-inside (entry .pre .0) (entry .pre .2) (at-wide .wide .ensures .0) (c .before .wide3 .ensures .0), sizes (entry .pre .0 .shaped))
 
-add-encode-bool : tie.Need-add-encode-bool
-add-encode-bool c =
+add-encode-test : tie.Need-add-encode-test
+add-encode-test c =
     let at-wide = c .before .before .before .before .before .before .before .before .before .before .before in
     let entry = at-wide .before .before .before in
     omega (arith, event-inside (entry .pre .0) (entry .pre .2) (at-wide .wide .ensures .0) (c .before .wide3 .ensures .0), sizes (entry .pre .0 .shaped))
 
-encode-bool-requires : tie.Need-encode-bool-requires
-encode-bool-requires c κs =
+encode-test-requires : tie.Need-encode-test-requires
+encode-test-requires c κs =
     let at-wide3 = c .before .before .before in
     let at-wide = at-wide3 .before .before .before .before .before .before .before .before .before .before in
     let entry = at-wide .before .before .before in (
@@ -122,8 +120,8 @@ same-length c = search needs
 
 returns : tie.Need-returns
 returns c =
-    let at-encode-bool = c .before .before .before .before in
-    let at-wide3 = at-encode-bool .before .before .before .before in
+    let at-encode-test = c .before .before .before .before in
+    let at-wide3 = at-encode-test .before .before .before .before in
     let at-equal = at-wide3 .before .before .before in
     let at-constant = at-equal .before .before in
     let at-wide2 = at-constant .before in
@@ -137,8 +135,8 @@ returns c =
     λ d w. event-emits (layoutOf shape) (slotsOf file shape bits) (c-matrix file p) (c-status file p) (eventIn (w .rows) (c-matrix file p) (c-event file
     p)) _ _ _ _ _ (at-load-status .load-status .ensures false refl ∙ ap (λ (m : ℕ). integerAt (slotsOf file shape bits) (shape .variables + m)) (at-wide
     .wide .ensures .0)) (at-constant .constant .ensures ∙ ap (constantBits 16) (at-wide2 .wide2 .ensures .0)) (at-equal .equal .ensures)
-    (event-writes (entry .pre .0) (entry .pre .2) (at-wide .wide .ensures .0) (at-wide3 .wide3 .ensures .0) _ refl bits (at-encode-bool .encode-bool .result)
-    (at-encode-bool .encode-bool .ensures false) d w) (c .before .emit-and .ensures)
+    (event-writes (entry .pre .0) (entry .pre .2) (at-wide .wide .ensures .0) (at-wide3 .wide3 .ensures .0) _ refl bits (at-encode-test .encode-test .result)
+    (at-encode-test .encode-test .ensures false) d w) (c .before .emit-and .ensures)
 
 pub status-and-event-spec : {M : Type 1} → statement M
 status-and-event-spec =
@@ -161,8 +159,8 @@ status-and-event-spec =
     mul-at-2
     element-copy-out-at
     cast-at
-    add-encode-bool
-    encode-bool-requires
+    add-encode-test
+    encode-test-requires
     emit-and-requires
     same-length
     returns)

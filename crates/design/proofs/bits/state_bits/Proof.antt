@@ -17,6 +17,9 @@ mul-result c = search needs
 add-result : tie.Need-add-result
 add-result c = omega (arith, c .offset .ensures, variables-small (c .before .before .args .file .now) 0 (c .before .before .args .variables))
 
+add-result-2 : tie.Need-add-result-2
+add-result-2 c = omega (arith, c .offset .ensures, variables-small (c .before .before .args .file .now) 0 (c .before .before .args .variables))
+
 returns : tie.Need-returns
 returns c =
     let args = c .before .before .args in
@@ -26,4 +29,4 @@ returns c =
     )
 
 pub state-bits-spec : {M : Type 1} → statement M
-state-bits-spec = tie.close (tie.spec offset-requires mul-result add-result returns)
+state-bits-spec = tie.close (tie.spec offset-requires mul-result add-result add-result-2 returns)

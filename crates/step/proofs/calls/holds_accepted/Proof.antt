@@ -1,7 +1,6 @@
--- `step::calls::holds_accepted` meets its contract. Assumes nothing.
 use mathlib.Core.Path.{_∙_}
-use borrow.Author.Needs.{needs}
 use Rattle.step.proofs.States.{holds-11, holds-13, holds-done}
+use borrow.Author.Needs.{needs}
 use Rattle.step.proofs.calls.holds_accepted.Statement.{statement}
 use Rattle.step.proofs.calls.holds_accepted.Tie as tie
 
@@ -21,9 +20,9 @@ returns : tie.Need-returns
 returns c =
     let at-patterns = c .before .before .before in
     let entry = at-patterns .before .before .before in
-    c .refuse-holds .ensures ∙ holds-11 (entry .args .file .now) (entry .args .values) (entry .args .statuses) (entry .args .property) (entry .pre)
-    (at-patterns .patterns .result) (at-patterns .patterns .ensures) (entry .good .1 .0 .1 .0 .1) (entry .good .1 .1 .0 .1 .0 .1) _ (c .before
-    .before .wrong-entry .ensures) (c .before .if1 .taken)
+    c .refuse-holds .ensures ∙ holds-11 (entry .args .file .now) (entry .args .values) (entry .args .statuses) (entry .args .mark) (entry .args .property)
+    (entry .pre) (at-patterns .patterns .result) (at-patterns .patterns .ensures) (entry .good .1 .0 .1 .0 .1) (entry .good .1 .1 .0 .1 .0 .1) _
+    (c .before .before .wrong-entry .ensures) (c .before .if1 .taken)
 
 refuse-holds-requires-2 : tie.Need-refuse-holds-requires-2
 refuse-holds-requires-2 c κs = search needs
@@ -32,22 +31,22 @@ returns-2 : tie.Need-returns-2
 returns-2 c =
     let at-patterns = c .before .before .before .before in
     let entry = at-patterns .before .before .before in
-    c .refuse-holds2 .ensures ∙ holds-13 (entry .args .file .now) (entry .args .values) (entry .args .statuses) (entry .args .property) (entry .pre)
-    (at-patterns .patterns .result) (at-patterns .patterns .ensures) (entry .good .1 .0 .1 .0 .1) (entry .good .1 .1 .0 .1 .0 .1) _ (c .before
-    .before .before .wrong-entry .ensures) (c .before .before .if1 .left) (c .before .if2 .taken)
+    c .refuse-holds2 .ensures ∙ holds-13 (entry .args .file .now) (entry .args .values) (entry .args .statuses) (entry .args .mark) (entry .args
+    .property) (entry .pre) (at-patterns .patterns .result) (at-patterns .patterns .ensures) (entry .good .1 .0 .1 .0 .1) (entry .good .1 .1 .0 .1
+    .0 .1) _ (c .before .before .before .wrong-entry .ensures) (c .before .before .if1 .left) (c .before .if2 .taken)
 
 holds-right-requires : tie.Need-holds-right-requires
-holds-right-requires c κs = (c .before .before .before .before .before .before .pre, c .before .before .before .before .shape .ensures .shaped, c .if2 .left)
+holds-right-requires c κs =
+    (c .before .before .before .before .before .before .pre, c .before .before .before .before .shape .ensures .shaped, c .if2 .left)
 
 returns-3 : tie.Need-returns-3
 returns-3 c =
     let at-patterns = c .before .before .before .before in
-    let at-shape = at-patterns .before in
-    let entry = at-shape .before .before in
-    holds-done (entry .args .file .now) (entry .args .values) (entry .args .statuses) (entry .args .property) (entry .pre) (at-patterns .patterns .result)
-    (at-patterns .patterns .ensures) (entry .good .1 .0 .1 .0 .1) (entry .good .1 .1 .0 .1 .0 .1) _ (c .before .before .before .wrong-entry
-    .ensures) (c .before .before .if1 .left) (c .before .if2 .left) _ _ (at-shape .shape .ensures .shaped .variables) (at-shape .shape .ensures .shaped
-    .matrices) _ (c .holds-right .ensures)
+    let entry = at-patterns .before .before .before in
+    holds-done (entry .args .file .now) (entry .args .values) (entry .args .statuses) (entry .args .mark) (entry .args .property) (entry .pre)
+    (at-patterns .patterns .result) (at-patterns .patterns .ensures) (entry .good .1 .0 .1 .0 .1) (entry .good .1 .1 .0 .1 .0 .1) _ (c .before
+    .before .before .wrong-entry .ensures) (c .before .before .if1 .left) (c .before .if2 .left) _ (c .before .before .before .before .before
+    .shape .ensures .shaped) _ (c .holds-right .ensures)
 
 pub holds-accepted-spec : {M : Type 1} → statement M
 holds-accepted-spec =

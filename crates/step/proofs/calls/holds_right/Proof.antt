@@ -1,9 +1,7 @@
--- `step::calls::holds_right` meets its contract. Assumes nothing.
-use native.Mathlib.Omega.{arith}
 use mathlib.Core.Path.{sym, _∙_}
-use borrow.Author.Needs.{needs}
 use lib.Seq.{length-take-le}
 use Rattle.design.proofs.Indexed.{sized}
+use borrow.Author.Needs.{needs}
 use Rattle.step.proofs.calls.holds_right.Statement.{statement}
 use Rattle.step.proofs.calls.holds_right.Tie as tie
 
@@ -12,25 +10,22 @@ index-events-requires c κs = search needs
 
 slot-count-requires : tie.Need-slot-count-requires
 slot-count-requires c κs =
-    let entry = c .before .before .before in (
-      sized (entry .args .file .now) (entry .pre .0) (entry .args .shape) (entry .pre .1) .0,
-      sized (entry .args .file .now) (entry .pre .0) (entry .args
-          .shape) (entry .pre .1) .1,
-    )
+    let entry = c .before .before .before in
+    let s = sized _ (entry .pre .0) _ (entry .pre .1) in (s .0, s .1)
 
 array-borrow-prefix-all : tie.Need-array-borrow-prefix-all
-array-borrow-prefix-all c = omega (arith, c .before .slot-count .ensures .1)
+array-borrow-prefix-all c = search needs
 
 slice-aggregate-holds-slots : tie.Need-slice-aggregate-holds-slots
 slice-aggregate-holds-slots c = sym (length-take-le _ _ (c .before .before .slot-count .ensures .1))
 
 holds-slots-requires : tie.Need-holds-slots-requires
 holds-slots-requires c κs =
-    let entry = c .before .before .before .before .before .before in (
+    let at-slot-count = c .before .before in
+    let entry = at-slot-count .before .before .before .before in (
       record {
-        indexed = record { accepted = entry .pre .0; events = c .before .before .before .index-events .ensures; shaped = entry .pre .1 };
-        size =
-            length-take-le _ _ (c .before .before .slot-count .ensures .1) ∙ c .before .before .slot-count .ensures .0;
+        indexed = record { accepted = entry .pre .0; events = at-slot-count .before .index-events .ensures; shaped = entry .pre .1 };
+        size = length-take-le _ _ (at-slot-count .slot-count .ensures .1) ∙ at-slot-count .slot-count .ensures .0;
       },
       entry .pre .2,
     )

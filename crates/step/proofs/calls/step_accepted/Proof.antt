@@ -1,11 +1,10 @@
--- `step::calls::step_accepted` meets its contract. Assumes nothing.
 use native.Mathlib.Omega.{arith}
 use mathlib.Core.Path.{refl, sym, _∙_}
-use borrow.Author.Needs.{needs}
 use lib.Seq.{length-take-le}
 use Rattle.design.proofs.Indexed.{sized, count-movers, few-movers}
 use Rattle.step.proofs.Choices.{movers-here}
 use Rattle.step.proofs.States.{step-11, step-12, step-done}
+use borrow.Author.Needs.{needs}
 use Rattle.step.proofs.calls.step_accepted.Statement.{statement}
 use Rattle.step.proofs.calls.step_accepted.Tie as tie
 
@@ -28,9 +27,9 @@ returns : tie.Need-returns
 returns c =
     let at-patterns = c .before .before .before in
     let entry = at-patterns .before .before .before .before .before in
-    c .refuse-step .ensures ∙ step-11 (entry .args .file .now) (entry .args .values) (entry .args .statuses) (entry .args .choice) (entry .pre)
-    (at-patterns .patterns .result) (at-patterns .patterns .ensures) (entry .good .1 .0 .1 .0 .1) (entry .good .1 .1 .0 .1 .0 .1) _ (c .before
-    .before .wrong-entry .ensures) (c .before .if1 .taken)
+    c .refuse-step .ensures ∙ step-11 (entry .args .file .now) (entry .args .values) (entry .args .statuses) (entry .args .mark) (entry .args .choice)
+    (entry .pre) (at-patterns .patterns .result) (at-patterns .patterns .ensures) (entry .good .1 .0 .1 .0 .1) (entry .good .1 .1 .0 .1 .0 .1) _
+    (c .before .before .wrong-entry .ensures) (c .before .if1 .taken)
 
 add-if2 : tie.Need-add-if2
 add-if2 c =
@@ -38,7 +37,8 @@ add-if2 c =
     let entry = at-shape .before .before .before .before in
     omega (
       arith,
-      few-movers _ _ _ (at-shape .shape .ensures .shaped) (movers-here _ _ _ _ (at-shape .shape .ensures) (c .before .before .before .before .before .index-cells .ensures)) (entry .pre),
+      few-movers _ _ _ (at-shape .shape .ensures .shaped) (movers-here _ _ _ _ (at-shape .shape .ensures) (c .before .before .before .before
+          .before .index-cells .ensures)) (entry .pre),
     )
 
 refuse-step-requires-2 : tie.Need-refuse-step-requires-2
@@ -49,22 +49,19 @@ returns-2 c =
     let at-patterns = c .before .before .before .before .before in
     let at-shape = at-patterns .before in
     let entry = at-shape .before .before .before .before in
-    c .refuse-step2 .ensures ∙ step-12 (entry .args .file .now) (entry .args .values) (entry .args .statuses) (entry .args .choice) (entry .pre)
-    (at-patterns .patterns .result) (at-patterns .patterns .ensures) (entry .good .1 .0 .1 .0 .1) (entry .good .1 .1 .0 .1 .0 .1) _ (c .before
-    .before .before .before .wrong-entry .ensures) (c .before .before .before .if1 .left) _ (count-movers _ _ _ (at-shape .shape .ensures .shaped)
-    (movers-here _ _ _ _ (at-shape .shape .ensures) (c .before .before .before .before .before .before .before .index-cells .ensures))) (omega (arith, c .before .if2 .taken))
+    c .refuse-step2 .ensures ∙ step-12 (entry .args .file .now) (entry .args .values) (entry .args .statuses) (entry .args .mark) (entry .args .choice)
+    (entry .pre) (at-patterns .patterns .result) (at-patterns .patterns .ensures) (entry .good .1 .0 .1 .0 .1) (entry .good .1 .1 .0 .1 .0 .1) _
+    (c .before .before .before .before .wrong-entry .ensures) (c .before .before .before .if1 .left) _ (count-movers _ _ _ (at-shape .shape
+    .ensures .shaped) (movers-here _ _ _ _ (at-shape .shape .ensures) (c .before .before .before .before .before .before .before .index-cells
+    .ensures))) (omega (arith, c .before .if2 .taken))
 
 index-events-requires : tie.Need-index-events-requires
 index-events-requires c κs = search needs
 
 slot-count-requires : tie.Need-slot-count-requires
 slot-count-requires c κs =
-    let at-shape = c .before .before .before .before .before .before .before in
-    let entry = at-shape .before .before .before .before in (
-      sized (entry .args .file .now) (entry .pre) (at-shape .shape .result) (at-shape .shape .ensures .shaped) .0,
-      sized (entry .args .file .now) (entry .pre)
-          (at-shape .shape .result) (at-shape .shape .ensures .shaped) .1,
-    )
+    let entry = c .before .before .before .before .before .before .before .before .before .before .before in
+    let s = sized _ (entry .pre) _ (c .before .before .before .before .before .before .before .shape .ensures .shaped) in (s .0, s .1)
 
 array-borrow-prefix-all : tie.Need-array-borrow-prefix-all
 array-borrow-prefix-all c = omega (arith, c .before .before .slot-count .ensures .1)
@@ -79,15 +76,11 @@ step-slots-requires c κs =
     let at-index-cells = at-shape .before in
     let entry = at-index-cells .before .before .before in (
       record {
-        indexed = record {
-          accepted = entry .pre;
-          events = c .before .before .before .before .index-events .ensures;
-          shaped = at-shape .shape .ensures .shaped;
-        };
+        indexed = record { accepted = entry .pre; events = at-slot-count .before .index-events .ensures; shaped = at-shape .shape .ensures .shaped };
         size = length-take-le _ _ (at-slot-count .slot-count .ensures .1) ∙ at-slot-count .slot-count .ensures .0;
       },
       movers-here _ _ _ _ (at-shape .shape .ensures) (at-index-cells .index-cells .ensures),
-      omega (arith, c .before .before .before .before .before .before .if2 .left),
+      omega (arith, at-slot-count .before .before .before .if2 .left),
     )
 
 returns-3 : tie.Need-returns-3
@@ -99,10 +92,11 @@ returns-3 c =
     let at-shape = at-patterns .before in
     let at-index-cells = at-shape .before in
     let entry = at-index-cells .before .before .before in
-    step-done (entry .args .file .now) (entry .args .values) (entry .args .statuses) (entry .args .choice) (entry .pre) (at-patterns .patterns .result)
-    (at-patterns .patterns .ensures) (entry .good .1 .0 .1 .0 .1) (entry .good .1 .1 .0 .1 .0 .1) _ (at-wrong-entry .wrong-entry .ensures) (at-if1
-    .if1 .left) _ (count-movers _ _ _ (at-shape .shape .ensures .shaped) (movers-here _ _ _ _ (at-shape .shape .ensures) (at-index-cells .index-cells .ensures))) (omega (arith, at-if2 .if2 .left)) _ _ (at-shape
-    .shape .ensures .shaped .variables) (at-shape .shape .ensures .shaped .matrices) _ refl _ (c .before .step-slots .ensures)
+    step-done (entry .args .file .now) (entry .args .values) (entry .args .statuses) (entry .args .mark) (entry .args .choice) (entry .pre) (at-patterns
+    .patterns .result) (at-patterns .patterns .ensures) (entry .good .1 .0 .1 .0 .1) (entry .good .1 .1 .0 .1 .0 .1) _ (at-wrong-entry
+    .wrong-entry .ensures) (at-if1 .if1 .left) _ (count-movers _ _ _ (at-shape .shape .ensures .shaped) (movers-here _ _ _ _ (at-shape .shape
+    .ensures) (at-index-cells .index-cells .ensures))) (omega (arith, at-if2 .if2 .left)) _ (at-shape .shape .ensures .shaped) _ refl _ (c .before
+    .step-slots .ensures)
 
 pub step-accepted-spec : {M : Type 1} → statement M
 step-accepted-spec =

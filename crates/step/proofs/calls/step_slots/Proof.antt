@@ -9,12 +9,6 @@ use Rattle.step.proofs.States.{step-answer}
 use borrow.Author.Needs.{needs}
 use Rattle.step.proofs.calls.step_slots.Statement.{statement}
 use Rattle.step.proofs.calls.step_slots.Tie as tie
-use Rattle.step.proofs.calls.step_slots.Reads as reads
-use Rattle.step.proofs.calls.step_slots.Lts as lts
-use Rattle.step.proofs.calls.load_entries.Reads as load-entries-reads
-use Rattle.step.proofs.interface.give_statuses.Reads as give-statuses-reads
-use Rattle.step.proofs.interface.give_values.Reads as give-values-reads
-use Rattle.step.proofs.mover.move_chosen.Reads as move-chosen-reads
 
 load-entries-requires : tie.Need-load-entries-requires
 load-entries-requires c κs =
@@ -44,16 +38,34 @@ give-statuses-requires c κs =
     let entry = at-slots .before .before .before .before .before in
     omega (arith, sizes _ _ _ _ (entry .pre .0), entry .pre .0 .size, at-slots .slots .given, c .before .before .before .before .slots2 .given)
 
+give-mark-requires : tie.Need-give-mark-requires
+give-mark-requires c κs =
+    let at-slots = c .before .before .before .before .before .before .before .before .before .before in
+    let entry = at-slots .before .before .before .before .before in
+    omega (
+      arith,
+      sizes _ _ _ _ (entry .pre .0),
+      entry .pre .0 .size,
+      at-slots .slots .given,
+      c .before .before .before .before .before .before .slots2
+          .given,
+    )
+
 same-length : tie.Need-same-length
 same-length c = search needs
 
 returns : tie.Need-returns
 returns c =
-    let at-load-entries = c .before .before .before .before .before .before .before .before .before .before in
+    let at-move-chosen = c .before .before .before .before .before .before .before .before in
+    let at-load-entries = at-move-chosen .before .before .before .before in
     let entry = at-load-entries .before .before .before .before in
-    λ d e. step-answer _ d e _ _ (entry .pre .0 .indexed .shaped .variables) (entry .pre .0 .indexed .shaped .matrices) _ _ _ _ _ _ (c .before .before
-    .before .before .before .before .move-chosen .ensures d e) (c .before .before .give-values .ensures) (c .give-statuses .ensures) ∙ ap (λ (s :
-    State). stepped (answer (next d s (entry .args .choice)))) (at-load-entries .load-entries .ensures)
+    λ d e. step-answer _ d e _ (entry .pre .0 .indexed .shaped) _ _ _ _ _ _ _ (at-move-chosen .move-chosen .ensures d e) (record {
+      values = c .before
+          .before .before .before .give-values .ensures;
+      statuses = c .before .before .give-statuses .ensures;
+      mark = c .give-mark .ensures;
+    }) ∙ ap (λ
+    (s : State). stepped (answer (next d s (entry .args .choice)))) (at-load-entries .load-entries .ensures)
 
 pub step-slots-spec : {M : Type 1} → statement M
 step-slots-spec =
@@ -63,5 +75,6 @@ step-slots-spec =
     move-chosen-requires
     give-values-requires
     give-statuses-requires
+    give-mark-requires
     same-length
     returns)

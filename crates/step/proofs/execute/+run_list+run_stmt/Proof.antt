@@ -1,12 +1,31 @@
 use native.Mathlib.Omega.{arith}
 use mathlib.Core.Bool.{false}
 use mathlib.Core.Logic.{inl, inr}
-use Prim.Native.Nat.{ℕ, _<_, _-_}
+use Prim.Native.Nat.{_-_}
 use Rattle.design.specs.Check.{namesOf}
 use Rattle.design.specs.State.{layoutOf}
 use Rattle.design.specs.Limits.{maxDepth}
 use Rattle.step.proofs.Values.{bool-forward}
-use Rattle.step.proofs.Runs.{stmt-unknown, list-forward, list-live, seq-first, Going, going-start, going-on, going-end, stmt-live, assign-live, assign-runs, if-deep, if-test, if-then, if-else, runs-then, runs-else}
+use Rattle.step.proofs.Runs.{
+  stmt-unknown,
+  list-forward,
+  list-live,
+  seq-first,
+  Going,
+  going-start,
+  going-on,
+  going-end,
+  stmt-live,
+  assign-live,
+  assign-runs,
+  if-deep,
+  if-test,
+  if-then,
+  if-else,
+  runs-then,
+  runs-else,
+}
+use Prim.Native.Nat.{ℕ, _<_}
 use borrow.Fn.Kinds.{In}
 use borrow.Fn.PlainCycle.{Measures, is, falls, and}
 use Rattle.step.proofs.execute.run_list.Reads as run-list
@@ -17,6 +36,7 @@ use Rattle.step.proofs.execute.run_stmt.Kinds as run-stmt-kinds
 use Rattle.step.proofs.execute.+run_list+run_stmt.Lts-run_stmt as run-stmt-lts
 use Rattle.design.proofs.bytes.wide.Reads as wide-reads
 use Rattle.step.proofs.evaluate.eval_bool.Reads as eval-bool-reads
+use Rattle.step.proofs.execute.mark_if.Reads as mark-if-reads
 use Rattle.step.proofs.execute.run_assign.Reads as run-assign-reads
 use Rattle.step.proofs.execute.skip_list.Reads as skip-list-reads
 use Rattle.step.proofs.execute.+run_list+run_stmt.{statement}
@@ -52,7 +72,9 @@ abbrev run-list-claims : ℕ → run-list-lts.Claims
 run-list-claims t = (wide-reads.Asked, wide-reads.Learnt, run-stmt-below t, run-stmt.Post)
 
 run-list-shared-slice-read-wide : (t : ℕ) → run-list-lts.Need-shared-slice-read-wide (run-list-claims t) (run-list-at t) run-list.Post run-list-Inv-loop run-list-μ-loop
-run-list-shared-slice-read-wide t c = omega (arith, list-live _ _ _ _ _ (c .before .before .before .before .pre .1 .0))
+run-list-shared-slice-read-wide t c =
+    let entry = c .before .before .before .before in
+    omega (arith, list-live _ _ _ _ _ (entry .pre .1 .0))
 
 run-list-wide-requires : (t : ℕ) → run-list-lts.Need-wide-requires (run-list-claims t) (run-list-at t) run-list.Post run-list-Inv-loop run-list-μ-loop
 run-list-wide-requires t c κs = tt
@@ -64,21 +86,17 @@ run-list-loop-holds : (t : ℕ) → run-list-lts.Need-loop-holds (run-list-claim
 run-list-loop-holds t c = going-start _ _ _ _ _ _ _ _ (c .wide .ensures .0) (c .before .before .before .before .before .pre .1 .0)
 
 run-list-run-stmt-requires : (t : ℕ) → run-list-lts.Need-run-stmt-requires (run-list-claims t) (run-list-at t) run-list.Post run-list-Inv-loop run-list-μ-loop
-run-list-run-stmt-requires t c κs = (
-  omega (
-    arith,
-    list-live _ _ _ _ _ (c .before .before .before .before .before .before .before .before .pre .1 .0),
-    c .before .before .loop .inv .on,
-    stmt-live _ _ _ _ _ (seq-first _ _ _ _ _ _ (c .before .before .loop .inv .live) (c .before .loop-test .taken)),
-  ),
-  (
-    seq-first _ _ _ _ _ _ (c
-        .before .before .loop .inv .live) (c .before .loop-test .taken),
-    omega arith,
-    omega arith,
-    omega (arith, c .before .before .loop .inv .size),
-  ),
-)
+run-list-run-stmt-requires t c κs =
+    let entry = c .before .before .before .before .before .before .before .before in (
+      omega (
+        arith,
+        list-live _ _ _ _ _ (entry .pre .1 .0),
+        c .before .before .loop .inv .on,
+        stmt-live _ _ _ _ _ (seq-first _ _ _ _ _ _ (c .before
+            .before .loop .inv .live) (c .before .loop-test .taken)),
+      ),
+      (seq-first _ _ _ _ _ _ (c .before .before .loop .inv .live) (c .before .loop-test .taken), omega arith, omega arith, omega (arith, c .before .before .loop .inv .size)),
+    )
 
 run-list-sub-left : (t : ℕ) → run-list-lts.Need-sub-left (run-list-claims t) (run-list-at t) run-list.Post run-list-Inv-loop run-list-μ-loop
 run-list-sub-left t c = omega arith
@@ -98,7 +116,18 @@ run-list-returns : (t : ℕ) → run-list-lts.Need-returns (run-list-claims t) (
 run-list-returns t c = going-end _ _ _ _ _ _ _ _ _ _ (c .loop-test .left) (c .before .loop .inv)
 
 abbrev run-stmt-claims : ℕ → run-stmt-lts.Claims
-run-stmt-claims t = (run-assign-reads.Asked, run-assign-reads.Learnt, eval-bool-reads.Asked, eval-bool-reads.Learnt, run-list-below t, run-list.Post, skip-list-reads.Asked, skip-list-reads.Learnt)
+run-stmt-claims t = (
+  run-assign-reads.Asked,
+  run-assign-reads.Learnt,
+  eval-bool-reads.Asked,
+  eval-bool-reads.Learnt,
+  mark-if-reads.Asked,
+  mark-if-reads.Learnt,
+  run-list-below t,
+  run-list.Post,
+  skip-list-reads.Asked,
+  skip-list-reads.Learnt,
+)
 
 run-stmt-shared-slice-read-op : (t : ℕ) → run-stmt-lts.Need-shared-slice-read-op (run-stmt-claims t) (run-stmt-at t) run-stmt.Post
 run-stmt-shared-slice-read-op t c = omega (arith, stmt-live _ _ _ _ _ (c .before .before .before .before .pre .1 .0))
@@ -127,88 +156,119 @@ run-stmt-add-eval-bool : (t : ℕ) → run-stmt-lts.Need-add-eval-bool (run-stmt
 run-stmt-add-eval-bool t c = omega (arith, stmt-live _ _ _ _ _ (c .before .before .before .before .before .before .before .pre .1 .0))
 
 run-stmt-eval-bool-requires : (t : ℕ) → run-stmt-lts.Need-eval-bool-requires (run-stmt-claims t) (run-stmt-at t) run-stmt.Post
-run-stmt-eval-bool-requires t c κs =
-    let entry = c .before .before .before .before .before .before .before .before in
-    ((entry .args .file .now, maxDepth, false, omega arith, if-test _ _ _ _ _ (entry .pre .1 .0) (c .before .if3 .left)), omega arith)
+run-stmt-eval-bool-requires t c κs = (
+  (
+    c .before .before .before .before .before .before .before .before .args .file .now,
+    maxDepth,
+    false,
+    omega arith,
+    if-test _ _ _ _ _ (c .before
+        .before .before .before .before .before .before .before .pre .1 .0) (c .before .if3 .left),
+  ),
+  omega arith,
+)
+
+run-stmt-mark-if-requires : (t : ℕ) → run-stmt-lts.Need-mark-if-requires (run-stmt-claims t) (run-stmt-at t) run-stmt.Post
+run-stmt-mark-if-requires t c κs = omega arith
 
 run-stmt-sub-run-list : (t : ℕ) → run-stmt-lts.Need-sub-run-list (run-stmt-claims t) (run-stmt-at t) run-stmt.Post
 run-stmt-sub-run-list t c =
-    let entry = c .before .before .before .before .before .before .before .before .before .before in
-    omega (arith, if-deep _ _ _ _ _ (entry .pre .1 .0) (c .before .before .before .if3 .left))
+    let entry = c .before .before .before .before .before .before .before .before .before .before .before .before .before .before in
+    omega (arith, if-deep _ _ _ _ _ (entry .pre .1 .0) (c .before .before .before .before .before .before .before .if3 .left))
 
 run-stmt-run-list-requires : (t : ℕ) → run-stmt-lts.Need-run-list-requires (run-stmt-claims t) (run-stmt-at t) run-stmt.Post
 run-stmt-run-list-requires t c κs =
-    let entry = c .before .before .before .before .before .before .before .before .before .before .before in
-    let left = c .before .before .before .before .if3 .left in
-    let test = if-test _ _ _ _ _ (entry .pre .1 .0) left in
-    let after = c .before .before .eval-bool .ensures (entry .args .file .now) maxDepth false test .1 in
-    let then = if-then _ _ _ _ _ (entry .pre .1 .0) left _ after in (
+    let at-slots2 = c .before .before .before in
+    let at-eval-bool = at-slots2 .before .before .before in
+    let at-if3 = at-eval-bool .before .before in
+    let entry = at-if3 .before .before .before .before .before .before .before in
+    let test = if-test _ _ _ _ _ (entry .pre .1 .0) (at-if3 .if3 .left) in
+    let after = at-eval-bool .eval-bool .ensures (entry .args .file .now) maxDepth false test .1 in
+    let then = if-then _ _ _ _ _ (entry .pre .1 .0) (at-if3 .if3 .left) _ after in (
       omega (arith, stmt-live _ _ _ _ _ (entry .pre .1 .0), bool-forward _ _ _ maxDepth _ _ test after, list-live _ _ _ _ _ then),
-      (then, omega arith, omega arith, omega arith),
+      (
+        then,
+        omega arith,
+        omega arith,
+        omega (arith, at-slots2 .slots2 .given),
+      ),
     )
 
 run-stmt-sub-skip-list : (t : ℕ) → run-stmt-lts.Need-sub-skip-list (run-stmt-claims t) (run-stmt-at t) run-stmt.Post
 run-stmt-sub-skip-list t c =
-    let entry = c .before .before .before .before .before .before .before .before .before .before .before .before .before .before in
-    omega (arith, if-deep _ _ _ _ _ (entry .pre .1 .0) (c .before .before .before .before .before .before .before .if3 .left))
+    let at-if3 = c .before .before .before .before .before .before .before .before .before .before .before in
+    let entry = at-if3 .before .before .before .before .before .before .before in
+    omega (arith, if-deep _ _ _ _ _ (entry .pre .1 .0) (at-if3 .if3 .left))
 
 run-stmt-skip-list-requires : (t : ℕ) → run-stmt-lts.Need-skip-list-requires (run-stmt-claims t) (run-stmt-at t) run-stmt.Post
 run-stmt-skip-list-requires t c κs = omega arith
 
 run-stmt-sub-skip-list-2 : (t : ℕ) → run-stmt-lts.Need-sub-skip-list-2 (run-stmt-claims t) (run-stmt-at t) run-stmt.Post
 run-stmt-sub-skip-list-2 t c =
-    let entry = c .before .before .before .before .before .before .before .before .before .before in
-    omega (arith, if-deep _ _ _ _ _ (entry .pre .1 .0) (c .before .before .before .if3 .left))
+    let entry = c .before .before .before .before .before .before .before .before .before .before .before .before .before .before in
+    omega (arith, if-deep _ _ _ _ _ (entry .pre .1 .0) (c .before .before .before .before .before .before .before .if3 .left))
 
 run-stmt-skip-list-requires-2 : (t : ℕ) → run-stmt-lts.Need-skip-list-requires-2 (run-stmt-claims t) (run-stmt-at t) run-stmt.Post
 run-stmt-skip-list-requires-2 t c κs = omega arith
 
 run-stmt-sub-run-list-2 : (t : ℕ) → run-stmt-lts.Need-sub-run-list-2 (run-stmt-claims t) (run-stmt-at t) run-stmt.Post
 run-stmt-sub-run-list-2 t c =
-    let entry = c .before .before .before .before .before .before .before .before .before .before .before in
-    omega (arith, if-deep _ _ _ _ _ (entry .pre .1 .0) (c .before .before .before .before .if3 .left))
+    let at-if3 = c .before .before .before .before .before .before .before .before in
+    let entry = at-if3 .before .before .before .before .before .before .before in
+    omega (arith, if-deep _ _ _ _ _ (entry .pre .1 .0) (at-if3 .if3 .left))
 
 run-stmt-run-list-requires-2 : (t : ℕ) → run-stmt-lts.Need-run-list-requires-2 (run-stmt-claims t) (run-stmt-at t) run-stmt.Post
 run-stmt-run-list-requires-2 t c κs =
-    let entry = c .before .before .before .before .before .before .before .before .before .before .before .before in
-    let left = c .before .before .before .before .before .if3 .left in
-    let test = if-test _ _ _ _ _ (entry .pre .1 .0) left in
-    let after = c .before .before .before .eval-bool .ensures (entry .args .file .now) maxDepth false test .1 in
-    let then = if-then _ _ _ _ _ (entry .pre .1 .0) left _ after in
-    let other = if-else _ _ _ _ _ (entry .pre .1 .0) left _ after _ (c .before .skip-list2 .ensures) in (
+    let at-skip-list2 = c .before in
+    let at-slots2 = at-skip-list2 .before .before .before in
+    let at-eval-bool = at-slots2 .before .before .before in
+    let at-if3 = at-eval-bool .before .before in
+    let entry = at-if3 .before .before .before .before .before .before .before in
+    let test = if-test _ _ _ _ _ (entry .pre .1 .0) (at-if3 .if3 .left) in
+    let after = at-eval-bool .eval-bool .ensures (entry .args .file .now) maxDepth false test .1 in
+    let then = if-then _ _ _ _ _ (entry .pre .1 .0) (at-if3 .if3 .left) _ after in
+    let other = if-else _ _ _ _ _ (entry .pre .1 .0) (at-if3 .if3 .left) _ after _ (at-skip-list2 .skip-list2 .ensures) in (
       omega (
         arith,
         stmt-live _ _ _ _ _ (entry .pre .1 .0),
         bool-forward _ _ _ maxDepth _ _ test after,
-        list-forward _ _ _ _ _ _ then (c .before .skip-list2 .ensures),
+        list-forward _ _ _ _ _ _ then (at-skip-list2
+            .skip-list2 .ensures),
         list-live _ _ _ _ _ other,
       ),
-      (other, omega arith, omega arith, omega arith),
+      (other, omega arith, omega arith, omega (arith, at-slots2 .slots2 .given)),
     )
 
 run-stmt-same-length-2 : (t : ℕ) → run-stmt-lts.Need-same-length-2 (run-stmt-claims t) (run-stmt-at t) run-stmt.Post
-run-stmt-same-length-2 t c = omega (arith, c .before .before .slots2 .given)
+run-stmt-same-length-2 t c = omega (arith, c .before .before .before .before .before .before .before .slots2 .given, c .before .before .slots3 .given)
 
 run-stmt-returns-2 : (t : ℕ) → run-stmt-lts.Need-returns-2 (run-stmt-claims t) (run-stmt-at t) run-stmt.Post
 run-stmt-returns-2 t c =
-    let at-eval-bool = c .before .before .before .before .before .before in
+    let at-run-list = c .before .before .before in
+    let at-if4 = at-run-list .before .before in
+    let at-mark-if = at-if4 .before .before .before in
+    let at-eval-bool = at-mark-if .before .before in
     let at-if3 = at-eval-bool .before .before in
     let entry = at-if3 .before .before .before .before .before .before .before in
     let test = at-eval-bool .eval-bool .ensures (entry .args .file .now) maxDepth false (if-test _ _ _ _ _ (entry .pre .1 .0) (at-if3 .if3 .left)) in
-    runs-then _ _ _ _ _ (entry .pre .1 .0) (at-if3 .if3 .left) _ (test .1) _ _ _ _ _ _ (test .0) (c .before .before .before .before .before .if4 .taken)
-    (c .before .before .before .run-list .ensures) (c .skip-list .ensures)
+    runs-then _ _ _ _ _ (entry .pre .1 .0) (at-if3 .if3 .left) _ (test .1) _ _ _ _ _ _ _ _ (test .0) (test .2) (at-mark-if .mark-if .ensures) (at-if4
+    .if4 .taken) (at-run-list .run-list .ensures) (c .skip-list .ensures)
 
 run-stmt-same-length-3 : (t : ℕ) → run-stmt-lts.Need-same-length-3 (run-stmt-claims t) (run-stmt-at t) run-stmt.Post
-run-stmt-same-length-3 t c = omega (arith, c .before .slots3 .given)
+run-stmt-same-length-3 t c = omega (arith, c .before .before .before .before .before .before .before .slots2 .given, c .before .slots4 .given)
 
 run-stmt-returns-3 : (t : ℕ) → run-stmt-lts.Need-returns-3 (run-stmt-claims t) (run-stmt-at t) run-stmt.Post
 run-stmt-returns-3 t c =
-    let at-eval-bool = c .before .before .before .before .before .before in
+    let at-run-list2 = c .before .before in
+    let at-skip-list2 = at-run-list2 .before .before in
+    let at-if4 = at-skip-list2 .before in
+    let at-mark-if = at-if4 .before .before .before in
+    let at-eval-bool = at-mark-if .before .before in
     let at-if3 = at-eval-bool .before .before in
     let entry = at-if3 .before .before .before .before .before .before .before in
     let test = at-eval-bool .eval-bool .ensures (entry .args .file .now) maxDepth false (if-test _ _ _ _ _ (entry .pre .1 .0) (at-if3 .if3 .left)) in
-    runs-else _ _ _ _ _ (entry .pre .1 .0) (at-if3 .if3 .left) _ (test .1) _ _ _ _ _ _ (test .0) (c .before .before .before .before .before .if4 .left)
-    (c .before .before .before .before .skip-list2 .ensures) (c .before .before .run-list2 .ensures)
+    runs-else _ _ _ _ _ (entry .pre .1 .0) (at-if3 .if3 .left) _ (test .1) _ _ _ _ _ _ _ _ (test .0) (test .2) (at-mark-if .mark-if .ensures) (at-if4
+    .if4 .left) (at-skip-list2 .skip-list2 .ensures) (at-run-list2 .run-list2 .ensures)
 
 run-stmt-returns-4 : (t : ℕ) → run-stmt-lts.Need-returns-4 (run-stmt-claims t) (run-stmt-at t) run-stmt.Post
 run-stmt-returns-4 t c = absurd (stmt-unknown _ _ _ _ _ (c .before .before .before .before .before .pre .1 .0) (inl (c .if1 .taken)))
@@ -242,6 +302,8 @@ pub +run-list+run-stmt-spec : {M : Type 1} → statement M
       run-assign-reads.Learnt,
       eval-bool-reads.Asked,
       eval-bool-reads.Learnt,
+      mark-if-reads.Asked,
+      mark-if-reads.Learnt,
       run-list-below t,
       run-list.Post,
       skip-list-reads.Asked,
@@ -256,6 +318,7 @@ pub +run-list+run-stmt-spec : {M : Type 1} → statement M
     (run-stmt-returns t)
     (run-stmt-add-eval-bool t)
     (run-stmt-eval-bool-requires t)
+    (run-stmt-mark-if-requires t)
     (run-stmt-sub-run-list t)
     (run-stmt-run-list-requires t)
     (run-stmt-sub-skip-list t)
