@@ -20,6 +20,8 @@
 
 static FILE *report;
 static uint64_t seed, calls, too_many_variables, events_read, guards_read, pieces_taken, pieces_refused, marks_set, marks_refused;
+/* Owners by what they are told: CLEAN, VIOLATED and SPENT by VERDICT's number for them, the others by the refusal's number. */
+static uint64_t wrong_counts, owners_found[3], owners_refused[256];
 
 /* Calls by name, and how many of them were refused. */
 enum { MAX_NAMES = 16 };
@@ -86,7 +88,13 @@ struct lent {
     uint8_t fill;
 };
 
-enum { DESIGN, PIECE, VALUES, STATUSES, MARK, ANSWER, CHOICES, CLAUSES, ASSIGNED, TRAIL, REGIONS };
+/* The owners have a region for each piece and each choice buffer, and one for each of the arrays that name them. */
+enum { DESIGN, PIECE, VALUES, STATUSES, MARK, ANSWER, CHOICES, CLAUSES, ASSIGNED, TRAIL, PIECES, BUDGETS, BUFFERS, OWNER_PIECE };
+enum { OWNER_CHOICES = OWNER_PIECE + STM_OWNERS, REGIONS = OWNER_CHOICES + STM_OWNERS };
+
+#define OWNER_REGIONS(i) \
+    [OWNER_PIECE + (i)] = {.name = "an owner's piece", .capacity = 8 * PAGE}, \
+    [OWNER_CHOICES + (i)] = {.name = "an owner's choices", .capacity = PAGE}
 
 static struct lent regions[REGIONS] = {
     [DESIGN] = {.name = "design", .capacity = 8 * PAGE},   [VALUES] = {.name = "values", .capacity = PAGE},
@@ -94,6 +102,9 @@ static struct lent regions[REGIONS] = {
     [CHOICES] = {.name = "choices", .capacity = PAGE},     [CLAUSES] = {.name = "clauses", .capacity = 512 * PAGE},
     [ASSIGNED] = {.name = "values", .capacity = 64 * PAGE}, [TRAIL] = {.name = "trail", .capacity = 256 * PAGE},
     [PIECE] = {.name = "piece", .capacity = 8 * PAGE},     [MARK] = {.name = "mark", .capacity = PAGE},
+    [PIECES] = {.name = "pieces", .capacity = PAGE},       [BUDGETS] = {.name = "budgets", .capacity = PAGE},
+    [BUFFERS] = {.name = "choice buffers", .capacity = PAGE},
+    OWNER_REGIONS(0), OWNER_REGIONS(1), OWNER_REGIONS(2), OWNER_REGIONS(3),
 };
 
 static void open_regions(void)
@@ -417,16 +428,29 @@ static uint64_t refusal_of_piece(void)
     return stm_check(file, len) ? BAD_PIECE : 0;
 }
 
-static void next_piece(void)
+/* The piece that the tests below ask about. */
+static void set_piece(const uint8_t *bytes, size_t len)
 {
-    static uint8_t bytes[MAX_DESIGN];
-    piece_len = any_piece(bytes);
-    uint8_t *at = lent(PIECE, piece_len);
-    memcpy(at, bytes, piece_len);
-    keep(PIECE);
-    piece = at;
+    piece = bytes;
+    piece_len = len;
     piece_code = design_code ? 0 : refusal_of_piece();
     require(piece_code == 0 || piece_code == BAD_PIECE, "size", "no such refusal of a piece", piece_code);
+}
+
+/* Any piece, in a region of its own. Answers its length. */
+static size_t lend_piece(size_t region)
+{
+    static uint8_t bytes[MAX_DESIGN];
+    size_t len = any_piece(bytes);
+    memcpy(lent(region, len), bytes, len);
+    keep(region);
+    return len;
+}
+
+static void next_piece(void)
+{
+    size_t len = lend_piece(PIECE);
+    set_piece(regions[PIECE].at, len);
     pieces_refused += piece_code != 0;
     pieces_taken += design_code == 0 && piece_code == 0 && piece_len > 0;
 }
@@ -930,6 +954,169 @@ static void call_verdict(void)
         break_at(property, choices, found[1]);
 }
 
+/* A call of several owners, on lent memory. */
+struct owners_call {
+    uint64_t bound, owners;
+    size_t used; /* places with an owner; none where their number is refused */
+    struct stm_piece *pieces;
+    uint64_t *budgets;
+    struct stm_choices *buffers;
+    uint64_t (*answers)[OWNER_LEN];
+    size_t words, n, clauses_len, values_len, trail_len;
+};
+
+/* A number of owners: mostly one that is taken. */
+static uint64_t any_count(void)
+{
+    return chance(92) ? 1 + below(STM_OWNERS) : PICK(0, 0, 5, 5, 255, 256, 257, ((uint64_t)1 << 32) + 1, UINT64_MAX);
+}
+
+/* Pieces and budgets for all places, and a bound up to which every owner's formula is affordable. */
+static void lend_asked(struct owners_call *c)
+{
+    c->owners = any_count();
+    c->used = c->owners <= STM_OWNERS ? (size_t)c->owners : 0;
+    c->bound = chance(5) ? over_a_byte() : PICK(0, 1, 1, 2, 2, 3, 4, 100, 101);
+    c->pieces = lent(PIECES, STM_OWNERS * sizeof *c->pieces);
+    c->budgets = lent(BUDGETS, STM_OWNERS * sizeof *c->budgets);
+    c->words = c->n = 0;
+    for (size_t i = 0; i < STM_OWNERS; i++) {
+        c->pieces[i].len = lend_piece(OWNER_PIECE + i);
+        c->pieces[i].bytes = regions[OWNER_PIECE + i].at;
+        c->budgets[i] = PICK(0, 1, 2, 5, 20);
+    }
+    for (size_t i = 0; i < c->used; i++) {
+        uint64_t sizes[SIZE_LEN] = {0};
+        set_piece(c->pieces[i].bytes, c->pieces[i].len);
+        uint64_t most = c->bound == 100 && !formula_refusal(INVARIANT, 100) ? 4 : c->bound;
+        c->bound = affordable(INVARIANT, most, sizes);
+    }
+    keep(PIECES);
+    keep(BUDGETS);
+}
+
+/* The longest formula of the owners, or with `one` that of some owner, which may be too short for another's. An owner whose formula
+ * is not affordable even at bound 0 is not lent for: it is refused by 16. */
+static void count_words(struct owners_call *c, int one)
+{
+    size_t chosen = below(STM_OWNERS);
+    for (size_t i = 0; i < c->used; i++) {
+        uint64_t sizes[SIZE_LEN] = {0};
+        set_piece(c->pieces[i].bytes, c->pieces[i].len);
+        if ((one && i != chosen) || !sizes_of(INVARIANT, c->bound, sizes))
+            continue;
+        if (sizes[SIZE_VARIABLES] * sizes[SIZE_WORDS] > MAX_SEARCH)
+            continue;
+        c->words = sizes[SIZE_WORDS] > c->words ? (size_t)sizes[SIZE_WORDS] : c->words;
+        c->n = sizes[SIZE_VARIABLES] > c->n ? (size_t)sizes[SIZE_VARIABLES] : c->n;
+    }
+}
+
+/* What is lent for all owners, and their choices and answers. */
+static void lend_told(struct owners_call *c)
+{
+    int exact = chance(60);
+    count_words(c, chance(30));
+    c->clauses_len = exact ? c->words : near(c->words);
+    c->values_len = exact ? c->n : near(c->n);
+    c->trail_len = exact ? c->n : near(c->n);
+    lent(CLAUSES, c->clauses_len * sizeof(int32_t));
+    lent(ASSIGNED, c->values_len);
+    lent(TRAIL, c->trail_len * sizeof(uint32_t));
+    c->buffers = lent(BUFFERS, STM_OWNERS * sizeof *c->buffers);
+    c->answers = lent(ANSWER, STM_OWNERS * sizeof *c->answers);
+    for (size_t i = 0; i < STM_OWNERS; i++) {
+        size_t len = choices_for(c->bound);
+        c->buffers[i].len = exact && chance(80) ? len : near(len);
+        c->buffers[i].choices = lent(OWNER_CHOICES + i, c->buffers[i].len);
+        keep(OWNER_CHOICES + i);
+    }
+    keep(CLAUSES);
+    keep(ASSIGNED);
+    keep(TRAIL);
+    keep(BUFFERS);
+    keep(ANSWER);
+}
+
+/* VERDICT alone, with the owner's piece, budget, lengths and old choices, in memory of its own: the owner has been told the same and
+ * has the same choices. */
+static void check_alone(const struct owners_call *c, size_t i)
+{
+    static int32_t clauses[MAX_WORDS];
+    static uint8_t values[64 * PAGE], choices[PAGE];
+    static uint32_t trail[64 * PAGE];
+    const struct lent *own = &regions[OWNER_CHOICES + i];
+    uint64_t expected[OWNER_LEN] = {0};
+    memcpy(choices, own->copy, own->bytes);
+    uint64_t code = stm_verdict(design, design_len, c->pieces[i].bytes, c->pieces[i].len, INVARIANT, c->bound, c->budgets[i],
+                                clauses, c->clauses_len, values, c->values_len, trail, c->trail_len, choices, own->bytes,
+                                expected + OWNER_VERDICT);
+    expected[OWNER_NUMBER] = STM_NUMBER(code);
+    expected[OWNER_PLACE] = STM_PLACE(code);
+    require(memcmp(expected, c->answers[i], sizeof expected) == 0, "owners", "an owner is told other than alone", code);
+    require(memcmp(choices, own->at, own->bytes) == 0, "owners", "an owner has other choices than alone", code);
+    require(expected[OWNER_VERDICT] <= 2, "owners", "no such answer", expected[OWNER_VERDICT]);
+    if (code)
+        owners_refused[STM_NUMBER(code)]++;
+    else
+        owners_found[expected[OWNER_VERDICT]]++;
+}
+
+static void zeros(size_t region, size_t bytes, const char *call)
+{
+    for (size_t i = 0; i < bytes; i++)
+        if (regions[region].at[i])
+            fault("%s: %s keeps what was used", call, regions[region].name);
+}
+
+/* The last formula of each owner that is not refused has been zeroed, the longest of them, and nothing behind it. */
+static void check_zeroed(const struct owners_call *c)
+{
+    size_t words = 0, n = 0;
+    for (size_t i = 0; i < c->used; i++) {
+        uint64_t sizes[SIZE_LEN] = {0}, *verdict = c->answers[i] + OWNER_VERDICT;
+        if (c->answers[i][OWNER_NUMBER])
+            continue;
+        uint64_t last = verdict[0] == 0 ? c->bound : verdict[1];
+        stm_size(design, design_len, c->pieces[i].bytes, c->pieces[i].len, INVARIANT, last, sizes);
+        words = sizes[SIZE_WORDS] > words ? (size_t)sizes[SIZE_WORDS] : words;
+        n = sizes[SIZE_VARIABLES] > n ? (size_t)sizes[SIZE_VARIABLES] : n;
+    }
+    zeros(CLAUSES, words * sizeof(int32_t), "owners");
+    zeros(ASSIGNED, n, "owners");
+    zeros(TRAIL, n * sizeof(uint32_t), "owners");
+    same(CLAUSES, words * sizeof(int32_t), "owners");
+    same(ASSIGNED, n, "owners");
+    same(TRAIL, n * sizeof(uint32_t), "owners");
+}
+
+static void call_owners(void)
+{
+    struct owners_call c;
+    const uint8_t *own_piece = piece;
+    size_t own_len = piece_len;
+    lend_asked(&c);
+    lend_told(&c);
+    set_piece(own_piece, own_len);
+    uint64_t code = stm_owners(design, design_len, c.bound, c.owners, c.pieces, c.budgets, (int32_t *)(void *)regions[CLAUSES].at,
+                               c.clauses_len, regions[ASSIGNED].at, c.values_len, (uint32_t *)(void *)regions[TRAIL].at,
+                               c.trail_len, c.buffers, c.answers);
+    unsigned all = SET(STM_OWNERS) - 1;
+    ended("owners", code, SET(DESIGN) | SET(PIECES) | SET(BUDGETS) | SET(BUFFERS) | all << OWNER_PIECE,
+          SET(CLAUSES) | SET(ASSIGNED) | SET(TRAIL) | SET(ANSWER) | all << OWNER_CHOICES);
+    require(code == (design_code ? design_code : c.used ? 0 : 20), "owners", "not the first refusal", code);
+    wrong_counts += code == 20;
+    if (code)
+        return;
+    same(ANSWER, c.used * sizeof *c.answers, "owners");
+    for (size_t i = 0; i < STM_OWNERS; i++)
+        if (i < c.used)
+            check_alone(&c, i);
+        else
+            same(OWNER_CHOICES + i, 0, "owners");
+    check_zeroed(&c);
+}
+
 /* The program, in this process. */
 static char path[64], piece_path[64];
 
@@ -952,10 +1139,29 @@ static void any_words(char *text, size_t len)
     text[count] = '\0';
 }
 
-/* The words of a command, and their number. */
-static int any_command(char words[8][420])
+/* The most words of a command, and the longest word. */
+enum { MAX_WORD = 420, MAX_ARGS = 12 };
+
+/* BOUND, and none to five owners, each with a budget; up to bound 1, where the search is short, some have none. Answers the number of
+ * words. */
+static int any_owners(char words[MAX_ARGS][MAX_WORD])
 {
-    static const char *const commands[] = {"check", "replay", "size", "cnf", "verdict", "verdict", "solve"};
+    static const char *const budgets[] = {":0", ":1", ":5", ":5", ":20", ""};
+    static const char *const bad[] = {":", ":x", ":-1", ":18446744073709551616"};
+    int count = (int)PICK(0, 1, 1, 2, 2, 3, 4, 4, 5);
+    strcpy(words[3], any_number());
+    size_t kinds = sizeof budgets / sizeof budgets[0] - (strtoull(words[3], NULL, 10) > 1);
+    for (int i = 0; i < count; i++) {
+        strcpy(words[4 + i], chance(60) ? piece_path : chance(97) ? "" : "/nowhere/none.piece");
+        strcat(words[4 + i], chance(97) ? budgets[below(kinds)] : bad[below(4)]);
+    }
+    return 4 + count;
+}
+
+/* The words of a command, and their number. */
+static int any_command(char words[MAX_ARGS][MAX_WORD])
+{
+    static const char *const commands[] = {"check", "replay", "size", "cnf", "verdict", "verdict", "owners", "solve"};
     strcpy(words[0], "stm");
     strcpy(words[1], commands[below(sizeof commands / sizeof commands[0])]);
     strcpy(words[2], chance(98) ? path : "/nowhere/none.stm");
@@ -964,14 +1170,34 @@ static int any_command(char words[8][420])
     strcpy(words[5], chance(90) ? "5" : any_number());
     if (strcmp(words[1], "replay") == 0 && chance(40))
         any_words(words[4], chance(90) ? 16 : 410);
+    if (strcmp(words[1], "owners") == 0)
+        return any_owners(words);
     if (chance(5))
         return 1 + (int)below(6);
     return strcmp(words[1], "check") == 0 ? 3 : strcmp(words[1], "verdict") == 0 ? 6 : 5;
 }
 
-/* A long search takes too long here, and so does a long formula: its sizes are asked for. Answers the number of words. */
-static int keep_short(char words[8][420], int argc)
+/* The owners' formulas, with the piece and without, are short at this bound, or it is refused. */
+static int short_for_owners(uint64_t bound)
 {
+    uint64_t sizes[SIZE_LEN] = {0};
+    const uint8_t *own_piece = piece;
+    size_t own_len = piece_len;
+    int fits_piece = affordable(INVARIANT, bound, sizes) == bound && sizes[SIZE_WORDS] <= MAX_WORDS;
+    set_piece(own_piece, 0);
+    int fits_none = affordable(INVARIANT, bound, sizes) == bound && sizes[SIZE_WORDS] <= MAX_WORDS;
+    set_piece(own_piece, own_len);
+    return fits_piece && fits_none;
+}
+
+/* A long search takes too long here, and so does a long formula: its sizes are asked for. Answers the number of words. */
+static int keep_short(char words[MAX_ARGS][MAX_WORD], int argc)
+{
+    if (strcmp(words[1], "owners") == 0) {
+        if (!short_for_owners(strtoull(words[3], NULL, 10)))
+            strcpy(words[3], "0");
+        return argc;
+    }
     uint64_t property = strtoull(words[3], NULL, 10), sizes[SIZE_LEN] = {0};
     int search = strcmp(words[1], "verdict") == 0;
     if (search && affordable(property, 1, sizes) == 0)
@@ -985,7 +1211,7 @@ static int keep_short(char words[8][420], int argc)
 }
 
 /* The option, somewhere after the file, mostly with a path. Answers the number of words. */
-static int put_option(char words[8][420], int argc)
+static int put_option(char words[MAX_ARGS][MAX_WORD], int argc)
 {
     int at = 3 + (int)below((size_t)argc - 2), count = chance(95) ? 2 : 1;
     memmove(words[at + count], words[at], (size_t)(argc - at) * sizeof words[0]);
@@ -1004,12 +1230,13 @@ static void write_file(const char *to, const uint8_t *bytes, size_t len)
 
 static void call_stm(void)
 {
-    static char words[8][420];
-    char *argv[9] = {NULL};
+    static char words[MAX_ARGS][MAX_WORD];
+    char *argv[MAX_ARGS + 1] = {NULL};
     int argc = any_command(words);
     if (design_code == 0 && argc >= 5)
         argc = keep_short(words, argc);
-    if (argc >= 3 && piece_len > 0)
+    /* for several owners the option is misuse */
+    if (argc >= 3 && piece_len > 0 && (strcmp(words[1], "owners") || chance(5)))
         argc = put_option(words, argc);
     write_file(path, design, design_len);
     write_file(piece_path, piece, piece_len);
@@ -1030,6 +1257,7 @@ static const struct operation {
     {"check", call_check, 2},   {"start", call_start, 2},   {"step", call_step, 4},       {"holds", call_holds, 3},
     {"replay", call_replay, 4}, {"size", call_size, 3},     {"encode", call_encode, 3},   {"encode", call_parts, 1},
     {"solve", call_solve, 4},   {"decode", call_decode, 3}, {"verdict", call_verdict, 2}, {"stm", call_stm, 3},
+    {"owners", call_owners, 1},
 };
 
 enum { OPERATIONS = sizeof operations / sizeof operations[0], MAX_SHARES = 64 };
@@ -1051,7 +1279,8 @@ static void choose(const char *list)
 }
 
 /* In so many calls some are on a formula with too many variables, some choices have an event read and no guard, some both, some
- * pieces are taken and some refused, and some steps set the mark and some marks are refused. */
+ * pieces are taken and some refused, some steps set the mark and some marks are refused, some counts of owners are wrong, and some
+ * owners are clean, some violated, some spent, and some refused by 8, 14 and 16. */
 enum { MANY_CALLS = 50000 };
 
 static void require_all_seen(const char *list)
@@ -1066,6 +1295,20 @@ static void require_all_seen(const char *list)
         fault("no piece was taken, or none refused");
     if (strstr(list, "step") && (marks_set == 0 || marks_refused == 0))
         fault("no step set the mark, or no mark was refused");
+    if (!strstr(list, "owners"))
+        return;
+    if (!wrong_counts || !owners_refused[8] || !owners_refused[14] || !owners_refused[16])
+        fault("a wrong count of owners never came, or no owner was refused by 8, 14 or 16");
+    if (!owners_found[0] || !owners_found[1] || !owners_found[2])
+        fault("no owner was clean, or none violated, or none spent");
+}
+
+static void report_owners(void)
+{
+    fprintf(report, "owners clean %" PRIu64 ", violated %" PRIu64 ", spent %" PRIu64, owners_found[0], owners_found[1],
+            owners_found[2]);
+    fprintf(report, ", refused by 8 %" PRIu64 ", by 14 %" PRIu64 ", by 16 %" PRIu64 "; wrong counts of owners %" PRIu64 "\n",
+            owners_refused[8], owners_refused[14], owners_refused[16], wrong_counts);
 }
 
 int main(int argc, char **argv)
@@ -1104,6 +1347,7 @@ int main(int argc, char **argv)
             calls, too_many_variables, events_read, guards_read);
     fprintf(report, "%" PRIu64 " pieces, %" PRIu64 " bad ones; ", pieces_taken + pieces_refused, pieces_refused);
     fprintf(report, "marks set %" PRIu64 ", refused %" PRIu64 "\n", marks_set, marks_refused);
+    report_owners();
     fclose(report);
     return 0;
 }

@@ -29,10 +29,13 @@ static const char USAGE[] =
     "       stm size FILE PROPERTY BOUND\n"
     "       stm cnf FILE PROPERTY BOUND\n"
     "       stm verdict FILE PROPERTY BOUND [BUDGET]\n"
-    "       --piece PIECEFILE, anywhere after FILE but for check: its expression is property 0 in the invariant's place\n"
+    "       stm owners FILE BOUND PIECEFILE[:BUDGET]..      (one to four; an empty PIECEFILE is the invariant)\n"
+    "       --piece PIECEFILE, anywhere after FILE but for check and owners: its expression is property 0 in the invariant's place\n"
     "property: 0 the invariant, 1 no invalid cell is met, 2 the constraint of a design of version 2\n"
     "replay: the run, whether it breaks the property, and how many events and guards of the chosen cells were read\n"
-    "exit status: 0 clean or done, 10 violated, 20 budget spent, 2 refused or misused";
+    "owners: the verdict on each owner's piece, each with a budget of its own, by one call\n"
+    "exit status: 0 clean or done, 10 violated, 20 budget spent, 2 refused or misused; of several owners the first of 10, 2, 20\n"
+    "             that one of them has";
 
 static const char *meaning(unsigned number)
 {
@@ -57,6 +60,7 @@ static const char *meaning(unsigned number)
         "the clause list is malformed",
         "a frame has no single flag set",
         "the formula has more than 2,147,483,647 variables",
+        "there is no owner, or there are more than four",
     };
     return number < sizeof text / sizeof text[0] ? text[number] : "unknown refusal";
 }
@@ -179,7 +183,7 @@ static int too_large(void)
     return misuse("not enough memory for a formula of this size", "");
 }
 
-/* What SOLVE and VERDICT work on. */
+/* What SOLVE, VERDICT and the call of several owners work on. */
 struct memory {
     int32_t *clauses;
     uint8_t *values;
@@ -442,6 +446,123 @@ static int verdict(struct job *j)
     return status;
 }
 
+/* The parts of an owner's answer: the refusal's number and place, and from OWNER_VERDICT on what VERDICT answers. */
+enum { OWNER_NUMBER, OWNER_PLACE, OWNER_VERDICT, OWNER_LEN = 5 };
+
+/* The owners' places. The count may be higher than there are places; the call refuses that. */
+struct owners {
+    uint64_t count;
+    size_t used;
+    const char *names[STM_OWNERS];
+    uint8_t bytes[STM_OWNERS][MAX_READ];
+    uint8_t written[STM_OWNERS][MAX_CHOICES];
+    struct stm_piece pieces[STM_OWNERS];
+    uint64_t budgets[STM_OWNERS];
+    struct stm_choices choices[STM_OWNERS];
+    uint64_t answers[STM_OWNERS][OWNER_LEN];
+};
+
+/* PIECEFILE or PIECEFILE:BUDGET: what follows the last colon is a budget where it is digits alone. No file is no piece. */
+static int read_owner(char *text, struct owners *o, size_t i)
+{
+    char *colon = strrchr(text, ':');
+    o->budgets[i] = UINT64_MAX;
+    if (colon && colon[1] && strspn(colon + 1, "0123456789") == strlen(colon + 1)) {
+        int failed = read_number(colon + 1, UINT64_MAX, &o->budgets[i]);
+        if (failed)
+            return failed;
+        *colon = '\0';
+    }
+    o->names[i] = text;
+    return *text ? read_file(text, o->bytes[i], &o->pieces[i].len) : 0;
+}
+
+/* Every place has memory, also where it has no owner. Where the call refuses the count no piece is read. */
+static int read_owners(int count, char **texts, struct owners *o)
+{
+    o->count = (uint64_t)count;
+    o->used = count <= STM_OWNERS ? (size_t)count : 0;
+    for (size_t i = 0; i < STM_OWNERS; i++) {
+        o->pieces[i] = (struct stm_piece){.bytes = o->bytes[i], .len = 0};
+        o->choices[i] = (struct stm_choices){.choices = o->written[i], .len = MAX_CHOICES};
+    }
+    for (size_t i = 0; i < o->used; i++) {
+        int failed = read_owner(texts[i], o, i);
+        if (failed)
+            return failed;
+    }
+    return 0;
+}
+
+/* What the largest formula needs, of the owners that SIZE does not refuse. */
+static void largest(const struct job *j, const struct owners *o, uint64_t *words, uint64_t *n)
+{
+    *words = *n = 0;
+    for (size_t i = 0; i < o->used; i++) {
+        uint64_t sizes[SIZE_LEN] = {0};
+        if (stm_size(j->design, j->len, o->pieces[i].bytes, o->pieces[i].len, INVARIANT, j->bound, sizes))
+            continue;
+        *words = sizes[SIZE_WORDS] > *words ? sizes[SIZE_WORDS] : *words;
+        *n = sizes[SIZE_VARIABLES] > *n ? sizes[SIZE_VARIABLES] : *n;
+    }
+}
+
+/* What `stm verdict` says of the owner's piece, after the owner's number and piece. */
+static int print_owner(struct job *j, const struct owners *o, size_t i)
+{
+    const uint64_t *answer = o->answers[i];
+    printf("owner %zu (%s): ", i + 1, *o->names[i] ? o->names[i] : "the invariant");
+    if (answer[OWNER_NUMBER])
+        return refuse(answer[OWNER_NUMBER] | answer[OWNER_PLACE] << 8);
+    memcpy(j->piece, o->bytes[i], o->pieces[i].len);
+    j->piece_len = o->pieces[i].len;
+    memcpy(j->choices, o->written[i], MAX_CHOICES);
+    return print_verdict(j, answer + OWNER_VERDICT);
+}
+
+/* The graver of two exit statuses. */
+static int graver(int a, int b)
+{
+    static const int order[] = {VIOLATED, REFUSED, SPENT};
+    for (size_t i = 0; i < sizeof order / sizeof order[0]; i++)
+        if (a == order[i] || b == order[i])
+            return order[i];
+    return CLEAN;
+}
+
+static int print_owners(struct job *j, const struct owners *o)
+{
+    int status = CLEAN;
+    for (size_t i = 0; i < o->used; i++) {
+        int found = print_owner(j, o, i);
+        /* no memory for a trace */
+        if (found == REFUSED && !o->answers[i][OWNER_NUMBER])
+            return REFUSED;
+        status = graver(status, found);
+    }
+    return status;
+}
+
+static int owners(struct job *j, int count, char **texts)
+{
+    static struct owners o;
+    int status = read_owners(count, texts, &o);
+    if (status)
+        return status;
+    uint64_t words, n;
+    struct memory m;
+    j->property = INVARIANT;
+    largest(j, &o, &words, &n);
+    status = take(&m, words, n);
+    if (!status) {
+        uint64_t code = stm_owners(j->design, j->len, j->bound, o.count, o.pieces, o.budgets, m.clauses, (size_t)words, m.values,
+                                   (size_t)n, m.trail, (size_t)n, o.choices, o.answers);
+        status = code ? refuse(code) : print_owners(j, &o);
+    }
+    give_back(&m);
+    return status;
+}
+
 /* Takes `--piece PIECEFILE` out of the words after FILE. Answers the number of words left, or 0 where it stands twice or has no
  * file. */
 static int take_piece(int argc, char **argv, const char **piece)
@@ -458,11 +579,39 @@ static int take_piece(int argc, char **argv, const char **piece)
     return left;
 }
 
-/* The command's words: FILE, then PROPERTY, then CHOICES or BOUND, then BUDGET. A piece's path is NULL where there is none. */
+/* The words after FILE: PROPERTY, then CHOICES or BOUND, then BUDGET. */
+static int run_property(struct job *j, int argc, char **argv)
+{
+    const char *command = argv[1];
+    int failed = read_number(argv[3], UINT64_MAX, &j->property);
+    if (failed)
+        return failed;
+    if (strcmp(command, "replay") == 0) {
+        failed = read_choices(argv[4], j);
+        return failed ? failed : replay(j);
+    }
+    failed = read_number(argv[4], UINT64_MAX, &j->bound);
+    if (failed)
+        return failed;
+    j->budget = UINT64_MAX;
+    if (argc == 6 && (failed = read_number(argv[5], UINT64_MAX, &j->budget)))
+        return failed;
+    if (strcmp(command, "size") == 0)
+        return size(j);
+    return strcmp(command, "cnf") == 0 ? cnf(j) : verdict(j);
+}
+
+/* The words after FILE: BOUND, then the owners. */
+static int run_owners(struct job *j, int argc, char **argv)
+{
+    int failed = read_number(argv[3], UINT64_MAX, &j->bound);
+    return failed ? failed : owners(j, argc - 4, argv + 4);
+}
+
+/* A piece's path is NULL where there is none. */
 static int run(int argc, char **argv, const char *piece)
 {
     static struct job j;
-    const char *command = argv[1];
     j.piece_len = 0;
     int failed = read_file(argv[2], j.design, &j.len);
     if (!failed && piece)
@@ -471,22 +620,7 @@ static int run(int argc, char **argv, const char *piece)
         return failed;
     if (argc == 3)
         return check(&j);
-    failed = read_number(argv[3], UINT64_MAX, &j.property);
-    if (failed)
-        return failed;
-    if (strcmp(command, "replay") == 0) {
-        failed = read_choices(argv[4], &j);
-        return failed ? failed : replay(&j);
-    }
-    failed = read_number(argv[4], UINT64_MAX, &j.bound);
-    if (failed)
-        return failed;
-    j.budget = UINT64_MAX;
-    if (argc == 6 && (failed = read_number(argv[5], UINT64_MAX, &j.budget)))
-        return failed;
-    if (strcmp(command, "size") == 0)
-        return size(&j);
-    return strcmp(command, "cnf") == 0 ? cnf(&j) : verdict(&j);
+    return strcmp(argv[1], "owners") == 0 ? run_owners(&j, argc, argv) : run_property(&j, argc, argv);
 }
 
 /* Whether the command takes so many words, and a piece where there is one. */
@@ -496,6 +630,8 @@ static int fits(int argc, char **argv, const char *piece)
         return 0;
     if (strcmp(argv[1], "check") == 0)
         return argc == 3 && !piece;
+    if (strcmp(argv[1], "owners") == 0)
+        return argc >= 4 && !piece;
     if (strcmp(argv[1], "replay") == 0 || strcmp(argv[1], "size") == 0 || strcmp(argv[1], "cnf") == 0)
         return argc == 5;
     return strcmp(argv[1], "verdict") == 0 && (argc == 5 || argc == 6);

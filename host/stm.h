@@ -4,8 +4,8 @@
  * parameter such as answer[2] is a pointer to that many elements. Memory lent to one call does not overlap.
  *
  * An operation returns 0 where it is not refused. Else the low byte of what it returns is the refusal's number and the rest
- * its place, and no lent memory has changed: answer, idle and holds, too, are as they were. A place of 2^56 - 1 or more is told
- * as 2^56 - 1. Every length and content is allowed: nothing has to be tested before a call.
+ * its place, and no lent memory has changed: answer, answers, idle and holds, too, are as they were. A place of 2^56 - 1 or more is
+ * told as 2^56 - 1. Every length and content is allowed: nothing has to be tested before a call.
  * A design is the bytes of a design file, of version 1 or 2. A property is 0 for the invariant, 1 for "no invalid cell is met",
  * and for a design of version 2 also 2 for its constraint over two successive states; a bound is 0 to 100. A greater one is
  * refused. Refusals are listed in the order of their tests.
@@ -16,9 +16,10 @@
  * mark decides.
  *
  * A piece is a property kept outside the design. With property 0, a piece of any bytes stands in the place of the file's
- * invariant: one Boolean expression that fills its length, at most 16,384 bytes, over the design's variables and matrices, without
- * the operators that read the next state. Else the call is refused by 8 at place 0. An empty piece is none: property 0 is then the
- * file's invariant. With any other property the piece is not read, whatever it holds.
+ * invariant: one Boolean expression that fills its length, at most 16,384 bytes, over the design's variables and matrices,
+ * without the operators that read the next state. Else the call is refused by 8 at place 0, of several owners that owner
+ * alone. An empty piece is none: property 0 is then the file's invariant. With any other property the piece is not read,
+ * whatever it holds.
  */
 #ifndef STM_H
 #define STM_H
@@ -87,5 +88,36 @@ uint64_t stm_decode(const uint8_t *design, size_t design_len, const uint8_t *pie
 uint64_t stm_verdict(const uint8_t *design, size_t design_len, const uint8_t *piece, size_t piece_len, uint64_t property,
                      uint64_t bound, uint64_t budget, int32_t *clauses, size_t clauses_len, uint8_t *values, size_t values_len,
                      uint32_t *trail, size_t trail_len, uint8_t *choices, size_t choices_len, uint64_t answer[3]);
+
+/* The most owners of one call, one owner's piece, and one owner's choice buffer. */
+#define STM_OWNERS 4
+struct stm_piece {
+    const uint8_t *bytes;
+    size_t len;
+};
+struct stm_choices {
+    uint8_t *choices;
+    size_t len;
+};
+
+/* OWNERS, several owners on one design: 20 where `owners` is 0 or over STM_OWNERS, straight after CHECK's refusals; nothing else
+ * refuses the whole call. It is each owner's VERDICT on property 0, with a piece, a budget and a choice buffer of its own, and with one
+ * memory for the clauses, values and trail of all.
+ *
+ * answers[i] is what owner i is told, as by VERDICT alone with memory of these lengths and these old choices: the number and the place
+ * of its own refusal (8 for its piece, 14, 19, 16), or 0 and 0; then the three numbers of VERDICT's answer, which are 0 where the
+ * owner is refused. Its choices are written as by VERDICT. Nothing of this depends on the others' pieces, budgets and choices, or on
+ * what the shared memory held.
+ *
+ * When the call ends, the clause words, values and trail words that any owner used are 0: those of the last formula that it tried,
+ * and none of an owner who was refused. What stands behind them is kept.
+ *
+ * Only the first `owners` places of the four arrays are used; the answers and choices of the other places are kept. Their pointers
+ * are not null either; with length 0 any pointer that is not null will do. The array `choices` itself, of pointers and lengths, is
+ * never changed. */
+uint64_t stm_owners(const uint8_t *design, size_t design_len, uint64_t bound, uint64_t owners,
+                    const struct stm_piece pieces[STM_OWNERS], const uint64_t budgets[STM_OWNERS], int32_t *clauses,
+                    size_t clauses_len, uint8_t *values, size_t values_len, uint32_t *trail, size_t trail_len,
+                    struct stm_choices choices[STM_OWNERS], uint64_t answers[STM_OWNERS][5]);
 
 #endif

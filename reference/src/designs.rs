@@ -12,8 +12,8 @@ pub use money_changer::{
     money_changer, state_properties, Property, Version, ALL_PROPERTIES, ORIGINAL_PROPERTIES,
 };
 pub use small::{
-    barrier, branch_taken, crossing_turns, design_a, later_mark, minus_three, moved, negated,
-    no_idle, vending, wrapping_guard,
+    barrier, branch_taken, crossing_turns, design_a, later_mark, minus_three, moved, mutex,
+    negated, no_idle, peterson, vending, wrapping_guard,
 };
 
 use crate::builder::{boolean_bytes, file_bytes};
@@ -37,11 +37,18 @@ pub fn all_files() -> Vec<(String, Vec<u8>)> {
     files
 }
 
-/// The name and the bytes of every known piece: the properties of the
-/// Money-Changer that are about one state.
-pub fn all_pieces() -> Vec<(String, Vec<u8>)> {
+/// The properties of the Money-Changer that are about one state, as pieces.
+pub fn money_changer_pieces() -> Vec<(String, Vec<u8>)> {
     let piece = |property: Property| {
         (format!("money-changer-{}.piece", property.name()), boolean_bytes(&property.invariant()))
     };
     state_properties().map(piece).collect()
+}
+
+/// The name and the bytes of every known piece.
+pub fn all_pieces() -> Vec<(String, Vec<u8>)> {
+    let named = |(name, e): (&str, _)| (format!("{name}.piece"), boolean_bytes(&e));
+    let mut pieces = money_changer_pieces();
+    pieces.extend(small::exclusion_pieces().map(named));
+    pieces
 }

@@ -1,9 +1,31 @@
 //! The C entries of `host/stm.h`, declared once for Rust. Each returns a u64.
 
+/// One owner's piece, as C lends it.
+#[repr(C)]
+#[derive(Clone, Copy)]
+pub struct Piece {
+    pub bytes: *const u8,
+    pub len: usize,
+}
+
+/// One owner's choice buffer, as C lends it.
+#[repr(C)]
+#[derive(Clone, Copy)]
+pub struct Choices {
+    pub choices: *mut u8,
+    pub len: usize,
+}
+
+/// What `stm_owners` answers an owner: the number and the place of its refusal,
+/// or 0 twice and then what `stm_verdict` answers.
+pub type OwnerAnswer = [u64; 5];
+
 /// Gives every entry to the macro that is named, which declares or defines it.
 /// Brackets hold the parameters as C passes them; parentheses part them by
-/// what they say together: a slice is a pointer and a number of elements, and
-/// a query is a design, a piece and a property.
+/// what they say together: a slice is a pointer and a number of elements, a
+/// query is a design, a piece and a property, and several owners are two
+/// groups: their number with pieces and budgets, and choice buffers with
+/// answers.
 #[macro_export]
 macro_rules! entries {
     ($each:ident) => {
@@ -73,6 +95,22 @@ macro_rules! entries {
                 (trail: *mut u32, trail_len: usize)
                 (choices: *mut u8, choices_len: usize)
                 (answer: *mut [u64; 3])
+            ];
+            stm_owners[
+                (design: *const u8, design_len: usize)
+                (bound: u64)
+                (
+                    owners: u64,
+                    pieces: *const [$crate::entries::Piece; $crate::owners::MAX_OWNERS],
+                    budgets: *const [u64; $crate::owners::MAX_OWNERS]
+                )
+                (clauses: *mut i32, clauses_len: usize)
+                (values: *mut u8, values_len: usize)
+                (trail: *mut u32, trail_len: usize)
+                (
+                    choices: *mut [$crate::entries::Choices; $crate::owners::MAX_OWNERS],
+                    answers: *mut [$crate::entries::OwnerAnswer; $crate::owners::MAX_OWNERS]
+                )
             ];
         }
     };

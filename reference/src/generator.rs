@@ -10,6 +10,7 @@ mod known;
 mod limit;
 mod lists;
 mod near;
+mod owners;
 mod pieces;
 mod products;
 pub mod trees;
@@ -17,7 +18,7 @@ pub mod trees;
 use crate::random::Random;
 
 /// The operations, each with its share of the requests.
-const SHARES: [(&str, usize); 11] = [
+const SHARES: [(&str, usize); 12] = [
     ("check", 4),
     ("start", 1),
     ("step", 3),
@@ -28,6 +29,7 @@ const SHARES: [(&str, usize); 11] = [
     ("solve", 3),
     ("decode", 2),
     ("verdict", 2),
+    ("owners", 2),
     ("trace", 2),
 ];
 
@@ -64,6 +66,7 @@ impl Generator {
         self.pending = match operation {
             "encode" if random.chance(2) => known::all_parts(random),
             "verdict" if random.chance(2) => known::all_budgets(random),
+            "owners" if random.chance(2) => owners::all_owners(random),
             _ => vec![],
         };
         match operation {
@@ -77,6 +80,7 @@ impl Generator {
             "solve" => lists::solve(random),
             "decode" => calls::decode(random),
             "verdict" => calls::verdict(random),
+            "owners" => owners::owners(random),
             _ => calls::replay(random, "trace"),
         }
     }

@@ -11,6 +11,7 @@ pub mod formula;
 pub mod generator;
 pub mod models;
 pub mod operations;
+pub mod owners;
 pub mod pair;
 pub mod programs;
 pub mod protocol;

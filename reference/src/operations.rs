@@ -1,8 +1,9 @@
-//! The operations of document 01 as one trait over lent memory, so that one
-//! line protocol can serve more than one set of operations.
+//! The operations of documents 01 and 02 as one trait over lent memory, so that
+//! one line protocol can serve more than one set of operations.
 
 use crate::design::{self, Refusal};
 use crate::formula::{self, Size};
+use crate::owners::{self, Owner, Shared, Told};
 use crate::programs;
 use crate::query::Query;
 use crate::search::{self, Solved};
@@ -98,6 +99,17 @@ pub trait Operations {
         Answer::Missing
     }
 
+    /// What each owner's VERDICT alone answers, in the owners' order.
+    fn owners(
+        &mut self,
+        design: &[u8],
+        bound: u64,
+        owners: &mut [Owner],
+        shared: Shared,
+    ) -> Answer<Vec<Told>> {
+        Answer::Missing
+    }
+
     /// What the Replay program prints for this property, these choices and
     /// this design, with the piece's expression where the query reads one. Its
     /// refusals are printed, too. The property is a byte, and so is the number
@@ -174,6 +186,16 @@ impl Operations for Reference {
         lent: Lent,
     ) -> Answer<Verdict> {
         query.checked(|q| verdict::verdict(q, bound, budget, lent)).into()
+    }
+
+    fn owners(
+        &mut self,
+        design: &[u8],
+        bound: u64,
+        owners: &mut [Owner],
+        shared: Shared,
+    ) -> Answer<Vec<Told>> {
+        design::check(design).and_then(|d| owners::owners(&d, bound, owners, shared)).into()
     }
 
     fn trace(&mut self, query: Query<[u8]>, choices: &[u8]) -> Answer<Vec<u8>> {

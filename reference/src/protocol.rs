@@ -4,10 +4,11 @@
 use crate::design::Refusal;
 use crate::formula::Size;
 use crate::operations::{Answer, Operations};
+use crate::owners::{Ask, Owner, Shared, Told};
 use crate::query::Query;
 use crate::search::Outcome;
 use crate::step::State;
-use crate::verdict::{Finding, Lent};
+use crate::verdict::{Finding, Lent, Verdict};
 use std::fmt::Display;
 use std::io::{self, BufRead, Write};
 use std::str::FromStr;
@@ -46,6 +47,9 @@ fn answered(operations: &mut impl Operations, request: &str) -> Option<String> {
         ["step", d, v, s, mark, choice] => step(operations, d, state(v, s, mark)?, choice),
         ["holds", d, v, s, mark, property] => holds(operations, d, state(v, s, mark)?, property),
         ["solve", n, words, ref rest @ ..] => solve(operations, n, words, rest),
+        ["owners", d, bound, clauses, values, trail, ref each @ ..] => {
+            owners(operations, d, bound, Buffers::new(clauses, values, trail)?, each)
+        }
         [operation, d, piece, property, ref rest @ ..] => {
             let asked = Asked::new(d, piece, property)?;
             answered_query(operations, operation, asked.query(), rest)
@@ -177,13 +181,79 @@ fn verdict(operations: &mut impl Operations, query: Query<[u8]>, rest: &[&str]) 
     };
     let answer = operations.verdict(query, number(bound)?, number(budget)?, lent);
     let hashes = [hash(&clauses), hash(&values), hash(&trail), hash(&choices)];
-    finish_with(answer, &memory_text(&hashes), |verdict| match verdict.finding {
+    finish_with(answer, &memory_text(&hashes), |verdict| {
+        format!("ok {}", verdict_text(&verdict, &choices))
+    })
+}
+
+/// What VERDICT found, with the choices that it wrote.
+fn verdict_text(verdict: &Verdict, choices: &[u8]) -> String {
+    let tries = verdict.tries;
+    match verdict.finding {
         Finding::Violated(step) => {
-            let choices = list_text(front(&choices, step));
-            format!("ok violated {step} {} {choices}", verdict.tries)
+            format!("violated {step} {tries} {}", list_text(front(choices, step)))
         }
-        Finding::Clean => format!("ok clean {}", verdict.tries),
-        Finding::Spent(bound) => format!("ok spent {bound} {}", verdict.tries),
+        Finding::Clean => format!("clean {tries}"),
+        Finding::Spent(bound) => format!("spent {bound} {tries}"),
+    }
+}
+
+/// The buffers that several owners share.
+struct Buffers {
+    clauses: Vec<i32>,
+    values: Vec<u8>,
+    trail: Vec<u32>,
+}
+
+impl Buffers {
+    fn new(clauses: &str, values: &str, trail: &str) -> Option<Buffers> {
+        Some(Buffers { clauses: lent(clauses)?, values: lent(values)?, trail: lent(trail)? })
+    }
+
+    fn shared(&mut self) -> Shared<'_> {
+        let Buffers { clauses, values, trail } = self;
+        Shared { clauses, values, trail }
+    }
+
+    fn hashes(&self) -> Vec<u64> {
+        vec![hash(&self.clauses), hash(&self.values), hash(&self.trail)]
+    }
+}
+
+/// An owner as the request gives it, from PIECE:BUDGET:CHOICESLEN.
+fn ask(owner: &str) -> Option<Ask> {
+    let fields: Vec<&str> = owner.split(':').collect();
+    let [piece, budget, choices] = fields[..] else {
+        return None;
+    };
+    Some(Ask { piece: bytes(piece)?, budget: number(budget)?, choices: lent(choices)? })
+}
+
+/// What an owner is told, as a part of the reply.
+fn told_text(told: &Told, choices: &[u8]) -> String {
+    let text = match told {
+        Ok(verdict) => verdict_text(verdict, choices),
+        Err(refusal) => refusal_text(refusal),
+    };
+    format!(" | {text}")
+}
+
+fn owners(
+    operations: &mut impl Operations,
+    d: &str,
+    bound: &str,
+    mut buffers: Buffers,
+    each: &[&str],
+) -> Option<String> {
+    let asks: Option<Vec<Ask>> = each.iter().map(|owner| ask(owner)).collect();
+    let mut asks = asks?;
+    let mut owners: Vec<Owner> = asks.iter_mut().map(Ask::owner).collect();
+    let answer = operations.owners(&bytes(d)?, number(bound)?, &mut owners, buffers.shared());
+    let mut hashes = buffers.hashes();
+    hashes.extend(asks.iter().map(|ask| hash(&ask.choices)));
+    finish_with(answer, &memory_text(&hashes), |told| {
+        let texts = asks.iter().zip(&told).map(|(ask, told)| told_text(told, &ask.choices));
+        format!("ok{}", texts.collect::<String>())
     })
 }
 

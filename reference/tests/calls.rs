@@ -7,6 +7,7 @@ use reference::design::{Design, Kind, Refusal};
 use reference::designs::design_a;
 use reference::formula::{decode, encode, size};
 use reference::operations::{Answer, Operations, Reference};
+use reference::owners::Shared;
 use reference::query::Query;
 use reference::search::solve;
 use reference::step::{holds, replay, start, step, State};
@@ -263,6 +264,8 @@ fn check_comes_first_in_every_call() {
     assert_eq!(reference.decode(query, 255, &[], &mut []), Answer::Refused(bad));
     let lent = Lent { clauses: &mut [], values: &mut [], trail: &mut [], choices: &mut [] };
     assert_eq!(reference.verdict(query, 255, 0, lent), Answer::Refused(bad));
+    let shared = Shared { clauses: &mut [], values: &mut [], trail: &mut [] };
+    assert_eq!(reference.owners(&file, 255, &mut [], shared), Answer::Refused(bad));
 }
 
 #[test]

@@ -3,7 +3,9 @@
 mod support;
 
 use reference::design::{check, Boolean, CellKind, Design, Integer, Statement};
-use reference::designs::{all_files, all_pieces, money_changer, Property, Version};
+use reference::designs::{
+    all_files, all_pieces, money_changer, money_changer_pieces, mutex, peterson, Property, Version,
+};
 use std::collections::BTreeSet;
 use std::path::{Path, PathBuf};
 use support::first_break;
@@ -39,8 +41,23 @@ fn files_equal_the_builder() {
 fn pieces_are_properties_of_the_money_changer() {
     for version in [Version::Original, Version::Revised] {
         let design = money_changer(version, Property::Dyn);
-        for (name, piece) in all_pieces() {
+        for (name, piece) in money_changer_pieces() {
             assert!(design.expression(&piece).is_some(), "{name}");
+        }
+    }
+}
+
+/// By breadth-first search over STEP, in `mutex` and in `peterson`.
+#[test]
+fn other_pieces_break_both_mutual_exclusions_where_they_should() {
+    let pieces = &all_pieces()[money_changer_pieces().len()..];
+    let expected = [("exclusion-flags.piece", [4, 2]), ("exclusion-second.piece", [2, 2])];
+    assert_eq!(pieces.len(), expected.len());
+    for ((name, piece), (expected_name, steps)) in pieces.iter().zip(expected) {
+        assert_eq!(name, expected_name);
+        for (design, step) in [mutex(), peterson()].into_iter().zip(steps) {
+            let invariant = design.expression(piece).unwrap();
+            assert_eq!(first_break(&Design { invariant, ..design }, 0), Some(step), "{name}");
         }
     }
 }
@@ -48,7 +65,7 @@ fn pieces_are_properties_of_the_money_changer() {
 /// The rows of a table, by their words.
 fn rows(table: &str) -> Vec<Vec<String>> {
     let text = std::fs::read_to_string(folder().join(table)).unwrap();
-    let rows = text.lines().filter(|line| !line.starts_with('#'));
+    let rows = text.lines().filter(|line| !line.starts_with('#') && !line.is_empty());
     rows.map(|line| line.split_whitespace().map(String::from).collect()).collect()
 }
 
@@ -76,6 +93,24 @@ fn rows_of_pieces_are_those_of_the_files_with_that_invariant() {
     }
     // Four published properties of the original, six of the revised one.
     assert_eq!(pieces.len(), 10);
+}
+
+/// An owner is told what a verdict alone says: where another table has the same question, it has the same answer.
+#[test]
+fn rows_of_owners_are_those_of_the_other_tables() {
+    let stored = [rows("rows.txt"), rows("rows-pieces.txt")].concat();
+    let owners = rows("rows-owners.txt");
+    let mut found = 0;
+    for row in &owners {
+        if let Some(same) = stored.iter().find(|other| other[..4] == row[..4]) {
+            assert_eq!(same, row);
+            found += 1;
+        }
+    }
+    assert!(found >= 14, "{found} rows of {}", owners.len());
+    for verdict in ["CLEAN", "VIOLATED", "SPENT", "REFUSED"] {
+        assert!(owners.iter().any(|row| row[4] == verdict), "no owner is {verdict}");
+    }
 }
 
 /// Operator bytes of a design.

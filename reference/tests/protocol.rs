@@ -86,6 +86,19 @@ fn the_examples_of_the_document() {
     }
 }
 
+/// They stand as lines by turns, since a reply has bars.
+#[test]
+fn the_examples_of_owners_in_the_document() {
+    let document = include_str!("../../docs/PROTOCOL.md");
+    let start = "With the file of Design A as D, and owners";
+    let section = document.lines().skip_while(|line| !line.starts_with(start));
+    let lines: Vec<&str> = section.filter_map(|line| line.strip_prefix("    ")).collect();
+    assert_eq!(lines.len(), 2 * 6);
+    for pair in lines.chunks(2) {
+        assert_eq!(with_design(pair[0]), pair[1], "{}", pair[0]);
+    }
+}
+
 #[test]
 fn leading_zeros_and_signs() {
     assert_eq!(with_design("size D - 01 003"), with_design("size D - 1 3"));
@@ -174,6 +187,24 @@ fn malformed_requests() {
         "replay 00 - 0 1,",
         "step 00 0 0 0",
         "encode 00 - 0 0 0 99999999999999",
+        "owners 00",
+        "owners 00 0",
+        "owners 00 0 0 0",
+        "owners 00 0 0 0 0 ",
+        "owners 00 0 0 0 0 -",
+        "owners 00 0 0 0 0 -:0",
+        "owners 00 0 0 0 0 -:0:0:0",
+        "owners 00 0 0 0 0 :0:0",
+        "owners 00 0 0 0 0 AB:0:0",
+        "owners 00 0 0 0 0 -::0",
+        "owners 00 0 0 0 0 -:-1:0",
+        "owners 00 0 0 0 0 -:18446744073709551616:0",
+        "owners 00 0 0 0 0 -:0:268435457",
+        "owners 00 0 268435457 0 0",
+        "owners 00 18446744073709551616 0 0 0",
+        "owners 0 0 0 0 0 -:0:0",
+        "owners 00 0 0 0 0 -:0:0  -:0:0",
+        "owners 00 0 0 0 0 -:0:0 -:0:0 -:0:0 -:0:0 x",
     ] {
         assert_eq!(answer(request), "error", "{request}");
     }
@@ -222,5 +253,5 @@ fn generated_requests_are_well_formed_and_reach_every_refusal() {
             numbers.insert(rest.split(' ').next().unwrap().parse::<u8>().unwrap());
         }
     }
-    assert_eq!(numbers, (1..=19).collect());
+    assert_eq!(numbers, (1..=20).collect());
 }

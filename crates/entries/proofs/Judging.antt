@@ -3,12 +3,12 @@ use mathlib.Core.Path.{_≡_, sym, ap, ap₂, _∙_}
 use mathlib.Core.List.{List, [], _∷_}
 use Prim.Native.Nat.{ℕ}
 use Rattle.verdict.specs.Verdict.{Memory}
-use Rattle.verdict.specs.Answers.{Exit}
+use Rattle.verdict.specs.Answers.{Exit, verdictNumber, verdictStep}
 use Rattle.verdict.specs.declared.answer.Told.{Told}
 use Rattle.verdict.specs.declared.answer.Reply.{Reply}
 use Rattle.verdict.specs.declared.answer.Reply.the-variants.{Refused, Done}
 use Rattle.entries.specs.Code.{code}
-use Rattle.entries.specs.Verdict.{verdictNumber, verdictStep, verdictCode, verdictWords, VerdictReturn}
+use Rattle.entries.specs.Verdict.{verdictCode, verdictWords, VerdictReturn}
 
 module _ (after : Exit) (reply : Reply) (memory : Memory) (says : record { reply = reply; memory = memory } ≡ after) (answer : List ℕ) where
   abbrev exit : Exit → VerdictReturn

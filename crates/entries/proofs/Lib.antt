@@ -6,3 +6,5 @@ pub mod Writing
 -- SOLVE and VERDICT
 pub mod Solving
 pub mod Judging
+-- several owners
+pub mod Owning

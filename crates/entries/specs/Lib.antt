@@ -4,3 +4,4 @@ pub mod Step
 pub mod Clauses
 pub mod Solve
 pub mod Verdict
+pub mod Owners

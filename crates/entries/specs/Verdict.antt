@@ -2,24 +2,10 @@
 use mathlib.Core.List.{List, [], _∷_}
 use Prim.Native.Nat.{ℕ}
 use Rattle.verdict.specs.Verdict.{Memory, verdict}
-use Rattle.verdict.specs.Answers.{exit}
-use Rattle.verdict.specs.declared.answer.Verdict.{Verdict}
-use Rattle.verdict.specs.declared.answer.Verdict.the-variants.{Violated, Clean, Spent}
+use Rattle.verdict.specs.Answers.{exit, verdictNumber, verdictStep}
 use Rattle.verdict.specs.declared.answer.Reply.{Reply}
 use Rattle.verdict.specs.declared.answer.Reply.the-variants.{Refused, Done}
 use Rattle.entries.specs.Code.{code}
-
--- CLEAN is 0, VIOLATED 1, SPENT 2
-abbrev pub verdictNumber : Verdict → ℕ
-verdictNumber (Violated i) = 1
-verdictNumber Clean = 0
-verdictNumber (Spent i) = 2
-
--- "VIOLATED with its step, CLEAN, or SPENT with the bound it stood at"
-abbrev pub verdictStep : Verdict → ℕ
-verdictStep (Violated i) = i
-verdictStep Clean = 0
-verdictStep (Spent i) = i
 
 abbrev pub verdictCode : Reply → ℕ
 verdictCode (Refused number place) = code number place

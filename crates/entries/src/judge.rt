@@ -1,30 +1,11 @@
 // VERDICT.
 ghost use mathlib.Core.Path.{_≡_};
-ghost use Rattle.entries.specs.Verdict.{verdictNumber, verdictStep, verdictEntry};
+ghost use Rattle.entries.specs.Verdict.{verdictEntry};
 use super::code::code_of;
 use verdict::answer::Reply;
-use verdict::answer::Verdict;
+use verdict::answer::verdict_number;
+use verdict::answer::verdict_step;
 use verdict::verdict;
-
-fn verdict_number(v: Verdict) -> u64
-    ensures { λ r. ⌜ r ≡ verdictNumber v ⌝ }
-{
-    match v {
-        Verdict::Clean => 0,
-        Verdict::Violated(_) => 1,
-        Verdict::Spent(_) => 2,
-    }
-}
-
-fn verdict_step(v: Verdict) -> u64
-    ensures { λ r. ⌜ r ≡ verdictStep v ⌝ }
-{
-    match v {
-        Verdict::Clean => 0,
-        Verdict::Violated(i) => i,
-        Verdict::Spent(i) => i,
-    }
-}
 
 #[no_mangle]
 pub extern "C" fn stm_verdict<'a>(

@@ -9,7 +9,7 @@ mod reader; // a clause list read forward
 mod scan; // the scan for units and conflicts
 mod trail; // setting a variable, the lowest unset one, undoing
 mod run; // the turns
-mod fill; // filling lent memory
+pub mod fill; // filling lent memory
 
 use fill::fill8;
 use fill::fill32;

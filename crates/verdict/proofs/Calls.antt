@@ -26,7 +26,7 @@ use Rattle.verdict.specs.Loop.{ReadyMemory}
 use Rattle.verdict.specs.declared.answer.Reply.the-variants.{Refused}
 
 -- A call that answers passed each test.
-and-true : (a b : Bool) → a && b ≡ true → (a ≡ true) × (b ≡ true)
+pub and-true : (a b : Bool) → a && b ≡ true → (a ≡ true) × (b ≡ true)
 and-true true b e = (refl, e)
 and-true false b e = absurd (let z : _≡_ {A = ℕ} 0 1 = cc in omega arith)
 

@@ -14,3 +14,9 @@ pub mod Table
 pub mod Loop
 pub mod Searching
 pub mod AtBound
+-- several owners: what VERDICT does not read, one owner, the loop over the owners, the call, and what an owner's answer depends on
+pub mod Unread
+pub mod OneOwner
+pub mod OwnersLoop
+pub mod OwnersCall
+pub mod Isolation

@@ -42,10 +42,10 @@ module _ {A : Type 0} (ws xs : List A) (a : ℕ) (e : length ws ≡ a) where
       let r : a + (m - a) ≡ m = omega arith in
       ap (λ (j : ℕ). drop j (ws ++ drop a xs)) p ∙ drop-append-add ws (drop a xs) (m - a) ∙ ap (drop (m - a)) q ∙ drop-drop (m - a) a ys ∙ ap (λ (j : ℕ). drop j ys) r
 
-  front-long : a ≤ length xs → length (ws ++ drop a xs) ≡ length xs
+  pub front-long : a ≤ length xs → length (ws ++ drop a xs) ≡ length xs
   front-long h = omega (arith, length-append ws (drop a xs), length-drop a xs)
 
-left-long : (m : ℕ) (a : Answer) → length (valuesLeft m a) ≡ m
+pub left-long : (m : ℕ) (a : Answer) → length (valuesLeft m a) ≡ m
 left-long m (SAT ss) = length-from ss 1 m
 left-long m UNSAT = length-replicate m 0
 left-long m SPENT = length-replicate m 0

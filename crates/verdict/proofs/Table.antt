@@ -18,9 +18,13 @@ use Rattle.clauses.proofs.DesignA.{models-3, models-4, models-lent}
 use Rattle.clauses.proofs.Constrained.{models-moved, models-noIdle}
 use Rattle.clauses.proofs.Multiplied.{frame-multiplied, frame-multiplied-1, broken-multiplied-1, bound-multiplied-0, bound-multiplied-2, broken-multiplied, never-multiplied, models-multiplied-1, models-multiplied-2}
 use Rattle.clauses.proofs.Passing.{frame-passing, frame-passing-2, models-passing}
+use Rattle.clauses.specs.Admission.{admit}
+use Rattle.clauses.specs.Decode.{flagValues, chosenFrom, choicesOf, choicesToWrite, decode}
 use Rattle.search.specs.Search.{turn, solved}
 use Rattle.search.specs.Solve.{solve}
-use Rattle.verdict.specs.Table.{AllHold, bareCases, pieceCases, passingCases, table}
+use Rattle.verdict.specs.Verdict.{searched, judgedFrom, judge, memoryLeft, roomFor, verdict}
+use Rattle.verdict.specs.Owners.{alone, eachOwner, owners}
+use Rattle.verdict.specs.Table.{AllHold, twoExternals, bareCases, pieceCases, passingCases, ownerCases, table}
 
 bare-hold : AllHold bareCases
 unfolding bytesA pieceA bytesMoved bytesNoIdle designA designMoved designNoIdle count checking stepping pieceRight gate onDesign eventReadOf guardReadOf eventReadBy guardReadBy countFrom firstBreak encoding signed wrap turn solved solve
@@ -78,6 +82,10 @@ passing-hold = (
     ),
   ),
 )
+
+owners-hold : AllHold (ownerCases ++ (passingCases ++ (pieceCases ++ bareCases)))
+unfolding twoExternals count checking onDesign owners eachOwner alone verdict admit gate pieceRight roomFor judge judgedFrom searched memoryLeft encoding turn solved signed wrap flagValues chosenFrom choicesOf choicesToWrite decode
+owners-hold = (refl, (refl, (refl, (refl, (refl, (refl, (refl, (refl, (refl, passing-hold)))))))))
 
 pub table-holds : AllHold table
 unfolding bytesA pieceA bytesMoved bytesNoIdle designA designMoved designNoIdle count checking stepping pieceRight gate onDesign eventReadOf guardReadOf eventReadBy guardReadBy countFrom firstBreak encoding signed wrap turn solved solve
@@ -143,7 +151,7 @@ table-holds = (
                                                             models-multiplied-1,
                                                             (
                                                               models-multiplied-2,
-                                                              (refl, (refl, (refl, (refl, (refl, ((refl, refl), ((refl, refl), ((refl, refl), ((refl, refl), passing-hold))))))))),
+                                                              (refl, (refl, (refl, (refl, (refl, ((refl, refl), ((refl, refl), ((refl, refl), ((refl, refl), owners-hold))))))))),
                                                             ),
                                                           ),
                                                         ),

@@ -1,5 +1,5 @@
 -- Demand 3, for every accepted file and every piece.
-use mathlib.Core.Path.{_≡_, sym, ap, _∙_, subst}
+use mathlib.Core.Path.{_≡_, refl, sym, ap, _∙_, subst}
 use mathlib.Core.List.{List, _++_}
 use Prim.Native.Nat.{ℕ, _<_}
 use native.Mathlib.Omega.{arith}
@@ -15,11 +15,15 @@ use Rattle.search.specs.Search as search
 use Rattle.search.specs.Solve.{valuesLeft}
 use Rattle.search.proofs.Theorems.{search-ends}
 use Rattle.verdict.specs.Verdict.{Verdict, VIOLATED, Told, Judged, judge, Memory, searched, choicesLeft, memoryLeft, verdict}
+use Rattle.design.specs.Answer.{answer}
+use Rattle.verdict.specs.Owners.{Owner, Buffers, withChoices, alone, owners}
+use Rattle.verdict.specs.Isolation.{OwnersResult, Owns, resultOf}
 use Rattle.verdict.specs.Claim.{OfFormula, Says, OfVerdict, Witness, Demand3}
 use Rattle.verdict.proofs.Calls.{Answered, answered}
 use Rattle.verdict.proofs.Judging.{Known, Violated, judge-right, known-says, known-tries, same-verdict}
 use Rattle.clauses.proofs.Within.{n-up}
 use Rattle.verdict.proofs.Witness.{decodes, witness}
+use Rattle.verdict.proofs.Isolation.{owner-counted, equals-alone}
 
 of-formula : (d : Design) (p : Property) (k : ℕ) → Theorem d p k → OfFormula d p k
 unfolding searched
@@ -67,10 +71,28 @@ module _ (file piece : List ℕ) (d : Design) (e : check file ≡ Checked.accept
       witness = left;
     }
 
+-- an owner's part is VERDICT's alone
+of-owner : (file piece : List ℕ) → ((i : ℕ) → getD file i 0 < 256) → ((i : ℕ) → getD piece i 0 < 256) → (d : Design) → check file ≡ Checked.accepted d
+    → (k count : ℕ) (lent : Buffers) (pieces : List (List ℕ)) (budgets : List ℕ) (choices : List (List ℕ)) (i : ℕ) (o : Owner) → Owns i count pieces budgets choices o → o .piece ≡ piece
+    → (told : Told) → (resultOf i (owners file k lent count pieces budgets choices)) .answer ≡ answer told
+    → OfVerdict d (propertyOf file piece d 0) k (o .budget) told (o .choices) ((resultOf i (owners file k lent count pieces budgets choices)) .choices)
+unfolding alone
+of-owner file piece bytes all d e k count lent pieces budgets choices i o h same told q =
+    let few = owner-counted file d e k count i pieces budgets choices lent told q in
+    let part = equals-alone file k count (few .0) (few .1) pieces budgets choices i o h lent lent (record { clauses = refl; values = refl; trail = refl }) in
+    let mine = withChoices lent (o .choices) in
+    let says : (verdict file (o .piece) 0 k (o .budget) mine) .answer ≡ answer told = sym (ap (λ (x : OwnersResult). x .answer) part) ∙ q in
+    let says′ : (verdict file piece 0 k (o .budget) mine) .answer ≡ answer told = ap (λ (x : List ℕ). (verdict file x 0 k (o .budget) mine) .answer) (sym same) ∙ says in
+    let left : (verdict file piece 0 k (o .budget) mine) .memory .choices ≡ (resultOf i (owners file k lent count pieces budgets choices)) .choices =
+    ap (λ (x : List ℕ). (verdict file x 0 k (o .budget) mine) .memory .choices) (sym same) ∙ sym (ap (λ (x : OwnersResult). x .choices) part) in
+    subst (OfVerdict d (propertyOf file piece d 0) k (o .budget) told (o .choices)) left
+    (of-verdict file piece d e 0 k (o .budget) mine (theorem-of-file file piece bytes all d e 0) told (answered file piece d e 0 k (o .budget) mine told says′))
+
 -- The entries of a file and of a piece are bytes.
 pub demand-3 : (file piece : List ℕ) → ((i : ℕ) → getD file i 0 < 256) → ((i : ℕ) → getD piece i 0 < 256) → (d : Design) → check file ≡ Checked.accepted d → Demand3 file piece d
 demand-3 file piece bytes all d e = record {
   formula = λ p k. of-formula d (propertyOf file piece d p) k (theorem-of-file file piece bytes all d e p k);
   decode = λ p k low right few numbers. decodes file piece d e p low right k few numbers (theorem-of-file file piece bytes all d e p k);
   verdict = λ p k budget lent told h. of-verdict file piece d e p k budget lent (theorem-of-file file piece bytes all d e p) told (answered file piece d e p k budget lent told h);
+  owners = λ k count lent pieces budgets choices i o h same told q. of-owner file piece bytes all d e k count lent pieces budgets choices i o h same told q;
 }

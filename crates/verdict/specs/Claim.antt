@@ -25,6 +25,8 @@ use Rattle.clauses.specs.Decode.{decode}
 use Rattle.clauses.specs.Theorem.{Stored}
 use Rattle.search.specs.Search.{turn, Budget, noBudget, Ends}
 use Rattle.verdict.specs.Verdict.{Verdict, VIOLATED, CLEAN, SPENT-AT, Told, Memory, searched, verdict}
+use Rattle.verdict.specs.Owners.{Owner, Buffers, owners}
+use Rattle.verdict.specs.Isolation.{Owns, resultOf}
 
 -- just one satisfying assignment of the formula for bound k decodes to a list: any other gives each of the variables 1..n the same value
 pub record JustOne (d : Design) (q : Property) (k : ℕ) (cs : List ℕ) : Type 0 where
@@ -118,7 +120,7 @@ module _ (d : Design) (q : Property) where
     -- VIOLATED i gives i choices that break at i
     pub witness : (i : ℕ) → told .verdict ≡ VIOLATED i → Witness i lent left
 
--- of a file, a piece, and the file's design
+-- of a file, a piece, and the file's design; and, of several owners (document 02, R-6), each one whose piece this is
 pub record Demand3 (file piece : List ℕ) (d : Design) : Type 0 where
   pub formula : (p k : ℕ) → OfFormula d (propertyOf file piece d p) k
   -- for every call that is not refused for its property, its piece, its bound or its n: "13 property over 1", with a constraint over 2; "refusal 8" of a piece; "14 bound over 100"; "19
@@ -126,3 +128,7 @@ pub record Demand3 (file piece : List ℕ) (d : Design) : Type 0 where
   pub decode : (p k : ℕ) → p ≤ lastProperty file → pieceRight file piece p ≡ true → k ≤ maxBound → n d (propertyOf file piece d p) k ≤ lastVariable → Decodes file piece d p k
   pub verdict : (p k budget : ℕ) (lent : Memory) (told : Told) → (verdict file piece p k budget lent) .answer ≡ answer told
       → OfVerdict d (propertyOf file piece d p) k budget told (lent .choices) ((verdict file piece p k budget lent) .memory .choices)
+  -- what VERDICT's answer says, each owner's says: with its own budget, and the choices are its own
+  pub owners : (k count : ℕ) (lent : Buffers) (pieces : List (List ℕ)) (budgets : List ℕ) (choices : List (List ℕ)) (i : ℕ) (o : Owner) → Owns i count pieces budgets choices o → o .piece ≡ piece
+      → (told : Told) → (resultOf i (owners file k lent count pieces budgets choices)) .answer ≡ answer told
+      → OfVerdict d (propertyOf file piece d 0) k (o .budget) told (o .choices) ((resultOf i (owners file k lent count pieces budgets choices)) .choices)

@@ -4,7 +4,7 @@ use mathlib.Core.Path.{_≡_}
 use mathlib.Core.Bool.{Bool, true, false}
 use mathlib.Core.List.{List, [], _∷_, _++_}
 use mathlib.Core.Option.{none, some}
-use Prim.Native.Nat.{ℕ}
+use Prim.Native.Nat.{ℕ, zero, suc, _-_}
 use lib.IntN.{ℤ, pos, negℤ}
 use lib.ListN.{length, replicate}
 use Rattle.design.specs.Tree.{IntExpr, constant, Design}
@@ -31,6 +31,8 @@ use Rattle.search.specs.Solve.{solve}
 use Rattle.search.specs.declared.Answered.{Answered}
 use Rattle.search.specs.declared.Answered.the-variants.{Sat, Unsat, Spent}
 use Rattle.search.specs.declared.Reply.the-variants.{Done}
+use Rattle.verdict.specs.Owners.{Buffers, owners}
+use Rattle.verdict.specs.Answers.{ownersExit}
 
 -- what a case is about: a design, and a property of it
 pub record Subject : Type 0 where
@@ -74,6 +76,65 @@ unreadBy1 = record { design = designA; property = propertyOf bytesA pieceA desig
 abbrev unreadBy2 : Subject
 unreadBy2 = record { design = designMoved; property = propertyOf bytesMoved pieceA designMoved 2 }
 
+-- two externals, which are the movers, a matrix without cells, and the invariant that not both are raised
+unfoldable pub twoExternals : List ℕ
+twoExternals =
+    0x02 ∷ 0x00 ∷ 0x00 ∷
+    0x02 ∷ 0x00 ∷ 0x00 ∷
+    0x01 ∷ 0x01 ∷
+    0x02 ∷ 0x10 ∷ 0x01 ∷
+    0x12 ∷ 0x13 ∷ 0x11 ∷ 0x00 ∷ 0x11 ∷ 0x01 ∷
+    0x01 ∷ 0x00 ∷ 0x02 ∷ 0x00 ∷ 0x06 ∷ 0x00 ∷ 0x01 ∷ 0x00 ∷ 0x08 ∷ 0x00 ∷ 0x0b ∷ 0x00 ∷ 0x00 ∷ 0x00 ∷ 0x0b ∷ 0x00 ∷ []
+
+-- pieces for it: external 0 is not raised, external 1 is not raised, and half an expression
+abbrev pieceFirst : List ℕ
+pieceFirst = 0x12 ∷ 0x11 ∷ 0x00 ∷ []
+
+abbrev pieceSecond : List ℕ
+pieceSecond = 0x12 ∷ 0x11 ∷ 0x01 ∷ []
+
+abbrev pieceHalf : List ℕ
+pieceHalf = 0x12 ∷ 0x13 ∷ 0x11 ∷ 0x00 ∷ []
+
+-- an and of two to the k leaves, each false
+abbrev allFalse : ℕ → List ℕ
+allFalse zero = 0x10 ∷ 0x00 ∷ []
+allFalse (suc k) = 0x13 ∷ (allFalse k ++ allFalse k)
+
+-- a call of several owners on that file: how many clause words, and how many values and trail words are lent, the rest as the C entry has it
+pub record OwnersCall : Type 0 where
+  pub bound : ℕ
+  pub count : ℕ
+  pub pieces : List (List ℕ)
+  pub budgets : List ℕ
+  pub choices : List (List ℕ)
+  pub words : ℕ
+  pub variables : ℕ
+
+-- Lent clause words, values and trail words are 7 each, of which so many are zero afterwards.
+abbrev sevens : ℕ → ℕ → ℕ → ℕ → Buffers
+sevens m zeroWords v zeroValues = record {
+  clauses = replicate zeroWords (pos 0) ++ replicate (m - zeroWords) (pos 7);
+  values = replicate zeroValues 0 ++ replicate (v - zeroValues) 7;
+  trail = replicate zeroValues 0 ++ replicate (v - zeroValues) 7;
+}
+
+-- an owner's five words of answer: clean, violated, spent, refused, and as they were lent
+abbrev clean : ℕ → List ℕ
+clean tries = 0 ∷ 0 ∷ 0 ∷ 0 ∷ tries ∷ []
+
+abbrev violated : ℕ → ℕ → List ℕ
+violated i tries = 0 ∷ 0 ∷ 1 ∷ i ∷ tries ∷ []
+
+abbrev spent : ℕ → ℕ → List ℕ
+spent i tries = 0 ∷ 0 ∷ 2 ∷ i ∷ tries ∷ []
+
+abbrev refusedBy : ℕ → List ℕ
+refusedBy number = number ∷ 0 ∷ 0 ∷ 0 ∷ 0 ∷ []
+
+abbrev kept : List ℕ
+kept = replicate 5 7
+
 pub data Case : Type 0 where
   -- the bytes of a file give its tree
   reads : List ℕ → Design → Case
@@ -104,6 +165,10 @@ pub data Case : Type 0 where
   operands : ℤ → ℤ → ℤ → Case
   -- SOLVE: n, words, budget; answer, tries and the values left
   solves : ℕ → List ℤ → ℕ → Answered → ℕ → List ℕ → Case
+  -- several owners of the file of two externals: each place's words of answer and choices, and how many clause words and how many values are zero
+  owned : OwnersCall → List (List ℕ) → List (List ℕ) → ℕ → ℕ → Case
+  -- a file and a count of owners for which the whole call is refused, by this number at place 0, and keeps all
+  refusedWhole : List ℕ → ℕ → ℕ → Case
 
 abbrev pub Holds : Case → Type 0
 Holds (reads file d) = check file ≡ accepted d
@@ -129,6 +194,12 @@ Holds (operands c l h) = (leastOperand (signed (wrap c)) ≡ l) × (largestOpera
 Holds (solves variables words budget answer tries values) =
     solve variables words (replicate variables 7) (replicate variables 7) budget
     ≡ record { reply = Done (record { answer = answer; tries = tries }); values = values; trail = replicate variables 0 }
+Holds (owned c answers choices zeroWords zeroValues) =
+    ownersExit (owners twoExternals (c .bound) (sevens (c .words) 0 (c .variables) 0) (c .count) (c .pieces) (c .budgets) (c .choices)) [] (replicate 4 kept)
+    ≡ record { refusal = record { number = 0; place = 0 }; buffers = sevens (c .words) zeroWords (c .variables) zeroValues; choices = choices; pointers = []; answers = answers }
+Holds (refusedWhole file count number) =
+    ownersExit (owners file 1 (sevens 1 0 1 0) count (replicate 4 []) (replicate 4 9) (replicate 4 (9 ∷ []))) [] (replicate 4 kept)
+    ≡ record { refusal = record { number = number; place = 0 }; buffers = sevens 1 0 1 0; choices = replicate 4 (9 ∷ []); pointers = []; answers = replicate 4 kept }
 
 abbrev pub AllHold : List Case → Type 0
 AllHold [] = Unit {0}
@@ -231,6 +302,34 @@ passingCases =
     ∷ operands (negℤ (pos 32768)) (pos 0) (pos 1)
     ∷ []
 
+-- several owners
+abbrev pub ownerCases : List Case
+ownerCases =
+    -- Document 02, R-6. At bound 1 the longest formula has 401 words and 35 variables. Each owner has a budget of its own, exact for the first and the third and one less for the second; a damaged piece is its
+    -- owner's own refusal.
+    owned (record { bound = 1; count = 4; pieces = [] ∷ pieceFirst ∷ pieceSecond ∷ pieceHalf ∷ []; budgets = 2 ∷ 1 ∷ 1 ∷ 9 ∷ []; choices = (9 ∷ []) ∷ (8 ∷ []) ∷ (7 ∷ []) ∷ (6 ∷ []) ∷ []; words = 410; variables = 40 })
+    (clean 2 ∷ spent 1 1 ∷ violated 1 1 ∷ refusedBy 8 ∷ []) ((9 ∷ []) ∷ (8 ∷ []) ∷ (1 ∷ []) ∷ (6 ∷ []) ∷ []) 401 35
+    -- values and trail are short for the first, which then uses nothing, and not for the second; the two places past the count are no owners
+    ∷ owned (record { bound = 1; count = 2; pieces = [] ∷ pieceSecond ∷ pieceFirst ∷ [] ∷ []; budgets = 2 ∷ 1 ∷ 9 ∷ 9 ∷ []; choices = (9 ∷ []) ∷ (8 ∷ []) ∷ (7 ∷ []) ∷ (6 ∷ []) ∷ []; words = 410; variables = 34 })
+    (refusedBy 16 ∷ violated 1 1 ∷ kept ∷ kept ∷ []) ((9 ∷ []) ∷ (1 ∷ []) ∷ (7 ∷ []) ∷ (6 ∷ []) ∷ []) 381 33
+    -- a shorter formula last clears no less; SPENT clears, too; choices that are short are their owner's own refusal
+    ∷ owned (record { bound = 1; count = 4; pieces = pieceSecond ∷ [] ∷ pieceFirst ∷ [] ∷ []; budgets = 1 ∷ 0 ∷ 0 ∷ 9 ∷ []; choices = (9 ∷ []) ∷ (8 ∷ []) ∷ (7 ∷ 6 ∷ []) ∷ [] ∷ []; words = 410; variables = 40 })
+    (violated 1 1 ∷ spent 1 0 ∷ spent 1 0 ∷ refusedBy 16 ∷ []) ((1 ∷ []) ∷ (8 ∷ []) ∷ (7 ∷ 6 ∷ []) ∷ [] ∷ []) 401 35
+    -- a piece that is false in the first state breaks at 0, where its formula has 28 words and 9 variables: no more is cleared, though there is room for bound 1
+    ∷ owned (record { bound = 1; count = 1; pieces = allFalse 0 ∷ [] ∷ [] ∷ [] ∷ []; budgets = 0 ∷ 9 ∷ 9 ∷ 9 ∷ []; choices = replicate 4 (9 ∷ []); words = 410; variables = 40 })
+    (violated 0 0 ∷ kept ∷ kept ∷ kept ∷ []) (replicate 4 (9 ∷ [])) 28 9
+    -- the first uses the more values, the second the more clause words
+    ∷ owned (record { bound = 1; count = 2; pieces = allFalse 5 ∷ pieceSecond ∷ [] ∷ [] ∷ []; budgets = 0 ∷ 1 ∷ 9 ∷ 9 ∷ []; choices = replicate 4 (9 ∷ []); words = 1010; variables = 100 })
+    (violated 0 0 ∷ violated 1 1 ∷ kept ∷ kept ∷ []) ((9 ∷ []) ∷ (1 ∷ []) ∷ (9 ∷ []) ∷ (9 ∷ []) ∷ []) 381 40
+    -- a bound over 100 is each owner's own refusal, behind 8
+    ∷ owned (record { bound = 101; count = 2; pieces = [] ∷ pieceHalf ∷ [] ∷ [] ∷ []; budgets = replicate 4 9; choices = replicate 4 (9 ∷ []); words = 1; variables = 1 })
+    (refusedBy 14 ∷ refusedBy 8 ∷ kept ∷ kept ∷ []) (replicate 4 (9 ∷ [])) 0 0
+    -- "Errors: 20, straight after CHECK, when the owners number 0 or more than four."
+    ∷ refusedWhole twoExternals 0 20
+    ∷ refusedWhole twoExternals 5 20
+    ∷ refusedWhole [] 0 1
+    ∷ []
+
 abbrev pub table : List Case
 table =
     reads bytesA designA
@@ -285,4 +384,4 @@ table =
     -- past the break at 3, and where the guard is false
     ∷ broken invariantA (2 ∷ 0 ∷ 1 ∷ 0 ∷ 1 ∷ []) 3
     ∷ counts designA (2 ∷ 0 ∷ 1 ∷ 0 ∷ 1 ∷ []) 4 4
-    ∷ passingCases ++ (pieceCases ++ bareCases)
+    ∷ ownerCases ++ (passingCases ++ (pieceCases ++ bareCases))

@@ -1,6 +1,7 @@
-// VERDICT.
+// VERDICT, and several owners on one design.
 pub mod answer;
 mod bounds;
+pub mod owners;
 
 ghost use mathlib.Core.Path.{_≡_};
 ghost use Rattle.verdict.specs.Verdict.{verdict as verdictOf};

@@ -76,10 +76,15 @@ pub fn verdict(query: Query<[u8]>, bound: u64, budget: u64, lent: Lent) -> Answe
             &mut words,
         )
     };
-    told(code, words, |words| match words {
+    told(code, words, verdict_of)
+}
+
+/// The verdict that three words tell.
+pub fn verdict_of(words: [u64; 3]) -> Verdict {
+    match words {
         [0, 0, tries] => Verdict { finding: Finding::Clean, tries },
         [1, step, tries] => Verdict { finding: Finding::Violated(step), tries },
         [2, bound, tries] => Verdict { finding: Finding::Spent(bound), tries },
-        _ => panic!("VERDICT answered {words:?}"),
-    })
+        _ => panic!("a verdict of {words:?}"),
+    }
 }

@@ -2,12 +2,14 @@
 
 mod entries;
 mod formula;
+pub mod owners;
 pub mod timing;
 mod trace;
 
 use entries::{stm_check, stm_holds, stm_replay, stm_solve, stm_start, stm_step};
 use reference::design::{Refusal, MAX_MATRICES, MAX_VARIABLES};
 use reference::operations::{Answer, Operations};
+use reference::owners::{Owner, Shared, Told};
 use reference::query::Query;
 use reference::search::{Outcome, Solved};
 use reference::step::{Replayed, State, Stepped};
@@ -166,5 +168,9 @@ impl Operations for Proved {
 
     fn verdict(&mut self, query: Query<[u8]>, bound: u64, budget: u64, lent: formula::Lent) -> Answer<formula::Verdict> {
         formula::verdict(query, bound, budget, lent)
+    }
+
+    fn owners(&mut self, design: &[u8], bound: u64, owners: &mut [Owner], shared: Shared) -> Answer<Vec<Told>> {
+        owners::owners(design, bound, owners, shared)
     }
 }

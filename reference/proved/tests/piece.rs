@@ -3,7 +3,7 @@
 use proved::{replay, Proved};
 use reference::builder::{boolean_bytes, file_bytes};
 use reference::design::{Boolean, Design, Integer, Refusal};
-use reference::designs::{all_pieces, design_a, money_changer, moved, Property, Version};
+use reference::designs::{design_a, money_changer, money_changer_pieces, moved, Property, Version};
 use reference::generator::trees::boolean_of_length;
 use reference::operations::{Answer, Operations, Reference};
 use reference::query::{Query, CONSTRAINT, INVARIANT, MAX_BOUND, MAX_PIECE, NO_INVALID_CELL};
@@ -141,7 +141,7 @@ fn answers_are_those_of_the_same_invariant() {
         same_as_invariant(&design_a(), &Boolean::Constant(false), bound);
     }
     let changer = money_changer(Version::Revised, Property::Dyn);
-    for (_, piece) in all_pieces() {
+    for (_, piece) in money_changer_pieces() {
         same_as_invariant(&changer, &changer.expression(&piece).expect("a property"), 1);
     }
 }

@@ -19,6 +19,8 @@ use std::thread;
 
 const USAGE: &str = "usage: compare A B [--seed N] [--count N] [--operations check,..] \
                      [--require 1,2,..] [--properties 0,1,..] [--pieces replay,..]";
+/// Where the owners begin among the fields of their request.
+const FIRST_OWNER: usize = 6;
 /// Requests under way towards each program.
 const QUEUE: usize = 256;
 
@@ -189,6 +191,9 @@ impl Seen {
             }
             return;
         }
+        if operation == "owners" {
+            return self.add_owners(&fields, reply);
+        }
         if piece {
             *self.by_pieces.entry(operation.to_string()).or_default() += 1;
         }
@@ -197,6 +202,32 @@ impl Seen {
         }
         if let Some(property) = property(&fields) {
             *self.properties.entry(property).or_default() += 1;
+        }
+    }
+
+    /// Each owner's answer, with the piece that it is about.
+    fn add_owners(&mut self, fields: &[&str], reply: &str) {
+        let told = reply.split(" mem").next().unwrap_or("");
+        let owners = fields.get(FIRST_OWNER..).unwrap_or(&[]);
+        for (owner, answer) in owners.iter().zip(told.split(" | ").skip(1)) {
+            let words: Vec<&str> = answer.split(' ').collect();
+            let refused = words[0] == "refused";
+            let named =
+                if refused { format!("refused {}", words[1]) } else { words[0].to_string() };
+            *self
+                .answers
+                .entry(format!("owners, one of {}: {named}", owners.len()))
+                .or_default() += 1;
+            let piece = !owner.starts_with("-:");
+            if piece && !refused {
+                *self.by_pieces.entry("owners".to_string()).or_default() += 1;
+            }
+            if piece && named == "refused 8" {
+                *self.refused_pieces.entry("owners".to_string()).or_default() += 1;
+            }
+            if !refused {
+                *self.properties.entry(INVARIANT).or_default() += 1;
+            }
         }
     }
 
@@ -237,7 +268,8 @@ fn required<T: Ord + Display>(
 /// The property that a request asks about.
 fn property(fields: &[&str]) -> Option<u64> {
     let at = match fields[0] {
-        "check" | "start" | "step" | "solve" => return None,
+        // Owners ask property 0 alone; each is counted by itself.
+        "check" | "start" | "step" | "solve" | "owners" => return None,
         "holds" => 5,
         _ => 3,
     };

@@ -1,11 +1,15 @@
 //! The reference rows: asks a serving program for every row of a table again and compares.
 //!
-//! rows SERVER FILE [--write]
+//! rows SERVER FILE [--owners] [--write]
 //!
 //! FILE is the table, designs/rows.txt; the design files are in its folder. The first four words of a row say what to ask; with
 //! --write the rest is written anew, so that a new row is made by a line of four words. The first word is a design file, or a
 //! design file and a piece of that folder, joined by +. A row with a piece is asked twice: with the piece, and of the design whose
-//! file has the piece as its invariant; both answers have to be the same.
+//! file has the piece as its invariant; both answers have to be the same. Where a piece is refused, the row says so in place of a
+//! verdict.
+//!
+//! With --owners, rows that follow each other, with no comment or empty line between, are the owners of one call on one design: that
+//! call is asked, too, and has to tell each owner what its row says.
 
 use reference::builder::file_bytes;
 use reference::client::Program;
@@ -15,22 +19,32 @@ use reference::protocol::hex;
 use std::path::Path;
 use std::process::ExitCode;
 
-const USAGE: &str = "usage: rows SERVER FILE [--write]";
+const USAGE: &str = "usage: rows SERVER FILE [--owners] [--write]";
 /// Models are counted where the lists of choices, times the variables, are at most so many.
 const MAX_COUNTED: u64 = 2_000_000;
 
+struct Settings {
+    server: String,
+    file: String,
+    owners: bool,
+    write: bool,
+}
+
+fn settings() -> Option<Settings> {
+    let mut arguments = std::env::args().skip(1);
+    let (server, file) = (arguments.next()?, arguments.next()?);
+    let options: Vec<String> = arguments.collect();
+    let known = options.iter().all(|option| option == "--owners" || option == "--write");
+    let has = |name: &str| options.iter().any(|option| option == name);
+    known.then(|| Settings { server, file, owners: has("--owners"), write: has("--write") })
+}
+
 fn main() -> ExitCode {
-    let arguments: Vec<String> = std::env::args().skip(1).collect();
-    let words: Vec<&str> = arguments.iter().map(String::as_str).collect();
-    let (server, file, write) = match words[..] {
-        [server, file] => (server, file, false),
-        [server, file, "--write"] => (server, file, true),
-        _ => {
-            eprintln!("{USAGE}");
-            return ExitCode::from(2);
-        }
+    let Some(settings) = settings() else {
+        eprintln!("{USAGE}");
+        return ExitCode::from(2);
     };
-    match run(server, Path::new(file), write) {
+    match run(&settings) {
         Ok(text) => {
             println!("{text}");
             ExitCode::SUCCESS
@@ -42,12 +56,12 @@ fn main() -> ExitCode {
     }
 }
 
-fn run(server: &str, path: &Path, write: bool) -> Result<String, String> {
+fn run(settings: &Settings) -> Result<String, String> {
+    let path = Path::new(&settings.file);
     let folder = path.parent().unwrap_or(Path::new("."));
     let stored = std::fs::read_to_string(path).map_err(|e| format!("{}: {e}", path.display()))?;
-    let mut program = Program::start(server)?;
-    let table: Result<Vec<Line>, String> =
-        stored.lines().map(|line| read_line(&mut program, folder, line)).collect();
+    let mut program = Program::start(&settings.server)?;
+    let table = ask_all(&mut program, folder, &stored, settings.owners);
     program.stop();
     let table = table?;
     let text = table_text(&table);
@@ -55,7 +69,7 @@ fn run(server: &str, path: &Path, write: bool) -> Result<String, String> {
     if rows == 0 {
         return Err("there are no rows".to_string());
     }
-    if write {
+    if settings.write {
         std::fs::write(path, text).map_err(|e| format!("{}: {e}", path.display()))?;
         return Ok(format!("{rows} rows written"));
     }
@@ -69,6 +83,100 @@ fn run(server: &str, path: &Path, write: bool) -> Result<String, String> {
 enum Line {
     Comment(String),
     Row(Vec<String>),
+}
+
+/// Every line with its answers; where asked for, also by one call for each run of rows.
+fn ask_all(
+    program: &mut Program,
+    folder: &Path,
+    stored: &str,
+    owners: bool,
+) -> Result<Vec<Line>, String> {
+    let lines = stored.lines().map(|line| read_line(program, folder, line));
+    let table = lines.collect::<Result<Vec<Line>, String>>()?;
+    if owners {
+        for lines in table.split(|line| matches!(line, Line::Comment(_))) {
+            let rows: Vec<&[String]> = lines
+                .iter()
+                .filter_map(|line| if let Line::Row(row) = line { Some(&row[..]) } else { None })
+                .collect();
+            if !rows.is_empty() {
+                ask_owners(program, folder, &rows)
+                    .map_err(|e| format!("{}\n{e}", rows[0].join(" ")))?;
+            }
+        }
+    }
+    Ok(table)
+}
+
+/// Where a row's words stand.
+const PROPERTY: usize = 1;
+const BOUND: usize = 2;
+const BUDGET: usize = 3;
+const VERDICT: usize = 4;
+const AT: usize = 5;
+const TRIES: usize = 6;
+const VARIABLES: usize = 7;
+const WORDS: usize = 9;
+const CHOICES: usize = 11;
+
+/// One call for the owners of these rows, on memory that just suffices for the longest formula.
+fn ask_owners(program: &mut Program, folder: &Path, rows: &[&[String]]) -> Result<(), String> {
+    let design = |row: &[String]| row[0].split('+').next().unwrap_or("").to_string();
+    let (file, bound) = (design(rows[0]), &rows[0][BOUND]);
+    if rows.iter().any(|row| design(row) != file || row[PROPERTY] != "0" || row[BOUND] != *bound) {
+        return Err("owners have one design, property 0 and one bound".to_string());
+    }
+    let longest =
+        |at: usize| rows.iter().filter_map(|row| row[at].parse::<u64>().ok()).max().unwrap_or(0);
+    let (words, n) = (longest(WORDS), longest(VARIABLES));
+    let mut request = format!("owners {} {bound} {words} {n} {n}", hex(&read(folder, &file)?));
+    for row in rows {
+        let (_, piece) = design_and_piece(folder, &row[0])?;
+        request += &format!(" {}:{}:{bound}", hex(&piece), budget_of(&row[BUDGET])?);
+    }
+    let reply = program.ask(&request);
+    let told: Vec<&str> = reply.split(" mem").next().unwrap_or("").split(" | ").collect();
+    let found: Result<Vec<[String; 4]>, String> =
+        told[1..].iter().map(|told| told_words(told)).collect();
+    let wanted: Vec<[String; 4]> =
+        rows.iter().map(|row| [VERDICT, AT, TRIES, CHOICES].map(|at| row[at].clone())).collect();
+    if told[0] != "ok" || found.as_ref() != Ok(&wanted) {
+        return Err(format!("alone {wanted:?}, as owners {reply}"));
+    }
+    Ok(())
+}
+
+/// Verdict, step or bound, tries and choices, as a row has them.
+fn told_words(told: &str) -> Result<[String; 4], String> {
+    let words: Vec<&str> = told.split(' ').collect();
+    let found = match words[..] {
+        ["clean", tries] => ["CLEAN", "-", tries, "-"],
+        ["violated", step, tries, choices] => ["VIOLATED", step, tries, choices],
+        ["spent", at, tries] => ["SPENT", at, tries, "-"],
+        ["refused", number, "at", "0"] => ["REFUSED", number, "-", "-"],
+        _ => return Err(format!("a verdict of {told}")),
+    };
+    Ok(found.map(String::from))
+}
+
+fn read(folder: &Path, file: &str) -> Result<Vec<u8>, String> {
+    std::fs::read(folder.join(file)).map_err(|e| format!("{file}: {e}"))
+}
+
+/// The bytes that a row's first word names; a piece may be none.
+fn design_and_piece(folder: &Path, name: &str) -> Result<(Vec<u8>, Vec<u8>), String> {
+    match name.split_once('+') {
+        Some((file, piece)) => Ok((read(folder, file)?, read(folder, piece)?)),
+        None => Ok((read(folder, name)?, vec![])),
+    }
+}
+
+fn budget_of(word: &str) -> Result<u64, String> {
+    if word == "-" {
+        return Ok(u64::MAX);
+    }
+    number(word)
 }
 
 fn read_line(program: &mut Program, folder: &Path, line: &str) -> Result<Line, String> {
@@ -85,18 +193,14 @@ fn row(program: &mut Program, folder: &Path, words: &[&str]) -> Result<Vec<Strin
     let [name, property, bound, budget, ..] = words[..] else {
         return Err("a row starts with file, property, bound and budget".to_string());
     };
-    let read = |file: &str| std::fs::read(folder.join(file)).map_err(|e| format!("{file}: {e}"));
-    let (file, piece) = match name.split_once('+') {
-        Some((file, piece)) => (read(file)?, read(piece)?),
-        None => (read(name)?, vec![]),
-    };
+    let (file, piece) = design_and_piece(folder, name)?;
     let mut ask = |design: &[u8], piece: &[u8]| {
         let (design, piece) = (hex(design), hex(piece));
         let bound = number(bound)? as u32;
         Served { program: &mut *program, design, piece, property, bound }.answers(budget)
     };
     let answers = ask(&file, &piece)?;
-    if !piece.is_empty() {
+    if !piece.is_empty() && answers[0] != "REFUSED" {
         let expected = ask(&with_invariant(&file, &piece)?, &[])?;
         if answers != expected {
             return Err(format!("with the piece {answers:?}, as the invariant {expected:?}"));
@@ -132,6 +236,10 @@ struct Size {
 impl Served<'_> {
     /// The words of a row after its first four.
     fn answers(&mut self, budget: &str) -> Result<Vec<String>, String> {
+        if let Some(number) = self.refused() {
+            let row = ["REFUSED", &number, "-", "-", "-", "-", "-", "-"];
+            return Ok(row.map(String::from).to_vec());
+        }
         let size = self.size()?;
         let [kind, at, tries, choices] = self.verdict(budget, &size)?;
         let models = match self.models(&size)? {
@@ -140,6 +248,16 @@ impl Served<'_> {
         };
         let [n, clauses, words] = [size.variables, size.clauses, size.words].map(|x| x.to_string());
         Ok(vec![kind, at, tries, n, clauses, words, models, choices])
+    }
+
+    /// The number by which a row with a piece is refused, not for its design.
+    fn refused(&mut self) -> Option<String> {
+        if self.piece == "-" {
+            return None;
+        }
+        let (design, piece, property) = (&self.design, &self.piece, self.property);
+        let reply = self.program.ask(&format!("size {design} {piece} {property} {}", self.bound));
+        Some(reply.strip_prefix("refused ")?.strip_suffix(" at 0")?.to_string())
     }
 
     /// The words of a reply after `ok`.
@@ -162,18 +280,12 @@ impl Served<'_> {
 
     /// Verdict, step or bound, tries, choices, on memory that just suffices.
     fn verdict(&mut self, budget: &str, size: &Size) -> Result<[String; 4], String> {
-        let budget = if budget == "-" { u64::MAX } else { number(budget)? };
+        let budget = budget_of(budget)?;
         let (n, k) = (size.variables, self.bound);
         let rest = format!("{} {k} {budget} {} {n} {n} {k}", self.property, size.words);
         let answer = self.ask("verdict", &rest)?;
-        let words: Vec<&str> = answer.iter().map(String::as_str).collect();
-        let found = match words[..] {
-            ["clean", tries, "mem", ..] => ["CLEAN", "-", tries, "-"],
-            ["violated", step, tries, choices, "mem", ..] => ["VIOLATED", step, tries, choices],
-            ["spent", at, tries, "mem", ..] => ["SPENT", at, tries, "-"],
-            _ => return Err(format!("verdict replies: {answer:?}")),
-        };
-        Ok(found.map(String::from))
+        let told = answer.split(|word| word == "mem").next().unwrap_or(&[]);
+        told_words(&told.join(" "))
     }
 
     /// The number of models of the words that ENCODE writes. REPLAY has to find as many breaking lists.

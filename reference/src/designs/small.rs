@@ -147,6 +147,16 @@ pub fn peterson() -> Design {
     }
 }
 
+/// What two reviewers may ask of either mutual exclusion: never are both flags up, and never do both processes stand in the
+/// status after the first.
+pub fn exclusion_pieces() -> [(&'static str, Boolean); 2] {
+    let both = |first, second| not(and(first, second));
+    [
+        ("exclusion-flags", both(is(0), is(1))),
+        ("exclusion-second", both(status_is(0, 1), status_is(1, 1))),
+    ]
+}
+
 /// A sum that passes 32,767 and a difference that passes -32,768: both wrap, both change their sign, and both set the mark.
 pub fn wrap() -> Design {
     const UP: u8 = 0;

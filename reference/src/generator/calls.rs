@@ -178,7 +178,7 @@ fn any_bound(random: &mut Random) -> u64 {
 }
 
 /// The greatest bound, or one beyond it.
-fn far_bound(random: &mut Random) -> u64 {
+pub fn far_bound(random: &mut Random) -> u64 {
     if random.chance(40) {
         random.pick(&OVER_A_BYTE)
     } else {

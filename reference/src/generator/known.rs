@@ -35,7 +35,7 @@ const VERDICTS: [(&str, u64); 20] = [
     ("later-mark.stm", 3),
 ];
 
-fn design_for_verdict(random: &mut Random) -> (Design, u64) {
+pub fn design_for_verdict(random: &mut Random) -> (Design, u64) {
     let (name, most) = random.pick(&VERDICTS);
     let files = all_files();
     let known = files.iter().find(|file| file.0 == name);

@@ -1,11 +1,14 @@
 //! What each entry answers. A refused call writes nothing.
 
+use crate::lent::{Asked, Returned};
 use reference::design::{Refusal, MAX_MATRICES, MAX_VARIABLES};
+use reference::entries::OwnerAnswer;
 use reference::operations::{Answer, Operations, Reference};
+use reference::owners::{Owner, Shared, Told};
 use reference::query::Query;
 use reference::search::Outcome;
 use reference::step::State;
-use reference::verdict::{Finding, Lent};
+use reference::verdict::{Finding, Lent, Verdict};
 
 /// A place that is greater is told as this one.
 const MOST_PLACE: u64 = (1 << 56) - 1;
@@ -122,12 +125,46 @@ pub fn stm_verdict(
     answer: &mut [u64; 3],
 ) -> u64 {
     let lent = Lent { clauses, values, trail, choices };
-    code(Reference.verdict(query, bound, budget, lent), |verdict| {
-        let (kind, at) = match verdict.finding {
-            Finding::Clean => (0, 0),
-            Finding::Violated(step) => (1, step),
-            Finding::Spent(bound) => (2, bound),
-        };
-        *answer = [kind, at, verdict.tries];
+    code(Reference.verdict(query, bound, budget, lent), |verdict| *answer = numbers(verdict))
+}
+
+/// A verdict as an entry tells it.
+fn numbers(verdict: Verdict) -> [u64; 3] {
+    let (kind, at) = match verdict.finding {
+        Finding::Clean => (0, 0),
+        Finding::Violated(step) => (1, step),
+        Finding::Spent(bound) => (2, bound),
+    };
+    [kind, at, verdict.tries]
+}
+
+fn owner_answer(told: Told) -> OwnerAnswer {
+    match told {
+        Ok(verdict) => {
+            let [kind, at, tries] = numbers(verdict);
+            [0, 0, kind, at, tries]
+        }
+        Err(Refusal { number, place }) => [number as u64, place, 0, 0, 0],
+    }
+}
+
+pub fn stm_owners(
+    design: &[u8],
+    bound: u64,
+    asked: Asked,
+    clauses: &mut [i32],
+    values: &mut [u8],
+    trail: &mut [u32],
+    returned: Returned,
+) -> u64 {
+    let lent = asked.pieces.into_iter().zip(asked.budgets).zip(returned.choices);
+    let mut owners: Vec<Owner> = lent.map(|((piece, &budget), choices)| Owner { piece, budget, choices }).collect();
+    // More owners than places are refused as none are: by 20, after CHECK.
+    let used = if asked.count > owners.len() as u64 { 0 } else { asked.count as usize };
+    let shared = Shared { clauses, values, trail };
+    code(Reference.owners(design, bound, &mut owners[..used], shared), |answers| {
+        for (place, answer) in returned.answers.iter_mut().zip(answers) {
+            *place = owner_answer(answer);
+        }
     })
 }

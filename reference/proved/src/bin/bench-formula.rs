@@ -1,12 +1,13 @@
-//! Benchmarks of SIZE, ENCODE and VERDICT, beside the second implementation as in `bench`. ENCODE is also held against a plain
-//! copy of as many words: no writer can be faster.
+//! Benchmarks of SIZE, ENCODE, VERDICT and several owners, beside the second implementation as in `bench`. ENCODE is also held against
+//! a plain copy of as many words: no writer can be faster. Several owners are also held against their VERDICTs, one after the other.
 
 use proved::timing::{make, note, report, seconds};
 use proved::Proved;
 use reference::designs::all_files;
 use reference::formula::Size;
 use reference::operations::{Answer, Operations, Reference};
-use reference::query::Query;
+use reference::owners::{Owner, Shared, Told, MAX_OWNERS};
+use reference::query::{Query, INVARIANT};
 use reference::verdict::{Lent, Verdict};
 use std::hint::black_box;
 
@@ -81,6 +82,17 @@ struct Memory {
 }
 
 impl Memory {
+    /// As much as a formula of these sizes needs.
+    fn new(size: &Size, bound: u64) -> Memory {
+        let n = size.variables as usize;
+        Memory {
+            clauses: vec![0; size.words as usize],
+            values: vec![0; n],
+            trail: vec![0; n],
+            choices: vec![0; bound as usize],
+        }
+    }
+
     fn verdict(&mut self, operations: &mut impl Operations, query: Query<[u8]>, bound: u64) -> Verdict {
         let Memory { clauses, values, trail, choices } = self;
         done(operations.verdict(query, bound, u64::MAX, Lent { clauses, values, trail, choices }))
@@ -90,14 +102,7 @@ impl Memory {
 fn verdict(name: &str, property: u64, bound: u64) {
     let design = file(name);
     let query = Query::new(&design[..], property);
-    let size = sizes(&mut Reference, query, bound);
-    let n = size.variables as usize;
-    let mut first = Memory {
-        clauses: vec![0; size.words as usize],
-        values: vec![0; n],
-        trail: vec![0; n],
-        choices: vec![0; bound as usize],
-    };
+    let mut first = Memory::new(&sizes(&mut Reference, query, bound), bound);
     let mut second = first.clone();
     let found = first.verdict(&mut Proved, query, bound);
     assert_eq!(found, second.verdict(&mut Reference, query, bound));
@@ -106,6 +111,41 @@ fn verdict(name: &str, property: u64, bound: u64) {
         &mut || make(second.verdict(&mut Reference, black_box(query), bound)),
     ]);
     report(&format!("VERDICT {name}, bound {bound}, {} tries", found.tries), proved, reference);
+}
+
+/// The invariant itself, c < 1, that the external is false, and true. No formula is longer than the invariant's.
+const PIECES: [&[u8]; MAX_OWNERS] = [&[], &[0x16, 0x02, 1, 0x01, 1, 0], &[0x12, 0x11, 0], &[0x10, 1]];
+
+/// One call for the four owners of Design A.
+fn together(operations: &mut impl Operations, design: &[u8], bound: u64, memory: &mut Memory) -> Vec<Told> {
+    let mut choices = vec![memory.choices.clone(); MAX_OWNERS];
+    let lent = PIECES.iter().zip(&mut choices);
+    let mut owners: Vec<Owner> = lent.map(|(piece, choices)| Owner { piece, budget: u64::MAX, choices }).collect();
+    let Memory { clauses, values, trail, .. } = memory;
+    done(operations.owners(design, bound, &mut owners, Shared { clauses, values, trail }))
+}
+
+/// Their VERDICTs, one after the other.
+fn apart(operations: &mut impl Operations, design: &[u8], bound: u64, memory: &mut Memory) -> Vec<Told> {
+    let query = Query::new(design, INVARIANT);
+    PIECES.iter().map(|piece| Ok(memory.verdict(operations, query.with_piece(piece), bound))).collect()
+}
+
+fn owners(bound: u64) {
+    let design = file("design-a");
+    let mut first = Memory::new(&sizes(&mut Reference, Query::new(&design[..], INVARIANT), bound), bound);
+    let (mut second, mut third) = (first.clone(), first.clone());
+    let told = together(&mut Proved, &design, bound, &mut first);
+    assert_eq!(told, together(&mut Reference, &design, bound, &mut second));
+    assert_eq!(told, apart(&mut Proved, &design, bound, &mut third));
+    let [proved, reference, one_by_one] = seconds([
+        &mut || make(together(&mut Proved, black_box(&design), bound, &mut first)),
+        &mut || make(together(&mut Reference, black_box(&design), bound, &mut second)),
+        &mut || make(apart(&mut Proved, black_box(&design), bound, &mut third)),
+    ]);
+    let tries: u64 = told.iter().flatten().map(|verdict| verdict.tries).sum();
+    report(&format!("OWNERS design-a, bound {bound}, 4 owners, {tries} tries"), proved, reference);
+    note(&format!("four VERDICTs {:.2} us, {:.2} times the one call", one_by_one * 1e6, one_by_one / proved));
 }
 
 fn main() {
@@ -129,4 +169,5 @@ fn main() {
     verdict("crossing-turns", 2, 3);
     verdict("money-changer-dyn", 2, 2);
     verdict("minus-three", 0, 3);
+    owners(3);
 }
