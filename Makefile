@@ -2,6 +2,7 @@
 # make test    prove everything from nothing and pass the tests
 # make serve   build build/serve-proved and build/serve-reference
 # make bench   print the benchmarks' ratios
+# make certify ask the long rows of designs/rows-refuted.txt again, by cadical's proofs: some 40 minutes, no part of make test
 # make runs    write tests/runs/ anew, from the second implementation
 # make standin build build/standin/: the host programs over the second implementation, for tests
 # All that is built stands under build/ and target/ (the prover's own), and nothing of it is committed.
@@ -14,7 +15,7 @@ CARGO = cargo --offline --quiet
 export CARGO_TARGET_DIR = $(CURDIR)/build/cargo
 export PROVED_ARCHIVE = $(CURDIR)/target/staticlib
 
-.PHONY: demo test serve bench runs clean archive standin
+.PHONY: demo test serve bench certify runs clean archive standin
 
 # stm exits with 10 where the design is violated
 demo: build/stm
@@ -29,6 +30,9 @@ bench: archive
 	@$(CARGO) run --release --manifest-path reference/proved/Cargo.toml --bin bench
 	@$(CARGO) run --release --manifest-path reference/proved/Cargo.toml --bin bench-formula
 
+certify: build/stm standin
+	@tests/certify build/stm
+
 runs: build/serve-reference
 	@rm -f tests/runs/*
 	@tests/replay --write
@@ -42,10 +46,10 @@ archive:
 	@mkdir -p build
 	@rt staticlib entries > build/archive.log 2>&1 || { tail -n 20 build/archive.log; exit 1; }
 
-build/stm: host/stm.c host/stm.h archive
+build/stm: host/stm.c host/drat.h host/stm.h archive
 	@gcc $(CFLAGS) -o $@ host/stm.c $(ARCHIVE)
 
-build/fuzz: host/fuzz.c host/stm.c host/stm.h archive
+build/fuzz: host/fuzz.c host/stm.c host/drat.h host/stm.h archive
 	@gcc $(CFLAGS) $(SANITIZE) -o $@ host/fuzz.c $(ARCHIVE)
 
 # The host programs over the second implementation.

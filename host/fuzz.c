@@ -22,6 +22,8 @@ static FILE *report;
 static uint64_t seed, calls, too_many_variables, events_read, guards_read, pieces_taken, pieces_refused, marks_set, marks_refused;
 /* Owners by what they are told: CLEAN, VIOLATED and SPENT by VERDICT's number for them, the others by the refusal's number. */
 static uint64_t wrong_counts, owners_found[3], owners_refused[256];
+/* Refutations by REFUTE's number for the answer. */
+static uint64_t refutations_found[3];
 
 /* Calls by name, and how many of them were refused. */
 enum { MAX_NAMES = 16 };
@@ -89,7 +91,10 @@ struct lent {
 };
 
 /* The owners have a region for each piece and each choice buffer, and one for each of the arrays that name them. */
-enum { DESIGN, PIECE, VALUES, STATUSES, MARK, ANSWER, CHOICES, CLAUSES, ASSIGNED, TRAIL, PIECES, BUDGETS, BUFFERS, OWNER_PIECE };
+enum {
+    DESIGN, PIECE, VALUES, STATUSES, MARK, ANSWER, CHOICES, CLAUSES, ASSIGNED, TRAIL, PIECES, BUDGETS, BUFFERS, REFUTATION,
+    OWNER_PIECE
+};
 enum { OWNER_CHOICES = OWNER_PIECE + STM_OWNERS, REGIONS = OWNER_CHOICES + STM_OWNERS };
 
 #define OWNER_REGIONS(i) \
@@ -103,7 +108,7 @@ static struct lent regions[REGIONS] = {
     [ASSIGNED] = {.name = "values", .capacity = 64 * PAGE}, [TRAIL] = {.name = "trail", .capacity = 256 * PAGE},
     [PIECE] = {.name = "piece", .capacity = 8 * PAGE},     [MARK] = {.name = "mark", .capacity = PAGE},
     [PIECES] = {.name = "pieces", .capacity = PAGE},       [BUDGETS] = {.name = "budgets", .capacity = PAGE},
-    [BUFFERS] = {.name = "choice buffers", .capacity = PAGE},
+    [BUFFERS] = {.name = "choice buffers", .capacity = PAGE}, [REFUTATION] = {.name = "refutation", .capacity = PAGE},
     OWNER_REGIONS(0), OWNER_REGIONS(1), OWNER_REGIONS(2), OWNER_REGIONS(3),
 };
 
@@ -862,6 +867,72 @@ static void call_solve(void)
     require(answer[0] <= 2 && answer[1] <= budget, "solve", "no such answer", answer[0]);
 }
 
+enum { MAX_LIST = 400, MAX_LIST_VARIABLES = 12 };
+
+/* The same list without its empty clauses, by which everything would follow. Answers its length. */
+static size_t without_empty(int32_t *words, size_t len)
+{
+    size_t kept = 0;
+    for (size_t i = 0; i < len; i++)
+        if (words[i] != 0 || (kept > 0 && words[kept - 1] != 0))
+            words[kept++] = words[i];
+    return kept;
+}
+
+/* A word of the refutation where a clause begins that does not follow, or none. */
+static void require_answer(const uint64_t answer[2], const int32_t *refutation, size_t len)
+{
+    uint64_t at = answer[1];
+    require(answer[0] <= 2, "refute", "no such answer", answer[0]);
+    require(answer[0] == 1 || at == 0, "refute", "a word without a clause", at);
+    require(answer[0] != 1 || (at < len && (at == 0 || refutation[at - 1] == 0)), "refute", "no clause begins there", at);
+    refutations_found[answer[0]]++;
+}
+
+/* What is accepted has no satisfying assignment. */
+static void require_unsatisfiable(uint64_t n, const int32_t *words, size_t len)
+{
+    uint8_t values[MAX_LIST_VARIABLES + 1];
+    uint32_t trail[MAX_LIST_VARIABLES + 1];
+    uint64_t answer[2];
+    uint64_t code = stm_solve(n, words, len, values, sizeof values, trail, sizeof trail / sizeof *trail, UINT64_MAX, answer);
+    require(code == 0 && answer[0] == 1, "refute", "accepts what is not UNSAT", code);
+}
+
+static void call_refute(void)
+{
+    static int32_t list[MAX_LIST], proof[MAX_LIST];
+    size_t count = below(MAX_LIST_VARIABLES + 1), few = count < 3 ? count : below(count + 1);
+    size_t len = any_list(chance(50) ? count : few, list), proof_len = any_list(below(few + 1), proof);
+    if (chance(70))
+        len = without_empty(list, len);
+    if (chance(50))
+        proof_len = without_empty(proof, proof_len);
+    uint64_t n = chance(97) ? count : PICK(13, 0x7fffffff, 0x80000000u, (uint64_t)1 << 32, UINT64_MAX);
+    int32_t *words = lent(CLAUSES, len * sizeof *words), *refutation = lent(REFUTATION, proof_len * sizeof *refutation);
+    memcpy(words, list, len * sizeof *words);
+    memcpy(refutation, proof, proof_len * sizeof *refutation);
+    size_t values_len = near(count);
+    uint8_t *values = lent(ASSIGNED, values_len);
+    uint64_t *answer = lent(ANSWER, 2 * sizeof *answer);
+    keep(CLAUSES);
+    keep(REFUTATION);
+    keep(ASSIGNED);
+    keep(ANSWER);
+    uint64_t code = stm_refute(n, words, len, refutation, proof_len, values, values_len, answer);
+    ended("refute", code, SET(CLAUSES) | SET(REFUTATION), SET(ASSIGNED) | SET(ANSWER));
+    require(code == 0 || code == 16 || STM_NUMBER(code) == 17, "refute", "no such refusal", code);
+    require(STM_PLACE(code) <= len + proof_len, "refute", "no such place", code);
+    if (code)
+        return;
+    same(ASSIGNED, (size_t)n, "refute");
+    for (size_t i = 0; i < n; i++)
+        require(values[i] == 0, "refute", "leaves values set", values[i]);
+    require_answer(answer, refutation, proof_len);
+    if (answer[0] == 0)
+        require_unsatisfiable(n, words, len);
+}
+
 /* A few frames' worth of values, of which some are flags. */
 static void call_decode(void)
 {
@@ -1118,7 +1189,10 @@ static void call_owners(void)
 }
 
 /* The program, in this process. */
-static char path[64], piece_path[64];
+static char path[64], piece_path[64], proof_path[64];
+
+/* `stm refute` by its exit status: accepted, not accepted, refused or misused. */
+static uint64_t proofs_found[3];
 
 /* Mostly a number that is taken. */
 static const char *any_number(void)
@@ -1158,10 +1232,33 @@ static int any_owners(char words[MAX_ARGS][MAX_WORD])
     return 4 + count;
 }
 
+/* The longest proof that is made. */
+enum { MAX_PROOF = 1024 };
+
+/* Lines of DRAT text, in some proofs also what is none. Answers the length. */
+static size_t any_proof(char text[MAX_PROOF])
+{
+    static const char *const lines[] = {
+        "0\n", "0\n", "1 0\n", "1 -1 0\n", "2 -2 3 0\n", "2 3 -4 0\n", "d 1 0\n", "d 0\n", "c 1\n", "\n", " 1\t0 \r\n", "-9 0\n",
+        "d 2147483647 0\n", "x\n", "1\n", "d\n", "0 0\n", "-\n", "-0 0\n", "2147483648 0\n", "-2147483649 0\n",
+        "-2147483648 0\n", "2147483647 0\n", "a\n", "c",
+    };
+    enum { GOOD = 13, MAX_LINES = 24 };
+    size_t len = 0, kinds = chance(60) ? GOOD : sizeof lines / sizeof lines[0];
+    text[0] = '\0';
+    for (size_t count = below(MAX_LINES); count > 0; count--) {
+        strcat(text, lines[below(kinds)]);
+        len = strlen(text);
+    }
+    for (size_t count = len && chance(15) ? 1 + below(3) : 0; count > 0; count--)
+        text[below(len)] = (char)word();
+    return chance(10) ? below(len + 1) : len;
+}
+
 /* The words of a command, and their number. */
 static int any_command(char words[MAX_ARGS][MAX_WORD])
 {
-    static const char *const commands[] = {"check", "replay", "size", "cnf", "verdict", "verdict", "owners", "solve"};
+    static const char *const commands[] = {"check", "replay", "size", "cnf", "verdict", "verdict", "refute", "owners", "solve"};
     strcpy(words[0], "stm");
     strcpy(words[1], commands[below(sizeof commands / sizeof commands[0])]);
     strcpy(words[2], chance(98) ? path : "/nowhere/none.stm");
@@ -1170,11 +1267,14 @@ static int any_command(char words[MAX_ARGS][MAX_WORD])
     strcpy(words[5], chance(90) ? "5" : any_number());
     if (strcmp(words[1], "replay") == 0 && chance(40))
         any_words(words[4], chance(90) ? 16 : 410);
+    int refutes = strcmp(words[1], "refute") == 0;
+    if (refutes)
+        strcpy(words[5], chance(98) ? proof_path : "/nowhere/none.drat");
     if (strcmp(words[1], "owners") == 0)
         return any_owners(words);
     if (chance(5))
         return 1 + (int)below(6);
-    return strcmp(words[1], "check") == 0 ? 3 : strcmp(words[1], "verdict") == 0 ? 6 : 5;
+    return strcmp(words[1], "check") == 0 ? 3 : strcmp(words[1], "verdict") == 0 || refutes ? 6 : 5;
 }
 
 /* The owners' formulas, with the piece and without, are short at this bound, or it is refused. */
@@ -1202,7 +1302,7 @@ static int keep_short(char words[MAX_ARGS][MAX_WORD], int argc)
     int search = strcmp(words[1], "verdict") == 0;
     if (search && affordable(property, 1, sizes) == 0)
         strcpy(words[4], "0");
-    if (!search && strcmp(words[1], "cnf"))
+    if (!search && strcmp(words[1], "cnf") && strcmp(words[1], "refute"))
         return argc;
     if (!sizes_of(property, strtoull(words[4], NULL, 10), sizes) || sizes[SIZE_WORDS] <= MAX_WORDS)
         return argc;
@@ -1240,11 +1340,18 @@ static void call_stm(void)
         argc = put_option(words, argc);
     write_file(path, design, design_len);
     write_file(piece_path, piece, piece_len);
+    char proof[MAX_PROOF];
+    int refutes = strcmp(words[1], "refute") == 0;
+    if (refutes)
+        write_file(proof_path, (const uint8_t *)proof, any_proof(proof));
     for (int i = 0; i < argc; i++)
         argv[i] = words[i];
     int status = stm_main(argc, argv);
     count_call("stm", status == 2);
-    require(status == 0 || status == 2 || status == 10 || status == 20, "stm", "another exit status", (uint64_t)status);
+    int usual = status == 0 || status == 2 || (refutes ? status == 1 : status == 10 || status == 20);
+    require(usual, "stm", "another exit status", (uint64_t)status);
+    if (refutes)
+        proofs_found[status]++;
     if (argc == 3 && strcmp(words[1], "check") == 0 && strcmp(words[2], path) == 0)
         require(status == (design_code ? 2 : 0), "stm", "check does not tell CHECK's refusal", (uint64_t)status);
 }
@@ -1257,7 +1364,7 @@ static const struct operation {
     {"check", call_check, 2},   {"start", call_start, 2},   {"step", call_step, 4},       {"holds", call_holds, 3},
     {"replay", call_replay, 4}, {"size", call_size, 3},     {"encode", call_encode, 3},   {"encode", call_parts, 1},
     {"solve", call_solve, 4},   {"decode", call_decode, 3}, {"verdict", call_verdict, 2}, {"stm", call_stm, 3},
-    {"owners", call_owners, 1},
+    {"owners", call_owners, 1}, {"refute", call_refute, 4},
 };
 
 enum { OPERATIONS = sizeof operations / sizeof operations[0], MAX_SHARES = 64 };
@@ -1279,8 +1386,8 @@ static void choose(const char *list)
 }
 
 /* In so many calls some are on a formula with too many variables, some choices have an event read and no guard, some both, some
- * pieces are taken and some refused, some steps set the mark and some marks are refused, some counts of owners are wrong, and some
- * owners are clean, some violated, some spent, and some refused by 8, 14 and 16. */
+ * pieces are taken and some refused, some steps set the mark and some marks are refused, every answer of REFUTE comes, some counts
+ * of owners are wrong, and some owners are clean, some violated, some spent, and some refused by 8, 14 and 16. */
 enum { MANY_CALLS = 50000 };
 
 static void require_all_seen(const char *list)
@@ -1295,6 +1402,10 @@ static void require_all_seen(const char *list)
         fault("no piece was taken, or none refused");
     if (strstr(list, "step") && (marks_set == 0 || marks_refused == 0))
         fault("no step set the mark, or no mark was refused");
+    if (strstr(list, "refute") && (!refutations_found[0] || !refutations_found[1] || !refutations_found[2]))
+        fault("no refutation was accepted, or no clause did not follow, or none ended");
+    if (strstr(list, "stm") && (!proofs_found[0] || !proofs_found[1] || !proofs_found[2]))
+        fault("stm refute accepted no proof, turned none down, or refused none");
     if (!strstr(list, "owners"))
         return;
     if (!wrong_counts || !owners_refused[8] || !owners_refused[14] || !owners_refused[16])
@@ -1311,6 +1422,21 @@ static void report_owners(void)
             owners_refused[8], owners_refused[14], owners_refused[16], wrong_counts);
 }
 
+static void report_refutations(void)
+{
+    fprintf(report, "refutations accepted %" PRIu64 ", with a clause that does not follow %" PRIu64 ", ended %" PRIu64 "; ",
+            refutations_found[0], refutations_found[1], refutations_found[2]);
+    fprintf(report, "by stm: accepted %" PRIu64 ", not %" PRIu64 ", refused %" PRIu64 "\n", proofs_found[0], proofs_found[1],
+            proofs_found[2]);
+}
+
+static void name_files(void)
+{
+    snprintf(path, sizeof path, "/tmp/stm-fuzz-%ld.stm", (long)getpid());
+    snprintf(piece_path, sizeof piece_path, "/tmp/stm-fuzz-%ld.piece", (long)getpid());
+    snprintf(proof_path, sizeof proof_path, "/tmp/stm-fuzz-%ld.drat", (long)getpid());
+}
+
 int main(int argc, char **argv)
 {
     uint64_t count;
@@ -1324,8 +1450,7 @@ int main(int argc, char **argv)
     choose(argv[3]);
     for (int i = 4; i < argc; i++)
         read_design_file(argv[i]);
-    snprintf(path, sizeof path, "/tmp/stm-fuzz-%ld.stm", (long)getpid());
-    snprintf(piece_path, sizeof piece_path, "/tmp/stm-fuzz-%ld.piece", (long)getpid());
+    name_files();
     if (share_count == 0)
         fault("no operation is chosen");
     while (calls < count) {
@@ -1336,6 +1461,7 @@ int main(int argc, char **argv)
     }
     unlink(path);
     unlink(piece_path);
+    unlink(proof_path);
     for (size_t i = 0; i < file_count; i++)
         free(files[i]);
     for (size_t i = 0; i < REGIONS; i++)
@@ -1347,6 +1473,7 @@ int main(int argc, char **argv)
             calls, too_many_variables, events_read, guards_read);
     fprintf(report, "%" PRIu64 " pieces, %" PRIu64 " bad ones; ", pieces_taken + pieces_refused, pieces_refused);
     fprintf(report, "marks set %" PRIu64 ", refused %" PRIu64 "\n", marks_set, marks_refused);
+    report_refutations();
     report_owners();
     fclose(report);
     return 0;

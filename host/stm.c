@@ -9,7 +9,7 @@
 #include <string.h>
 
 /* Exit statuses. */
-enum { CLEAN = 0, REFUSED = 2, VIOLATED = 10, SPENT = 20 };
+enum { CLEAN = 0, NOT_ACCEPTED = 1, REFUSED = 2, VIOLATED = 10, SPENT = 20 };
 
 /* A design file and a piece are at most 16,384 bytes; one byte more is read, so that a longer one is seen to be too long. */
 enum { MAX_READ = 16385, MAX_CHOICES = 100 };
@@ -20,6 +20,9 @@ enum { INTEGER = 1, INVARIANT = 0, CONSTRAINT = 2, UNSAT = 1 };
 /* Refusal 8 at place 0: no item with an expression stands there in a design, so it is the piece's. */
 enum { BAD_PIECE = 8 };
 
+/* The refusal of a clause list, and of a refutation, whose places count on from the list's length. */
+enum { BAD_LIST = 17 };
+
 /* State bits of an integer, of a status, and of a Boolean or the mark. */
 enum { INTEGER_BITS = 16, STATUS_BITS = 4, ONE_BIT = 1 };
 
@@ -29,13 +32,15 @@ static const char USAGE[] =
     "       stm size FILE PROPERTY BOUND\n"
     "       stm cnf FILE PROPERTY BOUND\n"
     "       stm verdict FILE PROPERTY BOUND [BUDGET]\n"
+    "       stm refute FILE PROPERTY BOUND PROOF      (DRAT text, as cadical --no-binary writes)\n"
     "       stm owners FILE BOUND PIECEFILE[:BUDGET]..      (one to four; an empty PIECEFILE is the invariant)\n"
     "       --piece PIECEFILE, anywhere after FILE but for check and owners: its expression is property 0 in the invariant's place\n"
     "property: 0 the invariant, 1 no invalid cell is met, 2 the constraint of a design of version 2\n"
     "replay: the run, whether it breaks the property, and how many events and guards of the chosen cells were read\n"
+    "refute: whether the proof shows that no run within the bound breaks the property, or its first line that does not follow\n"
     "owners: the verdict on each owner's piece, each with a budget of its own, by one call\n"
-    "exit status: 0 clean or done, 10 violated, 20 budget spent, 2 refused or misused; of several owners the first of 10, 2, 20\n"
-    "             that one of them has";
+    "exit status: 0 clean, accepted or done, 10 violated, 20 budget spent, 1 proof not accepted, 2 refused or misused; of several\n"
+    "             owners the first of 10, 2, 20 that one of them has";
 
 static const char *meaning(unsigned number)
 {
@@ -84,6 +89,8 @@ static int misuse_file(const char *message, const char *path)
     fprintf(stderr, "stm: %s %s: %s\n", message, path, strerror(errno));
     return REFUSED;
 }
+
+#include "drat.h"
 
 /* What every command works on. */
 struct job {
@@ -247,15 +254,26 @@ static void start_from(const struct job *j, const struct state *s, int32_t *clau
 /* The words of a choice's unit clause. */
 enum { FLAG_WORDS = 2 };
 
-/* All parts of the formula for bound 0 or 1, which has one choice: then also the unit clause of its flag. Answers the words. */
+/* All parts of the formula, in memory for so many words as SIZE answers; *at is then the words. Answers ENCODE's refusal, or 0. */
+static uint64_t put_parts(const struct job *j, const uint64_t sizes[SIZE_LEN], uint64_t bound, int32_t *clauses, size_t *at)
+{
+    size_t len = (size_t)sizes[SIZE_WORDS];
+    uint64_t code = 0;
+    *at = 0;
+    for (uint64_t part = 0; !code && part <= bound + 2; part++) {
+        uint64_t count[1] = {0};
+        code = stm_encode(j->design, j->len, j->piece, j->piece_len, j->property, bound, part, clauses + *at, len - *at, count);
+        *at += (size_t)count[0];
+    }
+    return code;
+}
+
+/* The formula for bound 0 or 1, which has one choice: then also the unit clause of its flag. Answers the words. The run is one that
+ * REPLAY accepts, so ENCODE does not refuse. */
 static size_t put_formula(const struct job *j, const uint64_t sizes[SIZE_LEN], uint64_t bound, uint8_t choice, int32_t *clauses)
 {
-    size_t at = 0, len = (size_t)sizes[SIZE_WORDS];
-    for (uint64_t part = 0; part <= bound + 2; part++) {
-        uint64_t count[1] = {0};
-        stm_encode(j->design, j->len, j->piece, j->piece_len, j->property, bound, part, clauses + at, len - at, count);
-        at += (size_t)count[0];
-    }
+    size_t at;
+    put_parts(j, sizes, bound, clauses, &at);
     if (bound == 0)
         return at;
     clauses[at] = (int32_t)(2 + sizes[SIZE_STATE] + sizes[SIZE_PROPERTY] + choice);
@@ -446,6 +464,66 @@ static int verdict(struct job *j)
     return status;
 }
 
+/* What the call on a refutation answers. */
+enum { ACCEPTED, DOES_NOT_FOLLOW };
+
+/* Only a literal of the proof is refused: the list is ENCODE's, and every clause of the proof is closed. */
+static int refuse_proof(const struct proof *p, uint64_t code, uint64_t list_len, uint64_t n)
+{
+    if (STM_NUMBER(code) != BAD_LIST || STM_PLACE(code) < list_len)
+        return refuse(code);
+    printf("refused %u at %" PRIu64 ": a literal in line %" PRIu64 " of the proof is none of the formula's %" PRIu64 " variables\n",
+           STM_NUMBER(code), STM_PLACE(code), line_of(p, STM_PLACE(code) - list_len), n);
+    return REFUSED;
+}
+
+static int print_refutation(const struct proof *p, const uint64_t answer[2])
+{
+    switch (answer[0]) {
+    case ACCEPTED:
+        printf("accepted: %zu clauses, %zu words\n", p->clauses, p->len);
+        return CLEAN;
+    case DOES_NOT_FOLLOW:
+        printf("line %" PRIu64 " does not follow\n", line_of(p, answer[1]));
+        return NOT_ACCEPTED;
+    default:
+        printf("ended without an empty clause\n");
+        return NOT_ACCEPTED;
+    }
+}
+
+static int refute_by(const struct job *j, const struct proof *p)
+{
+    uint64_t sizes[SIZE_LEN], answer[2] = {0};
+    uint64_t code = stm_size(j->design, j->len, j->piece, j->piece_len, j->property, j->bound, sizes);
+    if (code)
+        return refuse(code);
+    uint64_t n = sizes[SIZE_VARIABLES];
+    int32_t *list = lend(sizes[SIZE_WORDS], sizeof *list);
+    uint8_t *values = lend(n, sizeof *values);
+    int status = list && values ? 0 : too_large();
+    size_t len = 0;
+    if (!status && (code = put_parts(j, sizes, j->bound, list, &len)))
+        status = refuse(code);
+    if (!status) {
+        code = stm_refute(n, list, len, p->words, p->len, values, (size_t)n, answer);
+        status = code ? refuse_proof(p, code, len, n) : print_refutation(p, answer);
+    }
+    free(list);
+    free(values);
+    return status;
+}
+
+static int refute(const struct job *j, const char *path)
+{
+    struct proof p;
+    int status = read_proof(path, &p);
+    if (!status)
+        status = refute_by(j, &p);
+    free_proof(&p);
+    return status;
+}
+
 /* The parts of an owner's answer: the refusal's number and place, and from OWNER_VERDICT on what VERDICT answers. */
 enum { OWNER_NUMBER, OWNER_PLACE, OWNER_VERDICT, OWNER_LEN = 5 };
 
@@ -579,7 +657,7 @@ static int take_piece(int argc, char **argv, const char **piece)
     return left;
 }
 
-/* The words after FILE: PROPERTY, then CHOICES or BOUND, then BUDGET. */
+/* The words after FILE: PROPERTY, then CHOICES or BOUND, then BUDGET or PROOF. */
 static int run_property(struct job *j, int argc, char **argv)
 {
     const char *command = argv[1];
@@ -593,6 +671,8 @@ static int run_property(struct job *j, int argc, char **argv)
     failed = read_number(argv[4], UINT64_MAX, &j->bound);
     if (failed)
         return failed;
+    if (strcmp(command, "refute") == 0)
+        return refute(j, argv[5]);
     j->budget = UINT64_MAX;
     if (argc == 6 && (failed = read_number(argv[5], UINT64_MAX, &j->budget)))
         return failed;
@@ -634,6 +714,8 @@ static int fits(int argc, char **argv, const char *piece)
         return argc >= 4 && !piece;
     if (strcmp(argv[1], "replay") == 0 || strcmp(argv[1], "size") == 0 || strcmp(argv[1], "cnf") == 0)
         return argc == 5;
+    if (strcmp(argv[1], "refute") == 0)
+        return argc == 6;
     return strcmp(argv[1], "verdict") == 0 && (argc == 5 || argc == 6);
 }
 

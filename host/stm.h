@@ -78,6 +78,16 @@ uint64_t stm_encode(const uint8_t *design, size_t design_len, const uint8_t *pie
 uint64_t stm_solve(uint64_t n, const int32_t *words, size_t words_len, uint8_t *values, size_t values_len, uint32_t *trail,
                    size_t trail_len, uint64_t budget, uint64_t answer[2]);
 
+/* REFUTE: 17, 16. Reads a clause list over n variables and a refutation of it in the same form. A clause of the refutation
+ * follows if it holds a literal and its negation, or if, with all its literals set false, the search's unit setting over the
+ * list and the earlier clauses of the refutation reaches a clause all false. Reading ends at the first empty clause that
+ * follows; what is accepted has no satisfying assignment. 17 tests all of the list, then all of the refutation, whose places
+ * count on from words_len. answer[0] is 0 where the refutation is accepted, 1 where a clause of it does not follow, and
+ * answer[1] then the word of the refutation at which the first such clause begins, 2 where it ended without an empty clause;
+ * answer[1] is else 0. The first n values are 0 after every answer, the rest is kept. */
+uint64_t stm_refute(uint64_t n, const int32_t *words, size_t words_len, const int32_t *refutation, size_t refutation_len,
+                    uint8_t *values, size_t values_len, uint64_t answer[2]);
+
 /* DECODE: 13, 8 for the piece, 14, 19, 16, 18. Writes `bound` choices and keeps the rest. */
 uint64_t stm_decode(const uint8_t *design, size_t design_len, const uint8_t *piece, size_t piece_len, uint64_t property,
                     uint64_t bound, const uint8_t *values, size_t values_len, uint8_t *choices, size_t choices_len);

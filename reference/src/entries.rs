@@ -80,6 +80,13 @@ macro_rules! entries {
                 (budget: u64)
                 (answer: *mut [u64; 2])
             ];
+            stm_refute[
+                (n: u64)
+                (words: *const i32, words_len: usize)
+                (refutation: *const i32, refutation_len: usize)
+                (values: *mut u8, values_len: usize)
+                (answer: *mut [u64; 2])
+            ];
             stm_decode[
                 (design: *const u8, design_len: usize, piece: *const u8, piece_len: usize, property: u64)
                 (bound: u64)

@@ -13,12 +13,13 @@ mod near;
 mod owners;
 mod pieces;
 mod products;
+mod refutations;
 pub mod trees;
 
 use crate::random::Random;
 
 /// The operations, each with its share of the requests.
-const SHARES: [(&str, usize); 12] = [
+const SHARES: [(&str, usize); 13] = [
     ("check", 4),
     ("start", 1),
     ("step", 3),
@@ -27,6 +28,7 @@ const SHARES: [(&str, usize); 12] = [
     ("size", 2),
     ("encode", 2),
     ("solve", 3),
+    ("refute", 3),
     ("decode", 2),
     ("verdict", 2),
     ("owners", 2),
@@ -78,6 +80,7 @@ impl Generator {
             "size" => calls::size(random),
             "encode" => calls::encode(random),
             "solve" => lists::solve(random),
+            "refute" => refutations::refute(random),
             "decode" => calls::decode(random),
             "verdict" => calls::verdict(random),
             "owners" => owners::owners(random),

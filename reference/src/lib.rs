@@ -17,6 +17,7 @@ pub mod programs;
 pub mod protocol;
 pub mod query;
 pub mod random;
+pub mod refute;
 pub mod search;
 pub mod step;
 pub mod verdict;

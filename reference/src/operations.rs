@@ -6,6 +6,7 @@ use crate::formula::{self, Size};
 use crate::owners::{self, Owner, Shared, Told};
 use crate::programs;
 use crate::query::Query;
+use crate::refute::{self, Refuted};
 use crate::search::{self, Solved};
 use crate::step::{self, Replayed, State, Stepped};
 use crate::verdict::{self, Lent, Verdict};
@@ -75,6 +76,17 @@ pub trait Operations {
         trail: &mut [u32],
         budget: u64,
     ) -> Answer<Solved> {
+        Answer::Missing
+    }
+
+    /// The list, then the refutation.
+    fn refute(
+        &mut self,
+        n: u64,
+        words: &[i32],
+        refutation: &[i32],
+        values: &mut [u8],
+    ) -> Answer<Refuted> {
         Answer::Missing
     }
 
@@ -166,6 +178,16 @@ impl Operations for Reference {
         budget: u64,
     ) -> Answer<Solved> {
         search::solve(n, words, values, trail, budget).into()
+    }
+
+    fn refute(
+        &mut self,
+        n: u64,
+        words: &[i32],
+        refutation: &[i32],
+        values: &mut [u8],
+    ) -> Answer<Refuted> {
+        refute::refute(n, words, refutation, values).into()
     }
 
     fn decode(

@@ -6,6 +6,7 @@ use crate::formula::Size;
 use crate::operations::{Answer, Operations};
 use crate::owners::{Ask, Owner, Shared, Told};
 use crate::query::Query;
+use crate::refute::Refuted;
 use crate::search::Outcome;
 use crate::step::State;
 use crate::verdict::{Finding, Lent, Verdict};
@@ -47,6 +48,9 @@ fn answered(operations: &mut impl Operations, request: &str) -> Option<String> {
         ["step", d, v, s, mark, choice] => step(operations, d, state(v, s, mark)?, choice),
         ["holds", d, v, s, mark, property] => holds(operations, d, state(v, s, mark)?, property),
         ["solve", n, words, ref rest @ ..] => solve(operations, n, words, rest),
+        ["refute", n, words, refutation, length] => {
+            refute(operations, n, words, refutation, length)
+        }
         ["owners", d, bound, clauses, values, trail, ref each @ ..] => {
             owners(operations, d, bound, Buffers::new(clauses, values, trail)?, each)
         }
@@ -151,6 +155,23 @@ fn solve(operations: &mut impl Operations, n: &str, words: &str, rest: &[&str]) 
             Outcome::Spent => "spent",
         };
         format!("ok {outcome} {} {}", solved.tries, list_text(front(&values, n)))
+    })
+}
+
+fn refute(
+    operations: &mut impl Operations,
+    n: &str,
+    words: &str,
+    refutation: &str,
+    length: &str,
+) -> Option<String> {
+    let (words, refutation): (Vec<i32>, Vec<i32>) = (list(words)?, list(refutation)?);
+    let mut values: Vec<u8> = lent(length)?;
+    let answer = operations.refute(number(n)?, &words, &refutation, &mut values);
+    finish_with(answer, &memory_text(&[hash(&values)]), |refuted| match refuted {
+        Refuted::Accepted => "ok accepted".to_string(),
+        Refuted::Word(word) => format!("ok word {word}"),
+        Refuted::Ended => "ok ended".to_string(),
     })
 }
 

@@ -40,7 +40,8 @@ pub fn solve(
     Ok(Solved { outcome, tries: search.tries })
 }
 
-fn check_list(n: u64, words: &[i32]) -> Result<(), Refusal> {
+/// 17: a list of clauses over n variables, each closed by a 0.
+pub fn check_list(n: u64, words: &[i32]) -> Result<(), Refusal> {
     if n > MAX_VARIABLE {
         return Err(refusal(17, 0));
     }

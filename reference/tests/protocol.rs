@@ -37,6 +37,7 @@ fn one_reply_of_each_operation() {
     assert_eq!(with_design("trace D - 0 -"), "0 - 0 1 0 0 | 0;holds");
     assert!(with_design("encode D - 0 3 5 6").starts_with("ok 5 -104,-588,-1072,-1556,0 mem "));
     assert!(answer("solve 2 1,0 2 2 9").starts_with("ok sat 1 1,0 mem "));
+    assert!(answer("refute 2 1,0,-1,0 2,0,0 2").starts_with("ok accepted mem "));
     assert!(with_design("verdict D - 0 0 0 1050 104 104 0").starts_with("ok clean 0 mem "));
 }
 
@@ -60,7 +61,6 @@ fn a_refusal_has_a_number_and_a_place() {
 /// The examples of docs/PROTOCOL.md, as they stand there.
 #[test]
 fn the_examples_of_the_document() {
-    let document = include_str!("../../docs/PROTOCOL.md");
     for (start, design, count) in [
         ("With the file of Design A as D (", design_a(), 9),
         ("With the file of `designs/moved.stm`", moved(), 6),
@@ -70,20 +70,37 @@ fn the_examples_of_the_document() {
         ("With the file of `designs/barrier.stm`", barrier(), 4),
         ("With the file of Design A as D, and pieces", design_a(), 11),
     ] {
-        let section = document.lines().skip_while(|line| !line.starts_with(start)).skip(1);
-        let rows = section.take_while(|line| !line.starts_with("With "));
-        let mut examples = 0;
-        for row in rows.filter(|line| line.starts_with("| `")) {
-            let words: Vec<&str> = row.split('`').collect();
-            let [_, request, _, expected, _] = words[..] else {
-                panic!("{row}");
-            };
-            let request = request.replace('D', &hex(&file_bytes(&design)));
-            assert_eq!(answer(&request), expected, "{row}");
-            examples += 1;
+        let examples = examples(start);
+        for [request, expected] in &examples {
+            let with_file = request.replace('D', &hex(&file_bytes(&design)));
+            assert_eq!(answer(&with_file), *expected, "{request}");
         }
-        assert_eq!(examples, count);
+        assert_eq!(examples.len(), count);
     }
+}
+
+/// The rows of requests and replies after the line that starts so.
+fn examples(start: &str) -> Vec<[&'static str; 2]> {
+    let document = include_str!("../../docs/PROTOCOL.md");
+    let section = document.lines().skip_while(|line| !line.starts_with(start)).skip(1);
+    let rows = section.take_while(|line| !line.starts_with("With "));
+    let fields = rows.filter(|line| line.starts_with("| `")).map(|row| row.split('`').collect());
+    fields
+        .map(|fields: Vec<&str>| match fields[..] {
+            [_, request, _, expected, _] => [request, expected],
+            _ => panic!("{fields:?}"),
+        })
+        .collect()
+}
+
+#[test]
+fn the_examples_of_refutations_in_the_document() {
+    const LIST: &str = "1,2,0,1,-2,0,-1,2,0,-1,-2,0";
+    let examples = examples(&format!("With `{LIST}` as L"));
+    for [request, expected] in &examples {
+        assert_eq!(answer(&request.replace('L', LIST)), *expected, "{request}");
+    }
+    assert_eq!(examples.len(), 13);
 }
 
 /// They stand as lines by turns, since a reply has bars.
@@ -172,6 +189,14 @@ fn malformed_requests() {
         "solve 1 1,,0 1 1 0",
         "solve 1 +1,0 1 1 0",
         "solve 1 9999999999,0 1 1 0",
+        "refute 1 - -",
+        "refute 1 - - 1 1",
+        "refute -1 - - 1",
+        "refute 18446744073709551616 - - 1",
+        "refute 1 1,0 2147483648,0 1",
+        "refute 1 1,,0 - 1",
+        "refute 1 -  1",
+        "refute 1 - - 268435457",
         "size 00 - 18446744073709551616 0",
         "size 00 - 0 18446744073709551616",
         "trace 00 - 256 -",

@@ -6,5 +6,7 @@ pub mod Writing
 -- SOLVE and VERDICT
 pub mod Solving
 pub mod Judging
+-- REFUTE
+pub mod Refuting
 -- several owners
 pub mod Owning

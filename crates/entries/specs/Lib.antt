@@ -3,5 +3,6 @@ pub mod Code
 pub mod Step
 pub mod Clauses
 pub mod Solve
+pub mod Refute
 pub mod Verdict
 pub mod Owners

@@ -5,5 +5,6 @@ pub mod clause_writer;
 mod code;
 pub mod judge;
 pub mod owners;
+pub mod refute;
 pub mod solve;
 pub mod step_rule;

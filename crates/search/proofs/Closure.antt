@@ -9,13 +9,8 @@ use lib.Dec.{eqb}
 use borrow.Author.Tests.{eqb-true, eqb-false}
 use Rattle.clauses.specs.Literal.{Literal, positive, negative, Clause}
 use Rattle.search.specs.Search.{Value, unset, is, Settings, Values, valueOf, opposite, literalValue, Scan, allFalse, unit, someTrue, several, scanOne, join, scan, isFalse, conflict, nothing, found, orElse, firstUnit, forced}
-use Rattle.search.specs.AnyOrder.{IsUnit, Quiet}
+use Rattle.search.specs.AnyOrder.{IsUnit, Quiet, Settles, done, more}
 use Rattle.search.proofs.Counting.{valueOf-other, valueOf-same}
-
--- unit settings, of any units and any number of them
-pub data Settles (cs : List Clause) : Settings → Settings → Type 0 where
-  done : {ss : Settings} → Settles cs ss ss
-  more : {ss ss₁ : Settings} (l : Literal) → IsUnit (valueOf ss) cs l → Settles cs (forced l ∷ ss) ss₁ → Settles cs ss ss₁
 
 -- values that hold more
 abbrev Below : Values → Values → Type 0

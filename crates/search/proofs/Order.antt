@@ -11,11 +11,11 @@ use Rattle.clauses.specs.Meaning.{Within}
 use Rattle.search.specs.Search.{Value, is, Setting, Settings, Values, valueOf, conflict, Place, none, at, isUnset, lowestUnset, Turn, sets, takes, satisfied, refuted, forced, branchFalse, branchTrue, undo, branch, turn, noBudget, upTo, Answer, SAT, UNSAT, SPENT, Outcome, run, solved}
 use Rattle.search.specs.Answers.{declaredAnswer}
 use Rattle.search.specs.Solve.{bitOf, valuesFrom, valuesLeft}
-use Rattle.search.specs.AnyOrder.{IsUnit, Quiet, Move, by-conflict, by-unit, by-branch}
+use Rattle.search.specs.AnyOrder.{IsUnit, Quiet, Settles, done, more, Move, by-conflict, by-unit, by-branch}
 use Rattle.search.proofs.Counting.{ahead}
 use Rattle.search.proofs.Sound.{Good, Ok, turn-move, turn-ok}
 use Rattle.search.proofs.Ending.{start-falls, tried-least, search-budget}
-use Rattle.search.proofs.Closure.{Settles, done, more, Same, same-sym, calm-all, one-closure}
+use Rattle.search.proofs.Closure.{Same, same-sym, calm-all, one-closure}
 
 -- a search that sets units in any order, and goes back from any conflict it meets: from settings, after t tries, it comes to an answer after r
 pub data Any (n : ℕ) (cs : List Clause) : Settings → ℕ → Answer → ℕ → Type 0 where

@@ -97,7 +97,7 @@ passing-end ws from i p g =
 
 -- where clauses start
 pub starts-zero : (ws : List ℤ) → closed ws ≡ true → Starts ws 0
-starts-zero ws c = record { before = []; split = refl; closes = c }
+starts-zero ws c = record { low = omega arith; before = []; split = refl; closes = c }
 
 pub record Clause₁ (ws : List ℤ) (i : ℕ) : Type 0 where
   pub ends : hasEnd (drop i ws) ≡ true
@@ -114,10 +114,11 @@ a-clause ws i c l =
       closes = rw q (closed-rest false (getD ws i (pos 0)) (drop (suc i) ws) (rw q at c));
     }
 
-pub starts-past : (ws : List ℤ) (i r : ℕ) → Starts ws i → i < length ws → drop r ws ≡ restWords (drop i ws) → Starts ws r
-starts-past ws i r s l e =
+pub starts-past : (ws : List ℤ) (i r : ℕ) → Starts ws i → i < length ws → r ≤ length ws → drop r ws ≡ restWords (drop i ws) → Starts ws r
+starts-past ws i r s l b e =
     let c = a-clause ws i (s .closes) l in
     record {
+      low = b;
       before = s .before ++ (firstClause (drop i ws) ∷ []);
       split =
           s .split ∙ ap (λ (ds : List Clause). s .before ++ ds) (c .split ∙ ap (λ (x : List ℤ). firstClause (drop i ws) ∷ clausesOf x) (sym e))

@@ -161,7 +161,7 @@ abbrev pub AllSkipped : Values → List Clause → Type 0
 AllSkipped σ [] = Unit {0}
 AllSkipped σ (c ∷ cs) = Skipped (scan σ c) × AllSkipped σ cs
 
-skipped-quiet : (σ : Values) (ds cs : List Clause) → AllSkipped σ ds → Quiet σ cs → Quiet σ (ds ++ cs)
+pub skipped-quiet : (σ : Values) (ds cs : List Clause) → AllSkipped σ ds → Quiet σ cs → Quiet σ (ds ++ cs)
 skipped-quiet σ [] cs d q = q
 skipped-quiet σ (c ∷ ds) cs d q =
     let h = go (scan σ c) (d .0) (skipped-quiet σ ds cs (d .1) q) in
@@ -204,15 +204,15 @@ literal-is : (z : ℤ) → literalFrom (natAbs z) (signOf z) ≡ literalOfWord z
 literal-is (pos v) = refl
 literal-is (negsuc v) = refl
 
-sign-bit : (z : ℤ) → signOf z ≤ 1
+pub sign-bit : (z : ℤ) → signOf z ≤ 1
 sign-bit (pos v) = le-refl 1
 sign-bit (negsuc v) = omega arith
 
 module _ {ws : List ℤ} {vs : List ℕ} {from i : ℕ} {found : Found} (h : Outer ws vs from i found) where
-  pub outer-end : length ws ≤ i → Finds ws (valueAt vs) (clausesOf (drop from ws)) found
+  pub outer-end : length ws ≤ i → Finds (Starts ws) (valueAt vs) (clausesOf (drop from ws)) found
   outer-end l =
       let q : clausesOf (drop from ws) ≡ h .passed ++ [] = h .split ∙ ap (λ (x : List ℤ). h .passed ++ clausesOf x) (drop-of-length-le ws {i = i} l) in
-      subst (Finds ws (valueAt vs) (clausesOf (drop from ws))) (sym (h .none))
+      subst (Finds (Starts ws) (valueAt vs) (clausesOf (drop from ws))) (sym (h .none))
       (subst (Quiet (valueAt vs)) (sym q) (skipped-quiet (valueAt vs) (h .passed) [] (h .skipped) (record { calm = refl; closed = refl })))
 
   module _ (l : i < length ws) where
@@ -226,7 +226,7 @@ module _ {ws : List ℤ} {vs : List ℕ} {from i : ℕ} {found : Found} (h : Out
     outer-next {k} {r} d n q =
         let e : drop r ws ≡ restWords (drop i ws) = q .rest ∙ n .passing .rest in
         record {
-          starts = starts-past ws i r (h .starts) l e;
+          starts = starts-past ws i r (h .starts) l (q .low) e;
           none = h .none;
           passed = h .passed ++ (firstClause (drop i ws) ∷ []);
           skipped = skipped-more (valueAt vs) (h .passed) (firstClause (drop i ws)) (h .skipped) d;
@@ -242,13 +242,13 @@ module _ {ws : List ℤ} {vs : List ℕ} {from i : ℕ} {found : Found} (h : Out
       g : isEnd (getD ws k (pos 0)) ≡ true
       g = sym word ∙ not-false ended stops
 
-      pub outer-conflict : spot ≡ 0 → Finds ws (valueAt vs) (clausesOf (drop from ws)) Conflict
+      pub outer-conflict : spot ≡ 0 → Finds (Starts ws) (valueAt vs) (clausesOf (drop from ws)) Conflict
       outer-conflict z =
           subst (λ (cs : List Clause). conflict (valueAt vs) cs ≡ true) (sym whole)
           (conflict-after (valueAt vs) (h .passed) (firstClause (drop i ws) ∷ clausesOf (restWords (drop i ws)))
           (ap (λ (s : Scan). isFalse s || conflict (valueAt vs) (clausesOf (restWords (drop i ws)))) (inner-end n g ∙ ap (partly ws) z)))
 
-      pub outer-unit : {v b : ℕ} → (spot ≡ 0 → ⊥) → v ≡ natAbs (getD ws (spot - 1) (pos 0)) → b ≡ signOf (getD ws (spot - 1) (pos 0)) → UnitFound ws (valueAt vs) (clausesOf (drop from ws)) v b (k + 1)
+      pub outer-unit : {v b : ℕ} → (spot ≡ 0 → ⊥) → v ≡ natAbs (getD ws (spot - 1) (pos 0)) → b ≡ signOf (getD ws (spot - 1) (pos 0)) → UnitFound (Starts ws) (valueAt vs) (clausesOf (drop from ws)) v b (k + 1)
       outer-unit {v} {b} z p q =
           let w = getD ws (spot - 1) (pos 0) in
           record {
@@ -257,7 +257,7 @@ module _ {ws : List ℤ} {vs : List ℕ} {from i : ℕ} {found : Found} (h : Out
                 (unit-after (valueAt vs) (h .passed) (firstClause (drop i ws) ∷ clausesOf (restWords (drop i ws))) (literalFrom v b)
                 (inl (inner-end n g ∙ was spot z ∙ ap unit (sym (literal-is w)) ∙ ap₂ (λ (x y : ℕ). unit (literalFrom x y)) (sym p) (sym q))));
             bit = subst (λ (x : ℕ). x ≤ 1) (sym q) (sign-bit w);
-            starts = rw (add-one k) (starts-past ws i (suc k) (h .starts) l (inside-end ws k (n .passing .ends) g .0 ∙ n .passing .rest));
+            starts = rw (add-one k) (starts-past ws i (suc k) (h .starts) l (inner-low n) (inside-end ws k (n .passing .ends) g .0 ∙ n .passing .rest));
           }
         where
           was : (s : ℕ) → (s ≡ 0 → ⊥) → partly ws s ≡ unit (literalOfWord (getD ws (s - 1) (pos 0)))
@@ -275,22 +275,14 @@ some-found Nothing o = miss (1 ∷ 2 ∷ []) 0 tt o
 some-found Conflict o = tt
 some-found (UnitAt v b next) o = tt
 
-module _ (ws : List ℤ) (vs : List ℕ) (from : ℕ) (r : Found) where
-  pub finds-zero : from ≡ 0 → Finds ws (valueAt vs) (clausesOf (drop from ws)) r → Finds ws (valueAt vs) (clausesOf ws) r
-  finds-zero e f = subst (λ (k : ℕ). Finds ws (valueAt vs) (clausesOf (drop k ws)) r) e f
+pub found-after : (P : ℕ → Type 0) (σ : Values) (cs ds : List Clause) (r : Found) → Some r → Finds P σ ds r → Finds P σ (cs ++ ds) r
+found-after P σ cs ds Nothing s f = absurd s
+found-after P σ cs ds Conflict s f = conflict-after σ cs ds f
+found-after P σ cs ds (UnitAt v b next) s f = record { unit = unit-after σ cs ds (literalFrom v b) (f .unit); bit = f .bit; starts = f .starts }
 
-  pub finds-whole : Starts ws from → Some r → Finds ws (valueAt vs) (clausesOf (drop from ws)) r → Finds ws (valueAt vs) (clausesOf ws) r
-  finds-whole s = go r
-    where
-      go : (r : Found) → Some r → Finds ws (valueAt vs) (clausesOf (drop from ws)) r → Finds ws (valueAt vs) (clausesOf ws) r
-      go Nothing k f = absurd k
-      go Conflict k f =
-          subst (λ (cs : List Clause). conflict (valueAt vs) cs ≡ true) (sym (s .split)) (conflict-after (valueAt vs) (s .before) (clausesOf (drop from ws)) f)
-      go (UnitAt v b next) k f =
-          record {
-            unit =
-                subst (λ (cs : List Clause). IsUnit (valueAt vs) cs (literalFrom v b)) (sym (s .split))
-                (unit-after (valueAt vs) (s .before) (clausesOf (drop from ws)) (literalFrom v b) (f .unit));
-            bit = f .bit;
-            starts = f .starts;
-          }
+module _ (ws : List ℤ) (vs : List ℕ) (from : ℕ) (r : Found) where
+  pub finds-zero : from ≡ 0 → Finds (Starts ws) (valueAt vs) (clausesOf (drop from ws)) r → Finds (Starts ws) (valueAt vs) (clausesOf ws) r
+  finds-zero e f = subst (λ (k : ℕ). Finds (Starts ws) (valueAt vs) (clausesOf (drop k ws)) r) e f
+
+  pub finds-whole : Starts ws from → Some r → Finds (Starts ws) (valueAt vs) (clausesOf (drop from ws)) r → Finds (Starts ws) (valueAt vs) (clausesOf ws) r
+  finds-whole s k f = subst (λ (cs : List Clause). Finds (Starts ws) (valueAt vs) cs r) (sym (s .split)) (found-after (Starts ws) (valueAt vs) (s .before) (clausesOf (drop from ws)) r k f)

@@ -10,7 +10,7 @@ use lib.Dec.{eqb}
 use borrow.Author.Tests.{eqb-true, eqb-false}
 use Rattle.clauses.specs.Literal.{Literal, positive, negative, variableOf, Clause}
 use Rattle.clauses.specs.Meaning.{Assignment, literalTrue, clauseTrue, satisfies, ClauseWithin, Within}
-use Rattle.search.specs.Search.{Value, unset, is, Setting, Settings, valueOf, opposite, literalValue, Scan, allFalse, unit, someTrue, several, scanOne, join, scan, isFalse, conflict, Place, none, at, isUnset, lowestUnset}
+use Rattle.search.specs.Search.{Value, unset, is, Setting, Settings, Values, valueOf, opposite, literalValue, Scan, allFalse, unit, someTrue, several, scanOne, join, scan, isFalse, conflict, Place, none, at, isUnset, lowestUnset}
 use Rattle.search.specs.AnyOrder.{IsUnit}
 
 -- an assignment follows settings: it has their values
@@ -48,11 +48,11 @@ Means ρ c (unit l) = clauseTrue ρ c ≡ literalTrue ρ l
 Means ρ c someTrue = clauseTrue ρ c ≡ true
 Means ρ c several = Unit {0}
 
-or-true : (b : Bool) → b || true ≡ true
+pub or-true : (b : Bool) → b || true ≡ true
 or-true true = refl
 or-true false = refl
 
-or-false : (b : Bool) → b || false ≡ b
+pub or-false : (b : Bool) → b || false ≡ b
 or-false true = refl
 or-false false = refl
 
@@ -72,36 +72,41 @@ scan-means ρ ss f [] = refl
 scan-means ρ ss f (l ∷ ls) = means-step ρ l ls (literalValue (valueOf ss) l) (follows-lit ρ ss f l) (scan (valueOf ss) ls) (scan-means ρ ss f ls)
 
 -- a unit's literal is unset, and of a variable in 1..n
-pub record Free (n : ℕ) (ss : Settings) (l : Literal) : Type 0 where
-  pub unset! : valueOf ss (variableOf l) ≡ unset
+pub record Free (n : ℕ) (σ : Values) (l : Literal) : Type 0 where
+  pub unset! : σ (variableOf l) ≡ unset
   pub low : 0 < variableOf l
   pub high : variableOf l ≤ n
 
-abbrev pub UnitFree : ℕ → Settings → Scan → Type 0
-UnitFree n ss allFalse = Unit {0}
-UnitFree n ss (unit l) = Free n ss l
-UnitFree n ss someTrue = Unit {0}
-UnitFree n ss several = Unit {0}
+abbrev pub UnitFree : ℕ → Values → Scan → Type 0
+UnitFree n σ allFalse = Unit {0}
+UnitFree n σ (unit l) = Free n σ l
+UnitFree n σ someTrue = Unit {0}
+UnitFree n σ several = Unit {0}
 
-unset-var : (ss : Settings) (l : Literal) → literalValue (valueOf ss) l ≡ unset → valueOf ss (variableOf l) ≡ unset
-unset-var ss (positive v) e = e
-unset-var ss (negative v) e = go (valueOf ss v) refl
+unset-var : (σ : Values) (l : Literal) → literalValue σ l ≡ unset → σ (variableOf l) ≡ unset
+unset-var σ (positive v) e = e
+unset-var σ (negative v) e = go (σ v) refl
   where
-    go : (x : Value) → valueOf ss v ≡ x → valueOf ss v ≡ unset
+    go : (x : Value) → σ v ≡ x → σ v ≡ unset
     go unset p = p
     go (is c) p = absurd (let q : is (not c) ≡ unset = rw p at e in let z : _≡_ {A = ℕ} 0 1 = cc in omega arith)
 
-free-step : (n : ℕ) (ss : Settings) (l : Literal) → 0 < variableOf l → variableOf l ≤ n → (x : Value) → literalValue (valueOf ss) l ≡ x → (r : Scan) → UnitFree n ss r → UnitFree n ss (join (scanOne l x) r)
-free-step n ss l a b unset e allFalse m = record { unset! = unset-var ss l e; low = a; high = b }
-free-step n ss l a b unset e (unit k) m = tt
-free-step n ss l a b unset e someTrue m = tt
-free-step n ss l a b unset e several m = tt
-free-step n ss l a b (is true) e r m = tt
-free-step n ss l a b (is false) e r m = m
+free-step : (n : ℕ) (σ : Values) (l : Literal) → 0 < variableOf l → variableOf l ≤ n → (x : Value) → literalValue σ l ≡ x → (r : Scan) → UnitFree n σ r → UnitFree n σ (join (scanOne l x) r)
+free-step n σ l a b unset e allFalse m = record { unset! = unset-var σ l e; low = a; high = b }
+free-step n σ l a b unset e (unit k) m = tt
+free-step n σ l a b unset e someTrue m = tt
+free-step n σ l a b unset e several m = tt
+free-step n σ l a b (is true) e r m = tt
+free-step n σ l a b (is false) e r m = m
 
-pub scan-free : (n : ℕ) (ss : Settings) (c : Clause) → ClauseWithin n c → UnitFree n ss (scan (valueOf ss) c)
-scan-free n ss [] w = tt
-scan-free n ss (l ∷ ls) w = free-step n ss l (w .0 .0) (w .0 .1) (literalValue (valueOf ss) l) refl (scan (valueOf ss) ls) (scan-free n ss ls (w .1))
+scan-free : (n : ℕ) (σ : Values) (c : Clause) → ClauseWithin n c → UnitFree n σ (scan σ c)
+scan-free n σ [] w = tt
+scan-free n σ (l ∷ ls) w = free-step n σ l (w .0 .0) (w .0 .1) (literalValue σ l) refl (scan σ ls) (scan-free n σ ls (w .1))
+
+pub unit-free : (n : ℕ) (σ : Values) (cs : List Clause) → Within n cs → (l : Literal) → IsUnit σ cs l → Free n σ l
+unit-free n σ [] w l u = absurd u
+unit-free n σ (c ∷ cs) w l (inl e) = subst (UnitFree n σ) e (scan-free n σ c (w .0))
+unit-free n σ (c ∷ cs) w l (inr u) = unit-free n σ cs (w .1) l u
 
 -- with every variable set a clause is all false or has a true literal
 abbrev pub AllSet : ℕ → Settings → Type 0
@@ -141,11 +146,11 @@ pub both-r : (a b : Bool) → a && b ≡ true → b ≡ true
 both-r true b e = e
 both-r false b e = absurd (true≢false (sym e))
 
-neither-l : (a b : Bool) → a || b ≡ false → a ≡ false
+pub neither-l : (a b : Bool) → a || b ≡ false → a ≡ false
 neither-l true b e = e
 neither-l false b e = refl
 
-neither-r : (a b : Bool) → a || b ≡ false → b ≡ false
+pub neither-r : (a b : Bool) → a || b ≡ false → b ≡ false
 neither-r true b e = absurd (true≢false e)
 neither-r false b e = e
 
@@ -163,19 +168,16 @@ conflict-no ρ ss f (c ∷ cs) e s =
 
 -- a unit: unset, and implied
 pub record Forced (n : ℕ) (cs : List Clause) (ss : Settings) (l : Literal) : Type 0 where
-  pub fresh : Free n ss l
+  pub fresh : Free n (valueOf ss) l
   pub implied : (ρ : Assignment) → Follows ρ ss → satisfies ρ cs ≡ true → literalTrue ρ l ≡ true
 
+pub unit-implied : (cs : List Clause) (ss : Settings) (l : Literal) → IsUnit (valueOf ss) cs l → (ρ : Assignment) → Follows ρ ss → satisfies ρ cs ≡ true → literalTrue ρ l ≡ true
+unit-implied [] ss l u ρ f s = absurd u
+unit-implied (c ∷ cs) ss l (inl e) ρ f s = sym (subst (Means ρ c) e (scan-means ρ ss f c)) ∙ both-l (clauseTrue ρ c) (satisfies ρ cs) s
+unit-implied (c ∷ cs) ss l (inr u) ρ f s = unit-implied cs ss l u ρ f (both-r (clauseTrue ρ c) (satisfies ρ cs) s)
+
 pub unit-forced : (n : ℕ) (cs : List Clause) (ss : Settings) → Within n cs → (l : Literal) → IsUnit (valueOf ss) cs l → Forced n cs ss l
-unit-forced n [] ss w l u = absurd u
-unit-forced n (c ∷ cs) ss w l (inl e) =
-    record {
-      fresh = subst (UnitFree n ss) e (scan-free n ss c (w .0));
-      implied = λ ρ f s. sym (subst (Means ρ c) e (scan-means ρ ss f c)) ∙ both-l (clauseTrue ρ c) (satisfies ρ cs) s;
-    }
-unit-forced n (c ∷ cs) ss w l (inr u) =
-    let h = unit-forced n cs ss (w .1) l u in
-    record { fresh = h .fresh; implied = λ ρ f s. h .implied ρ f (both-r (clauseTrue ρ c) (satisfies ρ cs) s) }
+unit-forced n cs ss w l u = record { fresh = unit-free n (valueOf ss) cs w l u; implied = unit-implied cs ss l u }
 
 -- all set and no conflict: satisfied
 pub settled : (n : ℕ) (ρ : Assignment) (ss : Settings) → Follows ρ ss → AllSet n ss → (cs : List Clause) → Within n cs → conflict (valueOf ss) cs ≡ false → satisfies ρ cs ≡ true

@@ -78,7 +78,7 @@ module _
         go SPENT k = refl
 
 -- SOLVE's cases
-no-place : (p : Place) → Nowhere ≡ declaredSpot p → p ≡ none
+pub no-place : (p : Place) → Nowhere ≡ declaredSpot p → p ≡ none
 no-place none e = refl
 no-place (at i) e = absurd (let z : _≡_ {A = ℕ} 0 1 = cc in omega arith)
 

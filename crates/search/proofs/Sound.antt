@@ -144,7 +144,7 @@ module _ (n : ℕ) (cs : List Clause) (ss : Settings) (w : Within n cs) (g : Goo
   move-ok (by-branch q) = branch-ok (q .calm) (lowestUnset (valueOf ss) 1 n) (lowest-right ss 1 n)
 
 -- document 01's turn is a move
-first-unit : (σ : Values) (cs : List Clause) (l : Literal) → firstUnit σ cs ≡ found l → IsUnit σ cs l
+pub first-unit : (σ : Values) (cs : List Clause) (l : Literal) → firstUnit σ cs ≡ found l → IsUnit σ cs l
 first-unit σ [] l e = absurd (let z : _≡_ {A = ℕ} 0 1 = cc in omega arith)
 first-unit σ (c ∷ cs) l e = go (scan σ c) refl e (first-unit σ cs l)
   where

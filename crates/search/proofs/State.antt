@@ -36,15 +36,15 @@ settings-keep n vs tr tr′ v b (suc t) h a p u =
     ap₂ _∷_ (ap (settingAt (set vs (v - 1) b)) w ∙ q)
     (settings-keep n vs tr tr′ v b t h (λ i l. a i (omega arith)) (p .1) (unset-before s ss v u))
 
-byte-bit : (b : ℕ) → b ≤ 1 → valueOfByte b ≡ is (eqb b 1)
+pub byte-bit : (b : ℕ) → b ≤ 1 → valueOfByte b ≡ is (eqb b 1)
 byte-bit zero h = refl
 byte-bit (suc zero) h = refl
 byte-bit (suc (suc b)) h = absurd (omega arith)
 
-value-other : (vs : List ℕ) (v w b : ℕ) → 0 < v → 0 < w → (w ≡ v → ⊥) → valueAt (set vs (v - 1) b) w ≡ valueAt vs w
+pub value-other : (vs : List ℕ) (v w b : ℕ) → 0 < v → 0 < w → (w ≡ v → ⊥) → valueAt (set vs (v - 1) b) w ≡ valueAt vs w
 value-other vs v w b hv hw ne = ap valueOfByte (getD-set-other vs (v - 1) (w - 1) b 0 (λ e. ne (omega arith)))
 
-value-same : (vs : List ℕ) (v b : ℕ) → 0 < v → v ≤ length vs → valueAt (set vs (v - 1) b) v ≡ valueOfByte b
+pub value-same : (vs : List ℕ) (v b : ℕ) → 0 < v → v ≤ length vs → valueAt (set vs (v - 1) b) v ≡ valueOfByte b
 value-same vs v b hv hl = ap valueOfByte (getD-set-same vs (v - 1) b 0 (omega arith))
 
 -- one more setting

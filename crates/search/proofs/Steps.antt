@@ -16,7 +16,7 @@ use Rattle.clauses.specs.Words.{clausesOf}
 use Rattle.search.specs.Search.{Value, unset, Setting, Values, valueOf, opposite, literalValue, Scan, scanOne, join, scan, isFalse, conflict, orElse, firstUnit, Place, none, at, isUnset, lowestUnset, sets, takes, forced, branchTrue, undo, branch}
 use Rattle.search.specs.Answers.{declaredSpot}
 use Rattle.search.specs.AnyOrder.{IsUnit, Quiet, Move, by-conflict, by-unit, by-branch}
-use Rattle.search.specs.Memory.{valueAt, literalFrom, Finds, settingsOf, Settable, Assigned, Undone, ReadyTrail, AfterTurn}
+use Rattle.search.specs.Memory.{valueAt, Agree, Starts, literalFrom, Finds, settingsOf, Settable, Assigned, Undone, ReadyTrail, AfterTurn}
 use Rattle.search.proofs.Scans.{Free, unit-forced, LowestAt, LowestRight, lowest-right}
 use Rattle.search.proofs.Counting.{count-set}
 use Rattle.search.proofs.Reading.{within-words}
@@ -26,10 +26,6 @@ use Rattle.search.specs.declared.scan.Found.{Found}
 use Rattle.search.specs.declared.scan.Found.the-variants.{Nothing, Conflict, Unit as UnitAt}
 use Rattle.search.specs.declared.run.Step.the-variants.{Goes, Tries, Sat as AllSat, Unsat as NoneLeft}
 
--- values that agree on 1..n
-abbrev Agree : ℕ → Values → Values → Type 0
-Agree n σ τ = (v : ℕ) → 0 < v → v ≤ n → σ v ≡ τ v
-
 lit-ext : (n : ℕ) (σ τ : Values) → Agree n σ τ → (l : Literal) → 0 < variableOf l → variableOf l ≤ n → literalValue σ l ≡ literalValue τ l
 lit-ext n σ τ h (positive v) a b = h v a b
 lit-ext n σ τ h (negative v) a b = ap opposite (h v a b)
@@ -38,7 +34,7 @@ scan-ext : (n : ℕ) (σ τ : Values) → Agree n σ τ → (c : Clause) → Cla
 scan-ext n σ τ h [] w = refl
 scan-ext n σ τ h (l ∷ ls) w = ap₂ (λ (x : Value) (y : Scan). join (scanOne l x) y) (lit-ext n σ τ h l (w .0 .0) (w .0 .1)) (scan-ext n σ τ h ls (w .1))
 
-conflict-ext : (n : ℕ) (σ τ : Values) → Agree n σ τ → (cs : List Clause) → Within n cs → conflict σ cs ≡ conflict τ cs
+pub conflict-ext : (n : ℕ) (σ τ : Values) → Agree n σ τ → (cs : List Clause) → Within n cs → conflict σ cs ≡ conflict τ cs
 conflict-ext n σ τ h [] w = refl
 conflict-ext n σ τ h (c ∷ cs) w = ap₂ (λ (x : Scan) (y : Bool). isFalse x || y) (scan-ext n σ τ h c (w .0)) (conflict-ext n σ τ h cs (w .1))
 
@@ -51,22 +47,22 @@ lowest-ext σ τ v zero h = refl
 lowest-ext σ τ v (suc k) h =
     ap₂ (λ (x : Value) (y : Place). cond (isUnset x) (at v) y) (h v (le-refl v) (omega arith)) (lowest-ext σ τ (suc v) k (λ u a b. h u (omega arith) (omega arith)))
 
-is-unit-ext : (n : ℕ) (σ τ : Values) → Agree n σ τ → (cs : List Clause) → Within n cs → (l : Literal) → IsUnit τ cs l → IsUnit σ cs l
+pub is-unit-ext : (n : ℕ) (σ τ : Values) → Agree n σ τ → (cs : List Clause) → Within n cs → (l : Literal) → IsUnit τ cs l → IsUnit σ cs l
 is-unit-ext n σ τ h [] w l u = u
 is-unit-ext n σ τ h (c ∷ cs) w l (inl e) = inl (scan-ext n σ τ h c (w .0) ∙ e)
 is-unit-ext n σ τ h (c ∷ cs) w l (inr u) = inr (is-unit-ext n σ τ h cs (w .1) l u)
 
-quiet-ext : (n : ℕ) (σ τ : Values) → Agree n σ τ → (cs : List Clause) → Within n cs → Quiet τ cs → Quiet σ cs
+pub quiet-ext : (n : ℕ) (σ τ : Values) → Agree n σ τ → (cs : List Clause) → Within n cs → Quiet τ cs → Quiet σ cs
 quiet-ext n σ τ h cs w q = record { calm = conflict-ext n σ τ h cs w ∙ q .calm; closed = unit-ext n σ τ h cs w ∙ q .closed }
 
-variable-is : (v b : ℕ) → variableOf (literalFrom v b) ≡ v
+pub variable-is : (v b : ℕ) → variableOf (literalFrom v b) ≡ v
 variable-is v b = go (eqb b 1)
   where
     go : (c : Bool) → variableOf (cond c (positive v) (negative v)) ≡ v
     go true = refl
     go false = refl
 
-forced-is : (v b : ℕ) → forced (literalFrom v b) ≡ record { variable = v; value = eqb b 1; first = eqb 0 1 }
+pub forced-is : (v b : ℕ) → forced (literalFrom v b) ≡ record { variable = v; value = eqb b 1; first = eqb 0 1 }
 forced-is v b = go (eqb b 1)
   where
     go : (c : Bool) → forced (cond c (positive v) (negative v)) ≡ record { variable = v; value = c; first = eqb 0 1 }
@@ -92,9 +88,9 @@ module _ {n : ℕ} {ws : List ℤ} {vs tr : List ℕ} {t from low : ℕ} (h : Re
       record { low = a; high = b; small = omega arith; room = omega arith }
 
   -- after a scan that found r
-  module _ (r : Found) (f : Finds ws (valueAt vs) (clausesOf ws) r) where
-    finds : {q : Found} → r ≡ q → Finds ws (valueAt vs) (clausesOf ws) q
-    finds e = subst (Finds ws (valueAt vs) (clausesOf ws)) e f
+  module _ (r : Found) (f : Finds (Starts ws) (valueAt vs) (clausesOf ws) r) where
+    finds : {q : Found} → r ≡ q → Finds (Starts ws) (valueAt vs) (clausesOf ws) q
+    finds e = subst (Finds (Starts ws) (valueAt vs) (clausesOf ws)) e f
 
     -- a conflict
     undoes : r ≡ Conflict → Move n (clausesOf ws) (settingsOf vs tr t) (undo (settingsOf vs tr t))
@@ -120,7 +116,7 @@ module _ {n : ℕ} {ws : List ℤ} {vs tr : List ℕ} {t from low : ℕ} (h : Re
       is-unit : IsUnit (valueOf (settingsOf vs tr t)) (clausesOf ws) (literalFrom v b)
       is-unit = is-unit-ext n (valueOf (settingsOf vs tr t)) (valueAt vs) agree (clausesOf ws) w (literalFrom v b) (finds e .unit)
 
-      fresh : Free n (settingsOf vs tr t) (literalFrom v b)
+      fresh : Free n (valueOf (settingsOf vs tr t)) (literalFrom v b)
       fresh = unit-forced n (clausesOf ws) (settingsOf vs tr t) w (literalFrom v b) is-unit .fresh
 
       free : valueOf (settingsOf vs tr t) v ≡ unset

@@ -18,6 +18,11 @@ pub record Quiet (σ : Values) (cs : List Clause) : Type 0 where
   pub calm : conflict σ cs ≡ false
   pub closed : firstUnit σ cs ≡ nothing
 
+-- unit settings, of any units and any number of them
+pub data Settles (cs : List Clause) : Settings → Settings → Type 0 where
+  done : {ss : Settings} → Settles cs ss ss
+  more : {ss ss₁ : Settings} (l : Literal) → IsUnit (valueOf ss) cs l → Settles cs (forced l ∷ ss) ss₁ → Settles cs ss ss₁
+
 -- a turn of such a search
 pub data Move (n : ℕ) (cs : List Clause) (ss : Settings) : Turn → Type 0 where
   by-conflict : conflict (valueOf ss) cs ≡ true → Move n cs ss (undo ss)

@@ -3,4 +3,5 @@ pub mod Search
 pub mod Answers
 pub mod Solve
 pub mod AnyOrder
+pub mod Refutation
 pub mod Memory

@@ -5,13 +5,14 @@ use mathlib.Core.List.{List, [], _∷_, _++_}
 use Prim.Native.Nat.{ℕ, zero, suc, _+_, _*_, _-_, _^_, _/_, _%_, _<_, _≤_}
 use lib.Dec.{ltb, eqb}
 use lib.IntN.{ℤ, pos, negsuc, natAbs}
-use lib.ListN.{length, getD, drop, set, replicate}
+use lib.ListN.{length, getD, drop, take, set, replicate}
 use Rattle.clauses.specs.Literal.{Literal, positive, negative, Clause}
 use Rattle.clauses.specs.Words.{isEnd, literalOfWord, clausesOf}
 use Rattle.search.specs.Search.{Value, unset, is, Setting, Settings, Values, valueOf, conflict, isUnset, sets, takes, satisfied, refuted, undo, upTo, Answer, SAT, UNSAT, SPENT, Outcome, solved}
 use Rattle.search.specs.Answers.{declaredSolved}
 use Rattle.search.specs.Solve.{valuesFrom, valuesLeft}
 use Rattle.search.specs.AnyOrder.{IsUnit, Quiet, Move}
+use Rattle.search.specs.Refutation.{setFalse, reaches, holdsBoth, follows}
 use Rattle.search.specs.declared.scan.Found.{Found}
 use Rattle.search.specs.declared.scan.Found.the-variants.{Nothing, Conflict, Unit as UnitAt}
 use Rattle.search.specs.declared.run.Step.{Step}
@@ -51,6 +52,7 @@ pub record Past (ws : List ℤ) (from r : ℕ) : Type 0 where
 
 -- a clause starts at a place, or the list ends there
 pub record Starts (ws : List ℤ) (from : ℕ) : Type 0 where
+  pub low : from ≤ length ws
   pub before : List Clause
   pub split : clausesOf ws ≡ before ++ clausesOf (drop from ws)
   pub closes : closed (drop from ws) ≡ true
@@ -73,6 +75,10 @@ valueOfByte x = cond (ltb 1 x) unset (is (eqb x 1))
 abbrev pub valueAt : List ℕ → Values
 valueAt vs v = valueOfByte (getD vs (v - 1) 0)
 
+-- values that agree on the variables 1..n
+abbrev pub Agree : ℕ → Values → Values → Type 0
+Agree n σ τ = (v : ℕ) → 0 < v → v ≤ n → σ v ≡ τ v
+
 -- a value as a number: 2 for unset
 abbrev pub valueCode : Value → ℕ
 valueCode unset = 2
@@ -83,16 +89,16 @@ valueCode (is false) = 0
 abbrev pub literalFrom : ℕ → ℕ → Literal
 literalFrom v b = cond (eqb b 1) (positive v) (negative v)
 
--- what a scan finds among clauses: a unit comes with the place at which to read on
-pub record UnitFound (ws : List ℤ) (σ : Values) (cs : List Clause) (v b next : ℕ) : Type 0 where
+-- what a scan finds among clauses: a unit comes with the place at which to read on, of which `Start` says that a clause starts there
+pub record UnitFound (Start : ℕ → Type 0) (σ : Values) (cs : List Clause) (v b next : ℕ) : Type 0 where
   pub unit : IsUnit σ cs (literalFrom v b)
   pub bit : b ≤ 1
-  pub starts : Starts ws next
+  pub starts : Start next
 
-abbrev pub Finds : List ℤ → Values → List Clause → Found → Type 0
-Finds ws σ cs Nothing = Quiet σ cs
-Finds ws σ cs Conflict = conflict σ cs ≡ true
-Finds ws σ cs (UnitAt v b next) = UnitFound ws σ cs v b next
+abbrev pub Finds : (ℕ → Type 0) → Values → List Clause → Found → Type 0
+Finds Start σ cs Nothing = Quiet σ cs
+Finds Start σ cs Conflict = conflict σ cs ≡ true
+Finds Start σ cs (UnitAt v b next) = UnitFound Start σ cs v b next
 
 -- A trail word is twice its variable, and 1 more for a branch still at its first value. The settings of the first t words:
 abbrev pub settingAt : List ℕ → ℕ → Setting
@@ -126,7 +132,7 @@ pub record TrailAgrees (n : ℕ) (vs tr : List ℕ) (t : ℕ) : Type 0 where
   pub values : length vs ≡ n
   pub trail : length tr ≡ n
   pub proper : Proper n (settingsOf vs tr t)
-  pub looks : (v : ℕ) → 0 < v → v ≤ n → valueOf (settingsOf vs tr t) v ≡ valueAt vs v
+  pub looks : Agree n (valueOf (settingsOf vs tr t)) (valueAt vs)
   pub count : t + unsetCount (settingsOf vs tr t) 1 n ≡ n
 
 -- a variable in 1..n, and room on a trail that has t words
@@ -195,3 +201,47 @@ pub record Leaves (o : Outcome) (n : ℕ) (r : Solved) (vs tr : List ℕ) : Type
   pub result : r ≡ declaredSolved o
   pub values : vs ≡ valuesLeft n (o .answer)
   pub trail : tr ≡ replicate n 0
+
+-- REFUTE. Settings and values say the same of every variable.
+abbrev pub Agrees : Settings → List ℕ → Type 0
+Agrees ss vs = Agree (length vs) (valueOf ss) (valueAt vs)
+
+-- what setting a clause's literals false comes to: whether it holds a literal and its negation, and else the values
+abbrev pub Denied : Clause → Bool → List ℕ → Type 0
+Denied c true vs = holdsBoth c ≡ true
+Denied c false vs = (holdsBoth c ≡ false) × Agrees (setFalse [] c) vs
+
+-- two word lists of clauses over n variables, which memory holds beside each other
+pub record Two (n : ℕ) (ws ds : List ℤ) : Type 0 where
+  pub inside : AllIn n ws
+  pub closes : closed ws ≡ true
+  pub inside₂ : AllIn n ds
+  pub closes₂ : closed ds ≡ true
+
+-- a place in the second of them, counted on from `base`; and a place in either, the second's counting on from the first's length
+abbrev pub StartsAfter : ℕ → List ℤ → ℕ → Type 0
+StartsAfter base ds i = (base ≤ i) × Starts ds (i - base)
+
+abbrev pub StartsTwo : List ℤ → List ℤ → ℕ → Type 0
+StartsTwo ws ds i = (i < length ws → Starts ws i) × (length ws ≤ i → Starts ds (i - length ws))
+
+-- the clauses from such a place on, and all of them
+abbrev pub clausesFrom : List ℤ → List ℤ → ℕ → List Clause
+clausesFrom ws ds i = clausesOf (drop i ws) ++ clausesOf (drop (i - length ws) ds)
+
+abbrev pub bothOf : List ℤ → List ℤ → List Clause
+bothOf ws ds = clausesOf ws ++ clausesOf ds
+
+-- whether unit setting from these values reaches a clause all false
+abbrev pub Reaches : List Clause → List ℕ → Bool → Type 0
+Reaches cs vs r = (ss : Settings) → Agrees ss vs → r ≡ reaches (length vs) cs ss
+
+-- a refutation read up to a place, at which a clause starts or the words end
+pub record ReadTo (ds : List ℤ) (i : ℕ) : Type 0 where
+  pub low : i ≤ length ds
+  pub before : closed (take i ds) ≡ true
+  pub after : closed (drop i ds) ≡ true
+
+-- whether the clause there follows from the list and from the clauses before it
+abbrev pub followsAt : ℕ → List ℤ → List ℤ → ℕ → Bool
+followsAt n ws ds i = follows n (bothOf ws (take i ds)) (firstClause (drop i ds))

@@ -59,7 +59,7 @@ leaves n o values trail =
       trail = replicate n 0 ++ drop n trail;
     }
 
-abbrev pub atPlace : Place → (ℕ → After) → After → After
+abbrev pub atPlace : {A : Type 0} → Place → (ℕ → A) → A → A
 atPlace none f a = a
 atPlace (at i) f a = f i
 

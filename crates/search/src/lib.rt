@@ -1,4 +1,4 @@
-// The search: SOLVE.
+// The search: SOLVE; and REFUTE, which sets units as it does.
 ghost use mathlib.Core.Path.{_≡_};
 ghost use lib.ListN.{length};
 ghost use Rattle.search.specs.Solve.{solve as solveOf};
@@ -10,6 +10,7 @@ mod scan; // the scan for units and conflicts
 mod trail; // setting a variable, the lowest unset one, undoing
 mod run; // the turns
 pub mod fill; // filling lent memory
+pub mod refute; // REFUTE
 
 use fill::fill8;
 use fill::fill32;

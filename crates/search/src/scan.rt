@@ -39,7 +39,7 @@ pub fn literal(words: &[i32], values: &[u8], at: usize) -> u8
 // there; a clause is left at its first true literal and at its second unset position, which settle that it is neither.
 pub fn scan_from(words: &[i32], values: &[u8], from: usize) -> Found
     requires { ⌜ AllIn (length (now values)) (now words) × Starts (now words) from ⌝ }
-    ensures { λ r. ⌜ Finds (now (words .entry)) (valueAt (now (values .entry))) (clausesOf (drop from (now (words .entry)))) r ⌝ }
+    ensures { λ r. ⌜ Finds (Starts (now (words .entry))) (valueAt (now (values .entry))) (clausesOf (drop from (now (words .entry)))) r ⌝ }
 {
     let mut found = Found::Nothing;
     let mut i = from;
@@ -79,7 +79,7 @@ pub fn scan_from(words: &[i32], values: &[u8], from: usize) -> Found
 // goes on where the last unit was found.
 pub fn scan(words: &[i32], values: &[u8], from: usize) -> Found
     requires { ⌜ AllIn (length (now values)) (now words) × Starts (now words) from × (closed (now words) ≡ true) ⌝ }
-    ensures { λ r. ⌜ Finds (now (words .entry)) (valueAt (now (values .entry))) (clausesOf (now (words .entry))) r ⌝ }
+    ensures { λ r. ⌜ Finds (Starts (now (words .entry))) (valueAt (now (values .entry))) (clausesOf (now (words .entry))) r ⌝ }
 {
     let found = scan_from(words, values, from);
     if from == 0 {

@@ -7,6 +7,7 @@ pub mod Sized
 pub mod Judging
 pub mod Calls
 pub mod Witness
+pub mod Refuted
 pub mod Theorem
 -- the table of document 01's marked cases
 pub mod Table

@@ -22,9 +22,10 @@ use Rattle.clauses.specs.Admission.{admit}
 use Rattle.clauses.specs.Decode.{flagValues, chosenFrom, choicesOf, choicesToWrite, decode}
 use Rattle.search.specs.Search.{turn, solved}
 use Rattle.search.specs.Solve.{solve}
+use Rattle.search.specs.Refutation.{follows, refute}
 use Rattle.verdict.specs.Verdict.{searched, judgedFrom, judge, memoryLeft, roomFor, verdict}
 use Rattle.verdict.specs.Owners.{alone, eachOwner, owners}
-use Rattle.verdict.specs.Table.{AllHold, twoExternals, bareCases, pieceCases, passingCases, ownerCases, table}
+use Rattle.verdict.specs.Table.{AllHold, twoExternals, designTwo, bareCases, pieceCases, passingCases, ownerCases, refutedCases, table}
 
 bare-hold : AllHold bareCases
 unfolding bytesA pieceA bytesMoved bytesNoIdle designA designMoved designNoIdle count checking stepping pieceRight gate onDesign eventReadOf guardReadOf eventReadBy guardReadBy countFrom firstBreak encoding signed wrap turn solved solve
@@ -86,6 +87,10 @@ passing-hold = (
 owners-hold : AllHold (ownerCases ++ (passingCases ++ (pieceCases ++ bareCases)))
 unfolding twoExternals count checking onDesign owners eachOwner alone verdict admit gate pieceRight roomFor judge judgedFrom searched memoryLeft encoding turn solved signed wrap flagValues chosenFrom choicesOf choicesToWrite decode
 owners-hold = (refl, (refl, (refl, (refl, (refl, (refl, (refl, (refl, (refl, passing-hold)))))))))
+
+refuted-hold : AllHold (refutedCases ++ (ownerCases ++ (passingCases ++ (pieceCases ++ bareCases))))
+unfolding twoExternals designTwo checking encoding signed wrap follows refute
+refuted-hold = (refl, (refl, (refl, (refl, (refl, (refl, (refl, (refl, (refl, (refl, (refl, (refl, (refl, (refl, (refl, (refl, (refl, (refl, (refl, (refl, (refl, (refl, (refl, (refl, (refl, (refl, (refl, (refl, owners-hold))))))))))))))))))))))))))))
 
 pub table-holds : AllHold table
 unfolding bytesA pieceA bytesMoved bytesNoIdle designA designMoved designNoIdle count checking stepping pieceRight gate onDesign eventReadOf guardReadOf eventReadBy guardReadBy countFrom firstBreak encoding signed wrap turn solved solve
@@ -151,7 +156,7 @@ table-holds = (
                                                             models-multiplied-1,
                                                             (
                                                               models-multiplied-2,
-                                                              (refl, (refl, (refl, (refl, (refl, ((refl, refl), ((refl, refl), ((refl, refl), ((refl, refl), owners-hold))))))))),
+                                                              (refl, (refl, (refl, (refl, (refl, ((refl, refl), ((refl, refl), ((refl, refl), ((refl, refl), refuted-hold))))))))),
                                                             ),
                                                           ),
                                                         ),

@@ -24,6 +24,7 @@ use Rattle.verdict.proofs.Judging.{Known, Violated, judge-right, known-
 use Rattle.clauses.proofs.Within.{n-up}
 use Rattle.verdict.proofs.Witness.{decodes, witness}
 use Rattle.verdict.proofs.Isolation.{owner-counted, equals-alone}
+use Rattle.verdict.proofs.Refuted.{joined, refuted}
 
 of-formula : (d : Design) (p : Property) (k : ℕ) → Theorem d p k → OfFormula d p k
 unfolding searched
@@ -95,4 +96,6 @@ demand-3 file piece bytes all d e = record {
   decode = λ p k low right few numbers. decodes file piece d e p low right k few numbers (theorem-of-file file piece bytes all d e p k);
   verdict = λ p k budget lent told h. of-verdict file piece d e p k budget lent (theorem-of-file file piece bytes all d e p) told (answered file piece d e p k budget lent told h);
   owners = λ k count lent pieces budgets choices i o h same told q. of-owner file piece bytes all d e k count lent pieces budgets choices i o h same told q;
+  joined = λ p k low right few numbers. joined file piece d e p k low right few numbers;
+  refuted = λ p k. refuted file piece d e p k (theorem-of-file file piece bytes all d e p k);
 }

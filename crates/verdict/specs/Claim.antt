@@ -9,7 +9,8 @@ use mathlib.Core.Logic.{_↔_}
 use mathlib.Core.Bool.{true}
 use mathlib.Core.List.{List, [], _++_}
 use Prim.Native.Nat.{ℕ, zero, suc, _+_, _<_, _≤_}
-use lib.ListN.{length, drop}
+use lib.IntN.{ℤ}
+use lib.ListN.{length, take, drop}
 use Rattle.design.specs.Tree.{Design, movers}
 use Rattle.step.specs.Piece.{pieceRight}
 use Rattle.step.specs.Property.{Property, propertyOf}
@@ -21,9 +22,13 @@ use Rattle.clauses.specs.Words.{words, clausesOf}
 use Rattle.design.specs.Answer.{answer}
 use Rattle.step.specs.Limits.{lastProperty, maxBound}
 use Rattle.clauses.specs.Limits.{lastVariable}
+use Rattle.clauses.specs.Encode.{encode}
 use Rattle.clauses.specs.Decode.{decode}
 use Rattle.clauses.specs.Theorem.{Stored}
 use Rattle.search.specs.Search.{turn, Budget, noBudget, Ends}
+use Rattle.search.specs.Refutation.{refute}
+use Rattle.search.specs.declared.refute.Judged.the-variants.{Accepted}
+use Rattle.search.specs.declared.refute.Reply.the-variants.{Done}
 use Rattle.verdict.specs.Verdict.{Verdict, VIOLATED, CLEAN, SPENT-AT, Told, Memory, searched, verdict}
 use Rattle.verdict.specs.Owners.{Owner, Buffers, owners}
 use Rattle.verdict.specs.Isolation.{Owns, resultOf}
@@ -55,6 +60,21 @@ pub record OfFormula (d : Design) (q : Property) (k : ℕ) : Type 0 where
 abbrev pub Decodes : List ℕ → List ℕ → Design → ℕ → ℕ → Type 0
 Decodes file piece d p k = (ρ : Assignment) (values lent : List ℕ) → satisfies ρ (formula d (propertyOf file piece d p) k) ≡ true → Stored (n d (propertyOf file piece d p) k) ρ values
     → k ≤ length lent → decode file piece p k values lent ≡ record { answer = answer tt; choices = choices d (propertyOf file piece d p) ρ k ++ drop k lent }
+
+-- What an ENCODE call that was not refused has written of part i: as many words as it answers, at the front of the buffer that it was lent.
+pub record Wrote (file piece : List ℕ) (p k i : ℕ) (ws : List ℤ) : Type 0 where
+  pub lent : List ℤ
+  pub count : (encode file piece p k i lent) .answer ≡ answer (length ws)
+  pub written : take (length ws) ((encode file piece p k i lent) .buffer) ≡ ws
+
+-- "ENCODE's joined parts" (document 02, R-7): what such calls have written of parts i, i + 1, .., i + m - 1, one after the other
+abbrev pub Joined : List ℕ → List ℕ → ℕ → ℕ → ℕ → ℕ → List ℤ → Type 0
+Joined file piece p k zero i ws = ws ≡ []
+Joined file piece p k (suc m) i ws = (part : List ℤ) × (rest : List ℤ) × Wrote file piece p k i part × Joined file piece p k m (suc i) rest × (ws ≡ part ++ rest)
+
+-- the words of the formula for a bound
+abbrev pub formulaWords : Design → Property → ℕ → List ℤ
+formulaWords d q k = words (formula d q k)
 
 module _ (d : Design) (q : Property) where
   -- "A bound's tries are those the search makes on its formula with no budget set." That search ends (`ends`).
@@ -132,3 +152,10 @@ pub record Demand3 (file piece : List ℕ) (d : Design) : Type 0 where
   pub owners : (k count : ℕ) (lent : Buffers) (pieces : List (List ℕ)) (budgets : List ℕ) (choices : List (List ℕ)) (i : ℕ) (o : Owner) → Owns i count pieces budgets choices o → o .piece ≡ piece
       → (told : Told) → (resultOf i (owners file k lent count pieces budgets choices)) .answer ≡ answer told
       → OfVerdict d (propertyOf file piece d 0) k (o .budget) told (o .choices) ((resultOf i (owners file k lent count pieces budgets choices)) .choices)
+  -- where ENCODE is not refused for what `decode` names, its joined parts are the formula's words: parts 0 to k + 2
+  pub joined : (p k : ℕ) → p ≤ lastProperty file → pieceRight file piece p ≡ true → k ≤ maxBound → n d (propertyOf file piece d p) k ≤ lastVariable
+      → (list : List ℤ) → Joined file piece p k (k + 3) 0 list ↔ (list ≡ formulaWords d (propertyOf file piece d p) k)
+  -- Document 02, R-7: "Over ENCODE's joined parts, acceptance means that no run within the bound breaks the property." What R-7 says of REFUTE on any clause list
+  -- is `Right` (search/specs/Refutation).
+  pub refuted : (p k : ℕ) (list : List ℤ) → Joined file piece p k (k + 3) 0 list → (variables : ℕ) (refutation : List ℤ) (values : List ℕ)
+      → (refute variables list refutation values) .reply ≡ Done Accepted → Breakable d (propertyOf file piece d p) k → ⊥

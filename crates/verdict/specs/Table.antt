@@ -7,7 +7,7 @@ use mathlib.Core.Option.{none, some}
 use Prim.Native.Nat.{ℕ, zero, suc, _-_}
 use lib.IntN.{ℤ, pos, negℤ}
 use lib.ListN.{length, replicate}
-use Rattle.design.specs.Tree.{IntExpr, constant, Design}
+use Rattle.design.specs.Tree.{IntExpr, constant, constantB, variableB, notB, andB, external, Design}
 use Rattle.design.specs.Limits.{maxVariables}
 use Rattle.design.specs.Check.{accepted, check}
 use Rattle.design.specs.State.{layoutIn, start}
@@ -26,11 +26,16 @@ use Rattle.step.specs.StatusEventGuard.{eventsRead, guardsRead}
 use Rattle.step.specs.Operations.{firstBreak}
 use Rattle.clauses.specs.Expression.{leastOperand, largestOperand}
 use Rattle.clauses.specs.Formula.{S, P, w, G, F, n, lastClause, formula}
+use Rattle.clauses.specs.Words.{words}
 use Rattle.clauses.specs.Theorem.{Model, Exactly}
 use Rattle.search.specs.Solve.{solve}
 use Rattle.search.specs.declared.Answered.{Answered}
 use Rattle.search.specs.declared.Answered.the-variants.{Sat, Unsat, Spent}
 use Rattle.search.specs.declared.Reply.the-variants.{Done}
+use Rattle.search.specs.Refutation.{refute}
+use Rattle.search.specs.declared.refute.Judged.{Judged}
+use Rattle.search.specs.declared.refute.Judged.the-variants.{Accepted, Word, Ended}
+use Rattle.search.specs.declared.refute.Reply.the-variants as refuted
 use Rattle.verdict.specs.Owners.{Buffers, owners}
 use Rattle.verdict.specs.Answers.{ownersExit}
 
@@ -85,6 +90,20 @@ twoExternals =
     0x02 ∷ 0x10 ∷ 0x01 ∷
     0x12 ∷ 0x13 ∷ 0x11 ∷ 0x00 ∷ 0x11 ∷ 0x01 ∷
     0x01 ∷ 0x00 ∷ 0x02 ∷ 0x00 ∷ 0x06 ∷ 0x00 ∷ 0x01 ∷ 0x00 ∷ 0x08 ∷ 0x00 ∷ 0x0b ∷ 0x00 ∷ 0x00 ∷ 0x00 ∷ 0x0b ∷ 0x00 ∷ []
+
+-- its tree, and its property 0
+unfoldable pub designTwo : Design
+designTwo = record {
+  variables = record { kind = external; initial = 0 } ∷ record { kind = external; initial = 0 } ∷ [];
+  statuses = 1 ∷ [];
+  cells = [];
+  invalid = [];
+  invariant = notB (andB (variableB 0) (variableB 1));
+  constraint = constantB true;
+}
+
+abbrev notBoth : Subject
+notBoth = record { design = designTwo; property = propertyOf twoExternals noPiece designTwo 0 }
 
 -- pieces for it: external 0 is not raised, external 1 is not raised, and half an expression
 abbrev pieceFirst : List ℕ
@@ -165,6 +184,12 @@ pub data Case : Type 0 where
   operands : ℤ → ℤ → ℤ → Case
   -- SOLVE: n, words, budget; answer, tries and the values left
   solves : ℕ → List ℤ → ℕ → Answered → ℕ → List ℕ → Case
+  -- REFUTE: n, the list, the refutation; what is answered. One value more than n is lent, each is 7, and the last stays so.
+  judges : ℕ → List ℤ → List ℤ → Judged → Case
+  -- of as many values as the first number says: the refusal's number and place, and all values stay
+  turnsBack : ℕ → ℕ → List ℤ → List ℤ → ℕ → ℕ → Case
+  -- of a design, a property and a bound: this refutation of the formula is accepted
+  certified : Subject → ℕ → List ℤ → Case
   -- several owners of the file of two externals: each place's words of answer and choices, and how many clause words and how many values are zero
   owned : OwnersCall → List (List ℕ) → List (List ℕ) → ℕ → ℕ → Case
   -- a file and a count of owners for which the whole call is refused, by this number at place 0, and keeps all
@@ -194,6 +219,13 @@ Holds (operands c l h) = (leastOperand (signed (wrap c)) ≡ l) × (largestOpera
 Holds (solves variables words budget answer tries values) =
     solve variables words (replicate variables 7) (replicate variables 7) budget
     ≡ record { reply = Done (record { answer = answer; tries = tries }); values = values; trail = replicate variables 0 }
+Holds (judges variables list refutation answer) =
+    refute variables list refutation (replicate (suc variables) 7) ≡ record { reply = refuted.Done answer; values = replicate variables 0 ++ 7 ∷ [] }
+Holds (turnsBack values variables list refutation number place) =
+    refute variables list refutation (replicate values 7) ≡ record { reply = refuted.Refused number place; values = replicate values 7 }
+Holds (certified s k refutation) =
+    refute (n (s .design) (s .property) k) (words (formula (s .design) (s .property) k)) refutation (replicate (n (s .design) (s .property) k) 7)
+    ≡ record { reply = refuted.Done Accepted; values = replicate (n (s .design) (s .property) k) 0 }
 Holds (owned c answers choices zeroWords zeroValues) =
     ownersExit (owners twoExternals (c .bound) (sevens (c .words) 0 (c .variables) 0) (c .count) (c .pieces) (c .budgets) (c .choices)) [] (replicate 4 kept)
     ≡ record { refusal = record { number = 0; place = 0 }; buffers = sevens (c .words) zeroWords (c .variables) zeroValues; choices = choices; pointers = []; answers = answers }
@@ -302,6 +334,49 @@ passingCases =
     ∷ operands (negℤ (pos 32768)) (pos 0) (pos 1)
     ∷ []
 
+-- refutations
+abbrev pub refutedCases : List Case
+refutedCases =
+    -- Document 02, R-7. Of (1 2)(-1 2)(1 -2)(-1 -2), which has no unit: (2) follows, and the empty clause by it, which by itself does not
+    judges 2 four (pos 2 ∷ pos 0 ∷ pos 0 ∷ []) Accepted
+    ∷ judges 2 four (pos 0 ∷ []) (Word 0)
+    -- "ended without an empty clause", though units alone reach a clause all false; and with no words at all
+    ∷ judges 2 four (pos 2 ∷ pos 0 ∷ []) Ended
+    ∷ judges 1 (pos 1 ∷ pos 0 ∷ negℤ (pos 1) ∷ pos 0 ∷ []) [] Ended
+    ∷ judges 0 [] [] Ended
+    -- not from itself, and not from a later clause
+    ∷ judges 1 [] (pos 1 ∷ pos 0 ∷ pos 0 ∷ []) (Word 0)
+    ∷ judges 2 (pos 1 ∷ pos 2 ∷ pos 0 ∷ []) (pos 1 ∷ pos 0 ∷ negℤ (pos 2) ∷ pos 0 ∷ []) (Word 0)
+    ∷ judges 2 four (pos 0 ∷ pos 2 ∷ pos 0 ∷ pos 0 ∷ []) (Word 0)
+    -- "the refutation's word where the first clause that does not follow begins"
+    ∷ judges 3 (pos 1 ∷ pos 2 ∷ pos 0 ∷ negℤ (pos 1) ∷ pos 2 ∷ pos 0 ∷ []) (pos 2 ∷ pos 0 ∷ pos 3 ∷ pos 0 ∷ pos 0 ∷ []) (Word 2)
+    -- "a clause holding a literal and its negation also follows", and no more than that
+    ∷ judges 2 [] (pos 2 ∷ pos 1 ∷ negℤ (pos 2) ∷ pos 0 ∷ []) Ended
+    ∷ judges 2 [] (pos 2 ∷ pos 1 ∷ negℤ (pos 2) ∷ pos 0 ∷ pos 0 ∷ []) (Word 4)
+    -- Positions count: (1 1) is no unit. As a clause that follows, (1) is.
+    ∷ judges 2 (pos 1 ∷ pos 1 ∷ pos 0 ∷ negℤ (pos 1) ∷ pos 2 ∷ pos 0 ∷ negℤ (pos 1) ∷ negℤ (pos 2) ∷ pos 0 ∷ []) (pos 0 ∷ []) (Word 0)
+    ∷ judges 2 (pos 1 ∷ pos 1 ∷ pos 0 ∷ negℤ (pos 1) ∷ pos 2 ∷ pos 0 ∷ negℤ (pos 1) ∷ negℤ (pos 2) ∷ pos 0 ∷ []) (pos 1 ∷ pos 1 ∷ pos 0 ∷ pos 1 ∷ pos 0 ∷ pos 0 ∷ []) Accepted
+    ∷ judges 2 four (pos 2 ∷ pos 2 ∷ pos 0 ∷ pos 0 ∷ []) (Word 3)
+    -- an empty clause of the list makes everything follow
+    ∷ judges 1 (pos 0 ∷ []) (pos 1 ∷ pos 0 ∷ pos 0 ∷ []) Accepted
+    ∷ judges 1 (pos 0 ∷ []) (pos 1 ∷ pos 0 ∷ []) Ended
+    ∷ judges 0 (pos 0 ∷ []) (pos 0 ∷ []) Accepted
+    -- "Reading ends at the first empty clause that follows": what comes after it is not read
+    ∷ judges 3 four (pos 2 ∷ pos 0 ∷ pos 0 ∷ pos 3 ∷ pos 0 ∷ []) Accepted
+    -- but 17 tests it, and what comes after a clause that does not follow; "17 tests the list, then the refutation (places counting on from the list's length), then 16"
+    ∷ turnsBack 2 2 four (pos 2 ∷ pos 0 ∷ pos 0 ∷ pos 3 ∷ pos 0 ∷ []) 17 15
+    ∷ turnsBack 2 2 four (pos 0 ∷ pos 3 ∷ pos 0 ∷ []) 17 13
+    ∷ turnsBack 1 2 four (pos 2 ∷ []) 17 13
+    ∷ turnsBack 0 2 (pos 1 ∷ pos 3 ∷ pos 0 ∷ []) (pos 3 ∷ []) 17 1
+    ∷ turnsBack 0 2 (pos 1 ∷ []) (pos 1 ∷ pos 3 ∷ []) 17 1
+    ∷ turnsBack 0 2147483648 (pos 0 ∷ []) (pos 1 ∷ []) 17 0
+    ∷ turnsBack 0 2147483647 [] [] 16 0
+    ∷ turnsBack 1 2 four (pos 2 ∷ pos 0 ∷ pos 0 ∷ []) 16 0
+    -- No list of one choice raises both externals. Variable 11 is flag 0 of frame 0: units alone do not settle it, and each of its values leads to a clause all false.
+    ∷ reads twoExternals designTwo
+    ∷ certified notBoth 1 (pos 11 ∷ pos 0 ∷ pos 0 ∷ [])
+    ∷ []
+
 -- several owners
 abbrev pub ownerCases : List Case
 ownerCases =
@@ -384,4 +459,4 @@ table =
     -- past the break at 3, and where the guard is false
     ∷ broken invariantA (2 ∷ 0 ∷ 1 ∷ 0 ∷ 1 ∷ []) 3
     ∷ counts designA (2 ∷ 0 ∷ 1 ∷ 0 ∷ 1 ∷ []) 4 4
-    ∷ ownerCases ++ (passingCases ++ (pieceCases ++ bareCases))
+    ∷ refutedCases ++ (ownerCases ++ (passingCases ++ (pieceCases ++ bareCases)))

@@ -1,16 +1,19 @@
 //! The operations of the proved archive.
 
+pub mod cadical;
 mod entries;
 mod formula;
 pub mod owners;
+pub mod plain;
 pub mod timing;
 mod trace;
 
-use entries::{stm_check, stm_holds, stm_replay, stm_solve, stm_start, stm_step};
+use entries::{stm_check, stm_holds, stm_refute, stm_replay, stm_solve, stm_start, stm_step};
 use reference::design::{Refusal, MAX_MATRICES, MAX_VARIABLES};
 use reference::operations::{Answer, Operations};
 use reference::owners::{Owner, Shared, Told};
 use reference::query::Query;
+use reference::refute::Refuted;
 use reference::search::{Outcome, Solved};
 use reference::step::{Replayed, State, Stepped};
 
@@ -152,6 +155,29 @@ impl Operations for Proved {
         };
         unchanged(code, [7; 2], answer);
         answered(code, || Solved { outcome: OUTCOMES[answer[0] as usize], tries: answer[1] })
+    }
+
+    fn refute(&mut self, n: u64, words: &[i32], refutation: &[i32], values: &mut [u8]) -> Answer<Refuted> {
+        let mut answer = [7; 2];
+        let code = unsafe {
+            stm_refute(
+                n,
+                words.as_ptr(),
+                words.len(),
+                refutation.as_ptr(),
+                refutation.len(),
+                values.as_mut_ptr(),
+                values.len(),
+                &mut answer,
+            )
+        };
+        unchanged(code, [7; 2], answer);
+        answered(code, || match answer {
+            [0, 0] => Refuted::Accepted,
+            [1, word] => Refuted::Word(word),
+            [2, 0] => Refuted::Ended,
+            _ => panic!("REFUTE answered {answer:?}"),
+        })
     }
 
     fn size(&mut self, query: Query<[u8]>, bound: u64) -> Answer<formula::Size> {

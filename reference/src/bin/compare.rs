@@ -269,7 +269,7 @@ fn required<T: Ord + Display>(
 fn property(fields: &[&str]) -> Option<u64> {
     let at = match fields[0] {
         // Owners ask property 0 alone; each is counted by itself.
-        "check" | "start" | "step" | "solve" | "owners" => return None,
+        "check" | "start" | "step" | "solve" | "refute" | "owners" => return None,
         "holds" => 5,
         _ => 3,
     };
@@ -288,11 +288,27 @@ fn named_answer(fields: &[&str], words: &[&str]) -> Option<String> {
         "solve" | "holds" => second.to_string(),
         "verdict" if *second == "clean" => second.to_string(),
         "verdict" => format!("{second} {}", words.get(2)?),
+        "refute" => refute_name(fields, words)?,
         "replay" => replay_name(words)?,
         "step" => format!("idle {}, {}", words.last()?, mark_name(fields.get(4)?, words.get(3)?)),
         _ => return None,
     };
     Some(format!("{operation} {named}"))
+}
+
+/// The answer, and where the clause stands that decides it.
+fn refute_name(fields: &[&str], words: &[&str]) -> Option<String> {
+    let refutation = *fields.get(3)?;
+    let named = match words[1..] {
+        ["word", "0", ..] => "the first clause does not follow",
+        ["word", ..] => "a later clause does not follow",
+        ["accepted", ..] if refutation == "0" => "accepted at its first word",
+        ["accepted", ..] => "accepted",
+        [other, ..] if refutation == "-" => return Some(format!("{other}, no words")),
+        [other, ..] => other,
+        [] => return None,
+    };
+    Some(named.to_string())
 }
 
 /// What became of the mark in a step.

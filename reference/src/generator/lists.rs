@@ -36,7 +36,7 @@ fn any_list(random: &mut Random) -> (usize, Vec<i32>) {
     (n, clause_list(random, n))
 }
 
-fn formula_list(random: &mut Random) -> (usize, Vec<i32>) {
+pub fn formula_list(random: &mut Random) -> (usize, Vec<i32>) {
     let design = chain_design(random);
     let query = Query::new(&design, property_of(random, &design));
     let formula = formula_of(query, random.between(0, 2) as u64);
@@ -49,7 +49,7 @@ fn formula_list(random: &mut Random) -> (usize, Vec<i32>) {
 }
 
 /// Some lists have so few clauses that they are SAT, some so many that not.
-fn clause_list(random: &mut Random, n: usize) -> Vec<i32> {
+pub fn clause_list(random: &mut Random, n: usize) -> Vec<i32> {
     let clauses = random.between(0, 1 + 5 * n);
     let width = random.between(1, 4);
     let mut words = Vec::new();
@@ -60,7 +60,7 @@ fn clause_list(random: &mut Random, n: usize) -> Vec<i32> {
     words
 }
 
-fn clause(random: &mut Random, n: usize, width: usize) -> Vec<i32> {
+pub fn clause(random: &mut Random, n: usize, width: usize) -> Vec<i32> {
     if n == 0 || random.chance(1) {
         return vec![];
     }
@@ -73,7 +73,7 @@ fn clause(random: &mut Random, n: usize, width: usize) -> Vec<i32> {
     clause
 }
 
-fn literal(random: &mut Random, n: usize) -> i32 {
+pub fn literal(random: &mut Random, n: usize) -> i32 {
     let variable = random.between(1, n) as i32;
     if random.chance(50) {
         variable
@@ -90,7 +90,7 @@ fn exact_tries(n: usize, words: &[i32]) -> Option<u64> {
     (solved.outcome != Outcome::Spent).then_some(solved.tries)
 }
 
-fn list_fault(random: &mut Random, n: usize, words: &mut Vec<i32>) {
+pub fn list_fault(random: &mut Random, n: usize, words: &mut Vec<i32>) {
     let beyond = n as i32 + 1;
     for _ in 0..random.between(1, 2) {
         let bad = random.pick(&[beyond, -beyond, i32::MAX, i32::MIN, -i32::MAX]);
@@ -108,6 +108,6 @@ fn list_fault(random: &mut Random, n: usize, words: &mut Vec<i32>) {
 }
 
 /// A variable count at or beyond the end of the permitted ones.
-fn far_count(random: &mut Random) -> u64 {
+pub fn far_count(random: &mut Random) -> u64 {
     random.pick(&[(1 << 31) - 1, 1 << 31, 1 << 32, u64::MAX, 13])
 }

@@ -6,6 +6,7 @@ use reference::entries::OwnerAnswer;
 use reference::operations::{Answer, Operations, Reference};
 use reference::owners::{Owner, Shared, Told};
 use reference::query::Query;
+use reference::refute::Refuted;
 use reference::search::Outcome;
 use reference::step::State;
 use reference::verdict::{Finding, Lent, Verdict};
@@ -106,6 +107,16 @@ pub fn stm_solve(
             Outcome::Spent => 2,
         };
         *answer = [outcome, solved.tries];
+    })
+}
+
+pub fn stm_refute(n: u64, words: &[i32], refutation: &[i32], values: &mut [u8], answer: &mut [u64; 2]) -> u64 {
+    code(Reference.refute(n, words, refutation, values), |refuted| {
+        *answer = match refuted {
+            Refuted::Accepted => [0, 0],
+            Refuted::Word(word) => [1, word],
+            Refuted::Ended => [2, 0],
+        };
     })
 }
 

@@ -1,13 +1,18 @@
 //! Benchmarks of SIZE, ENCODE, VERDICT and several owners, beside the second implementation as in `bench`. ENCODE is also held against
 //! a plain copy of as many words: no writer can be faster. Several owners are also held against their VERDICTs, one after the other.
+//! REFUTE is held against a plain program (`plain.rs`) on refutations that cadical writes, where it is installed; a ratio of at most
+//! 1.5 is asked.
 
-use proved::timing::{make, note, report, seconds};
+use proved::cadical::refutation;
+use proved::plain;
+use proved::timing::{make, note, report, report_beside, seconds, seconds_of_few};
 use proved::Proved;
 use reference::designs::all_files;
 use reference::formula::Size;
 use reference::operations::{Answer, Operations, Reference};
 use reference::owners::{Owner, Shared, Told, MAX_OWNERS};
 use reference::query::{Query, INVARIANT};
+use reference::refute::Refuted;
 use reference::verdict::{Lent, Verdict};
 use std::hint::black_box;
 
@@ -148,6 +153,36 @@ fn owners(bound: u64) {
     note(&format!("four VERDICTs {:.2} us, {:.2} times the one call", one_by_one * 1e6, one_by_one / proved));
 }
 
+/// How often a job is timed.
+enum Rounds {
+    Many,
+    Few,
+}
+
+fn refute(name: &str, bound: u64, rounds: Rounds) {
+    let design = file(name);
+    let query = Query::new(&design[..], INVARIANT);
+    let size = sizes(&mut Proved, query, bound);
+    let mut words = vec![0; size.words as usize];
+    encoded(&mut Proved, query, bound, &mut words);
+    let Some(refutation) = refutation(size.variables, &words) else {
+        return println!("REFUTE {name}, bound {bound}: left out, cadical wrote no refutation");
+    };
+    let n = size.variables;
+    let (mut first, mut second) = (vec![0; n as usize], vec![0; n as usize]);
+    let mut proved =
+        || assert_eq!(done(Proved.refute(n, black_box(&words), black_box(&refutation), &mut first)), Refuted::Accepted);
+    let mut plain = || assert_eq!(plain::refute(black_box(&words), black_box(&refutation), &mut second), Refuted::Accepted);
+    let [proved, plain] = match rounds {
+        Rounds::Many => seconds([&mut proved, &mut plain]),
+        Rounds::Few => seconds_of_few([&mut proved, &mut plain]),
+    };
+    let clauses = refutation.iter().filter(|&&word| word == 0).count();
+    report_beside(&format!("REFUTE {name}, bound {bound}"), proved, "plain", plain);
+    let (list, refutation) = (words.len(), refutation.len());
+    note(&format!("{list} words of the list, {refutation} of the refutation in {clauses} clauses; at most 1.5 is asked"));
+}
+
 fn main() {
     size("design-a", 0, 100);
     size("money-changer-uic1", 0, 100);
@@ -170,4 +205,9 @@ fn main() {
     verdict("money-changer-dyn", 2, 2);
     verdict("minus-three", 0, 3);
     owners(3);
+    refute("design-a", 2, Rounds::Many);
+    refute("peterson", 6, Rounds::Many);
+    refute("peterson", 8, Rounds::Many);
+    refute("money-changer-revised-uic1", 5, Rounds::Many);
+    refute("peterson", 12, Rounds::Few);
 }
