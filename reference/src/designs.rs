@@ -13,7 +13,7 @@ pub use money_changer::{
 };
 pub use small::{
     barrier, branch_taken, crossing_turns, design_a, later_mark, minus_three, moved, mutex,
-    negated, no_idle, peterson, vending, wrapping_guard,
+    negated, no_idle, peterson, raised_next, vending, wrapping_guard,
 };
 
 use crate::builder::{boolean_bytes, file_bytes};

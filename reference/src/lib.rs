@@ -20,4 +20,5 @@ pub mod random;
 pub mod refute;
 pub mod search;
 pub mod step;
+pub mod strict;
 pub mod verdict;

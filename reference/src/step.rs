@@ -167,7 +167,12 @@ pub fn holds_at(design: &Design, claim: &Claim, run: &[Stepped], i: usize) -> bo
 
 /// `before` is the state that the last choice acted on. The first state has
 /// none, and no constraint is false there.
-fn claim_holds(design: &Design, claim: &Claim, before: Option<&State>, state: &State) -> bool {
+pub(crate) fn claim_holds(
+    design: &Design,
+    claim: &Claim,
+    before: Option<&State>,
+    state: &State,
+) -> bool {
     if state.marked() {
         return false;
     }

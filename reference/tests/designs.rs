@@ -79,7 +79,7 @@ fn file_of(design: &str, piece: &str, property: &str) -> String {
     }
 }
 
-/// Sizes, verdict, tries, models and choices: all words but the first.
+/// Sizes, verdict, tries, models, choices and the strict count: all words but the first.
 #[test]
 fn rows_of_pieces_are_those_of_the_files_with_that_invariant() {
     let stored = [rows("rows.txt"), rows("rows-deep.txt")].concat();
@@ -233,6 +233,8 @@ fn small_designs_break_where_they_should() {
         // Its counter passes the end: one choice raises the external, 32,768 count.
         ("no-idle", 0, Some(32_769)),
         ("no-idle", 2, Some(1)),
+        ("raised-next", 0, None),
+        ("raised-next", 2, Some(1)),
         ("crossing-turns", 0, None),
         ("crossing-turns", 2, None),
         ("vending", 0, Some(2)),

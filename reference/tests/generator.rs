@@ -4,6 +4,8 @@ use reference::design::{check, Boolean, CellKind, Design, Integer, Kind, Mover, 
 use reference::generator::{all_operations, Generator};
 use reference::operations::Reference;
 use reference::protocol::{bytes, reply};
+use reference::step::{run, step, State, Tests};
+use reference::strict::is_strict;
 use std::collections::BTreeSet;
 use std::str::FromStr;
 
@@ -85,7 +87,42 @@ fn seen_in_choice(design: &Design, v: &str, choice: &str, seen: &mut BTreeSet<&'
     }
 }
 
+/// Whether the choice idles, and whether some mover is enabled.
+fn seen_in_step(
+    design: &Design,
+    [v, s, mark]: [&str; 3],
+    choice: &str,
+    seen: &mut BTreeSet<&'static str>,
+) {
+    let (Ok(values), Ok(statuses)) = (numbers(v).try_into(), numbers(s).try_into()) else { return };
+    let state = State { values, statuses, mark: mark.parse().unwrap() };
+    let Ok(stepped) = step(design, &state, choice.parse().unwrap()) else { return };
+    let enabled = |choice| !step(design, &state, choice).unwrap().idle;
+    let some_enabled = (0..design.movers().len() as u64).any(enabled);
+    seen.insert(match (stepped.idle, some_enabled) {
+        (true, true) => "an idle choice where some mover is enabled",
+        (true, false) => "an idle choice where no mover is enabled",
+        _ => "a choice that is not idle",
+    });
+}
+
+/// Whether the run is strict, and whether it idles.
+fn seen_in_run(design: &Design, choices: &[u8], seen: &mut BTreeSet<&'static str>) {
+    let is_mover = |&choice: &u8| (choice as usize) < design.movers().len();
+    if choices.len() > 100 || !choices.iter().all(is_mover) {
+        return;
+    }
+    let idles = run(design, choices, Tests::UpToFailure).states.iter().any(|step| step.idle);
+    match (is_strict(design, choices), idles) {
+        (true, true) => seen.insert("a strict run that idles"),
+        (true, false) if choices.len() > 1 => seen.insert("a strict run that never idles"),
+        (false, _) => seen.insert("a run that is not strict"),
+        _ => false,
+    };
+}
+
 fn seen_in_choices(design: &Design, choices: &str, seen: &mut BTreeSet<&'static str>) {
+    seen_in_run(design, &numbers(choices), seen);
     let (movers, choices) = (design.movers().len(), numbers::<usize>(choices));
     match choices.len() {
         0 => seen.insert("no choice"),
@@ -97,6 +134,41 @@ fn seen_in_choices(design: &Design, choices: &str, seen: &mut BTreeSet<&'static 
         seen.insert("a list with one past the last mover");
     }
 }
+
+/// What the requests of the step rule have to have among them.
+const ENDS: [&str; 31] = [
+    "four ifs inside one another",
+    "a self-loop",
+    "an invalid cell",
+    "64 movers",
+    "the least value",
+    "the greatest value",
+    "a Boolean of 2",
+    "an external of 2",
+    "an unused value",
+    "a status too high",
+    "an unused status",
+    "no mark",
+    "a mark",
+    "a mark of 2",
+    "a mark that is no byte",
+    "the greatest mark",
+    "the last mover",
+    "one past the last mover",
+    "a choice that is no byte",
+    "an external already raised",
+    "an external to raise",
+    "no choice",
+    "100 choices",
+    "101 choices",
+    "a list with one past the last mover",
+    "an idle choice where some mover is enabled",
+    "an idle choice where no mover is enabled",
+    "a choice that is not idle",
+    "a strict run that idles",
+    "a strict run that never idles",
+    "a run that is not strict",
+];
 
 #[test]
 fn requests_reach_the_ends_of_the_step_rule() {
@@ -115,40 +187,14 @@ fn requests_reach_the_ends_of_the_step_rule() {
                 if numbers::<i16>(v).len() == 32 {
                     seen_in_choice(&design, v, choice, &mut seen);
                 }
+                seen_in_step(&design, [v, s, mark], choice, &mut seen);
             }
             ["holds", _, v, s, mark, _] => seen_in_state(&design, v, s, mark, &mut seen),
             [_, _, _, _, choices] => seen_in_choices(&design, choices, &mut seen),
             _ => {}
         }
     }
-    let wanted = [
-        "four ifs inside one another",
-        "a self-loop",
-        "an invalid cell",
-        "64 movers",
-        "the least value",
-        "the greatest value",
-        "a Boolean of 2",
-        "an external of 2",
-        "an unused value",
-        "a status too high",
-        "an unused status",
-        "no mark",
-        "a mark",
-        "a mark of 2",
-        "a mark that is no byte",
-        "the greatest mark",
-        "the last mover",
-        "one past the last mover",
-        "a choice that is no byte",
-        "an external already raised",
-        "an external to raise",
-        "no choice",
-        "100 choices",
-        "101 choices",
-        "a list with one past the last mover",
-    ];
-    let missing: Vec<_> = wanted.iter().filter(|name| !seen.contains(**name)).collect();
+    let missing: Vec<_> = ENDS.iter().filter(|name| !seen.contains(**name)).collect();
     assert!(missing.is_empty(), "never asked: {missing:?}");
 }
 

@@ -240,7 +240,7 @@ fn seen_at_the_limit(operation: &str, count: usize) -> BTreeSet<(u64, bool)> {
 fn every_refusal_beside_19_is_met_at_the_limit() {
     for (operation, count, numbers) in [
         ("size", 6_000, &[0, 13, 14, 19][..]),
-        ("encode", 4_000, &[0, 13, 14, 16, 19]),
+        ("encode", 8_000, &[0, 13, 14, 16, 19]),
         ("decode", 3_000, &[13, 14, 16, 19]),
         ("verdict", 2_000, &[14, 16, 19]),
     ] {

@@ -17,7 +17,6 @@ pub mod Runs
 pub mod Models
 pub mod Within
 pub mod Decoding
-pub mod Longer
 pub mod Theorem
 pub mod Lists
 pub mod Counting

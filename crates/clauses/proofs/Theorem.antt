@@ -21,7 +21,7 @@ use Rattle.clauses.specs.Decode.{decode}
 use Rattle.clauses.proofs.Models.{decodes-long, decodes-movers, decodes-breaks, decodes-once, is-decoded}
 use Rattle.clauses.proofs.Within.{formula-within, words-back}
 use Rattle.clauses.proofs.Decoding.{decode-chooses}
-use Rattle.clauses.proofs.Longer.{breaks-append, below-append, zeros-below, some-mover}
+use Rattle.step.proofs.Longer.{breaks-append, below-append, zeros-below}
 
 module _ (d : Design) (wf : WellFormed d) (p : Property) (ok : PropertyOk d p) (k : ℕ) where
   -- choices of mover 0 after it
@@ -30,7 +30,7 @@ module _ (d : Design) (wf : WellFormed d) (p : Property) (ok : PropertyOk d p) (
       let m = k - length (b .list) in
       record {
         long = omega (arith, length-append (b .list) (replicate m 0), length-replicate {A = ℕ} m 0, b .short);
-        movers = below-append (length (movers d)) (b .list) (replicate m 0) (b .movers) (zeros-below (length (movers d)) m (some-mover d wf));
+        movers = below-append (length (movers d)) (b .list) (replicate m 0) (b .movers) (zeros-below (length (movers d)) m (wf .some-mover));
         breaks = breaks-append d p (b .list) (replicate m 0) (b .breaks);
       }
 

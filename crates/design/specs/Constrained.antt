@@ -1,5 +1,5 @@
--- Two designs of version 2 (document 02, R-1) by computation, those of designs/moved.stm and designs/no-idle.stm. Both have two variables, an external and an
--- integer c, and one matrix: a state has 4 slots, the mark being the last, so `variableB 4` is the external, `variable 5` is c and `status 4` the status in the next state.
+-- Three designs of version 2 (document 02, R-1) by computation, those of designs/moved.stm, designs/no-idle.stm and designs/raised-next.stm. The first two have two variables, an external
+-- and an integer c, and one matrix: a state has 4 slots, the mark being the last, so `variableB 4` is the external, `variable 5` is c and `status 4` the status in the next state.
 use mathlib.Core.Path.{_≡_, refl}
 use mathlib.Core.Bool.{true}
 use mathlib.Core.List.{List, [], _∷_, _++_}
@@ -62,3 +62,31 @@ designNoIdle = record {
 pub check-noIdle : check bytesNoIdle ≡ accepted designNoIdle
 unfolding checking bytesNoIdle designNoIdle count
 check-noIdle = refl
+
+-- Externals x and y, which are movers 0 and 1, y being raised from the start, and no cell. The constraint: x is true next. A state has 4 slots here, too, so `variableB 4` is x in the next state.
+-- No accepted design with fewer movers, and none of fewer bytes, has a constraint that some run breaks and no strict run does (document 02, R-8). With one mover, a choice that idles is one where
+-- no mover is enabled, so there are two at least; no mover takes fewer bytes than an external, and every other part of the file is as short as it may be.
+unfoldable pub bytesRaised : List ℕ
+bytesRaised =
+    0x02 ∷ 0x00 ∷ 0x00 ∷
+    0x02 ∷ 0x01 ∷ 0x00 ∷
+    0x01 ∷ 0x01 ∷
+    0x02 ∷ 0x10 ∷ 0x01 ∷
+    0x10 ∷ 0x01 ∷
+    0x17 ∷ 0x00 ∷
+    0x0d ∷ 0x00 ∷
+    0x02 ∷ 0x00 ∷ 0x02 ∷ 0x00 ∷ 0x06 ∷ 0x00 ∷ 0x01 ∷ 0x00 ∷ 0x08 ∷ 0x00 ∷ 0x0b ∷ 0x00 ∷ 0x00 ∷ 0x00 ∷ 0x0b ∷ 0x00 ∷ []
+
+unfoldable pub designRaised : Design
+designRaised = record {
+  variables = record { kind = external; initial = 0 } ∷ record { kind = external; initial = 1 } ∷ [];
+  statuses = 1 ∷ [];
+  cells = [];
+  invalid = [];
+  invariant = constantB true;
+  constraint = variableB 4;
+}
+
+pub check-raised : check bytesRaised ≡ accepted designRaised
+unfolding checking bytesRaised designRaised
+check-raised = refl

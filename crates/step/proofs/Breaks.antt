@@ -5,7 +5,8 @@ use mathlib.Core.List.{List, [], _∷_}
 use mathlib.Core.Option.{Option, none, some}
 use Prim.Native.Nat.{ℕ, zero, suc, _+_, _<_, _≤_}
 use native.Mathlib.Omega.{arith}
-use borrow.Author.Tests.{le-leb}
+use borrow.Author.Tests.{le-leb, leb-true}
+use lib.Dec.{leb}
 use lib.ListN.{length, take}
 use Rattle.design.specs.Tree.{Design}
 use Rattle.design.specs.State.{State, start}
@@ -13,9 +14,13 @@ use Rattle.step.specs.Property.{Property}
 use Rattle.step.specs.OneStep.{step, run, trueAt, stateBefore, breaksAt, breaksFrom, breaks}
 use Rattle.step.specs.Operations.{firstBreak}
 
-or-true : (a b : Bool) → a ≡ true → (a || b) ≡ true
-or-true true b e = refl
-or-true false b e = absurd (false≢true e)
+pub or-left : (a b : Bool) → a ≡ true → a || b ≡ true
+or-left true b e = refl
+or-left false b e = absurd (false≢true e)
+
+pub or-right : (a b : Bool) → b ≡ true → a || b ≡ true
+or-right true b e = refl
+or-right false b e = e
 
 module _ (d : Design) (p : Property) where
   -- false after the first k choices, from the state s, before which was the state b
@@ -82,13 +87,18 @@ module _ (d : Design) (p : Property) where
   unfolding breaksFrom run stateBefore
   somewhere-breaks b s [] zero l e = e
   somewhere-breaks b s [] (suc k) l e = absurd (omega arith)
-  somewhere-breaks b s (c ∷ cs) zero l e = or-true (not (trueAt d p b s)) (breaksFrom d p (some s) (step d s c) cs) e
+  somewhere-breaks b s (c ∷ cs) zero l e = or-left (not (trueAt d p b s)) (breaksFrom d p (some s) (step d s c) cs) e
   somewhere-breaks b s (c ∷ cs) (suc k) l e =
-      go (not (trueAt d p b s)) (somewhere-breaks (some s) (step d s c) cs k (omega arith) (sym (one-earlier b s c cs k) ∙ e))
-    where
-      go : (t : Bool) → breaksFrom d p (some s) (step d s c) cs ≡ true → (t || breaksFrom d p (some s) (step d s c) cs) ≡ true
-      go true h = refl
-      go false h = h
+      or-right (not (trueAt d p b s)) (breaksFrom d p (some s) (step d s c) cs) (somewhere-breaks (some s) (step d s c) cs k (omega arith) (sym (one-earlier b s c cs k) ∙ e))
+
+  -- then its first k choices break it already
+  first-breaks : (b : Option State) (s : State) (cs : List ℕ) (k : ℕ) → k ≤ length cs → brokenAt b s cs k ≡ true → breaksFrom d p b s (take k cs) ≡ true
+  unfolding breaksFrom run stateBefore
+  first-breaks b s [] zero l e = e
+  first-breaks b s [] (suc k) l e = absurd (omega arith)
+  first-breaks b s (c ∷ cs) zero l e = e
+  first-breaks b s (c ∷ cs) (suc k) l e =
+      or-right (not (trueAt d p b s)) (breaksFrom d p (some s) (step d s c) (take k cs)) (first-breaks (some s) (step d s c) cs k (omega arith) (sym (one-earlier b s c cs k) ∙ e))
 
   module _ (cs : List ℕ) where
     abbrev answer : Option ℕ
@@ -107,6 +117,14 @@ module _ (d : Design) (p : Property) where
     pub breaks-from-at : (i : ℕ) → i ≤ length cs → breaksAt d p cs i ≡ true → breaks d p cs ≡ true
     unfolding breaks
     breaks-from-at i l e = somewhere-breaks none (start d) cs i l (sym (at-is i l) ∙ e)
+
+    pub breaks-to : (i : ℕ) → breaksAt d p cs i ≡ true → (i ≤ length cs) × (breaks d p (take i cs) ≡ true)
+    unfolding breaksAt breaks
+    breaks-to i e = go (leb i (length cs)) refl e
+      where
+        go : (t : Bool) → leb i (length cs) ≡ t → t && brokenAt none (start d) cs i ≡ true → (i ≤ length cs) × (breaksFrom d p none (start d) (take i cs) ≡ true)
+        go true q h = let l = leb-true i (length cs) q in (l, first-breaks none (start d) cs i l h)
+        go false q h = absurd (false≢true h)
 
     -- the answer is the least step at which it breaks
     pub record Least (i : ℕ) : Type 0 where

@@ -18,8 +18,12 @@ pub mod Properties
 pub mod Counts
 pub mod Replays
 pub mod Breaks
+pub mod Longer
 pub mod Marks
 pub mod Ranges
+-- both readings of an idle step
+pub mod Striking
+pub mod Strict
 -- the calls
 pub mod Looking
 pub mod Gates

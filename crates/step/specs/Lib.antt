@@ -10,6 +10,8 @@ pub mod OneStep
 pub mod StatusEventGuard
 -- lists that break a property
 pub mod Breaking
+-- both readings of an idle step (document 02, R-8)
+pub mod Strict
 -- the calls (document 01, "Turned-back calls")
 pub mod Gate
 pub mod Interface

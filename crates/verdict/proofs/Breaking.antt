@@ -8,25 +8,15 @@ use Prim.Native.Nat.{ℕ, zero, suc, _<_}
 use native.Mathlib.Omega.{arith}
 use lib.Dec.{leb}
 use lib.ListN.{length, take}
-use lib.Seq.{length-take-le}
+use lib.Seq.{length-take-le, take-all}
 use borrow.Author.Tests.{le-leb}
 use Rattle.design.specs.Tree.{Design, movers}
 use Rattle.design.specs.State.{State, start}
 use Rattle.step.specs.Property.{Property}
 use Rattle.step.specs.OneStep.{step, run, trueAt, stateBefore, breaksAt, breaksFrom, breaks}
-use Rattle.step.specs.Breaking.{AllBelow, Breaking}
+use Rattle.step.specs.Breaking.{Breaking}
+use Rattle.step.proofs.Longer.{below-take}
 use Rattle.verdict.specs.Claim.{NoneShorter}
-
-below-take : (m i : ℕ) (cs : List ℕ) → AllBelow m cs → AllBelow m (take i cs)
-below-take m zero cs h = tt
-below-take m (suc i) [] h = tt
-below-take m (suc i) (c ∷ cs) h = (h .0, below-take m i cs (h .1))
-
-take-whole : (i : ℕ) (cs : List ℕ) → length cs ≡ i → take i cs ≡ cs
-take-whole zero [] e = refl
-take-whole zero (c ∷ cs) e = absurd (omega arith)
-take-whole (suc i) [] e = absurd (omega arith)
-take-whole (suc i) (c ∷ cs) e = ap (λ (l : List ℕ). c ∷ l) (take-whole i cs (omega arith))
 
 -- the property is false at a list's end, or a shorter beginning of the list breaks it; `r` is the state before s
 abbrev Broken : (d : Design) (p : Property) (r : Option State) (s : State) (cs : List ℕ) → Type 0
@@ -63,7 +53,7 @@ module _ (d : Design) (p : Property) where
 
       go : Broken d p none (start d) cs → leb i (length cs) && not (trueAt d p (stateBefore d none (start d) cs i) (run d (start d) (take i cs))) ≡ true
       go (inl e) =
-          rw (le-leb i (length cs) (omega arith), take-whole i cs long, ap (λ (j : ℕ). not (trueAt d p (stateBefore d none (start d) cs j) (run d (start d) cs))) (sym long) ∙ e)
+          rw (le-leb i (length cs) (omega arith), take-all i cs (omega arith), ap (λ (j : ℕ). not (trueAt d p (stateBefore d none (start d) cs j) (run d (start d) cs))) (sym long) ∙ e)
       go (inr (j, l, e)) =
           absurd (short j (omega arith) (record {
             list = take j cs;

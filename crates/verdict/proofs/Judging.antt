@@ -11,6 +11,7 @@ use borrow.Author.Tests.{eqb-true, eqb-false}
 use Rattle.design.specs.Tree.{Design}
 use Rattle.step.specs.Property.{Property}
 use Rattle.step.specs.Breaking.{Breakable}
+use Rattle.step.specs.Strict.{Smallest}
 use Rattle.clauses.specs.Meaning.{satisfies}
 use Rattle.clauses.specs.Formula.{n, formula}
 use Rattle.clauses.specs.Theorem.{Theorem}
@@ -18,7 +19,7 @@ use Rattle.search.specs.Search.{Settings, noBudget, upTo, Answer, SAT, UNSAT, S
 use Rattle.search.proofs.Scans.{made}
 use Rattle.search.proofs.Ending.{Says as AnswerSays, search-right, Budgeted, search-budget}
 use Rattle.verdict.specs.Verdict.{Verdict, VIOLATED, CLEAN, SPENT-AT, Judged, judged, decided, searched, judgedFrom, judge}
-use Rattle.verdict.specs.Claim.{triesOf, triesBelow, NoneShorter, FirstBreak, FirstExceeds, Enough, Says, triesTold}
+use Rattle.verdict.specs.Claim.{triesOf, triesBelow, NoneShorter, FirstBreak, Exceeds, Enough, Says, triesTold}
 
 module _ (d : Design) (p : Property) where
   tries-grow : (i j : ℕ) → i ≤ j → triesBelow d p i ≤ triesBelow d p j
@@ -143,8 +144,8 @@ module _ (d : Design) (p : Property) where
           go (no l) = x .none step (omega arith) (h .some)
   known-says k b t i o CLEAN h = ((λ j x. let m = tries-grow (suc j) (suc k) (omega (arith, x .within)) in omega (arith, h .paid, x .more)), h .none)
   known-says k b t i o (SPENT-AT bound) h = record {
-    here = record { within = h .within; none = h .none; more = h .over };
-    first = λ j l x. let m = tries-grow (suc j) bound (omega arith) in omega (arith, h .before, x .more);
+    some = record { within = h .within; none = h .none; more = h .over };
+    none = λ j l x. let m = tries-grow (suc j) bound (omega arith) in omega (arith, h .before, x .more);
   }
 
   pub known-tries : (k b t i : ℕ) (o : Outcome) (v : Verdict) → Known k b t i o v → t ≡ triesTold d p k b v
@@ -161,21 +162,21 @@ module _ (d : Design) (p : Property) where
       go (no l) u = absurd (x .none j (omega arith) (y .some))
       go (yes l) (no m) = absurd (y .none i (omega arith) (x .some))
 
-  same-exceeds : (k b i j : ℕ) → FirstExceeds d p k b i → FirstExceeds d p k b j → i ≡ j
+  same-exceeds : (k b i j : ℕ) → Smallest (Exceeds d p k b) i → Smallest (Exceeds d p k b) j → i ≡ j
   same-exceeds k b i j x y = go (decLe i j) (decLe j i)
     where
       go : Dec (i ≤ j) → Dec (j ≤ i) → i ≡ j
       go (yes l) (yes m) = omega arith
-      go (no l) u = absurd (x .first j (omega arith) (y .here))
-      go (yes l) (no m) = absurd (y .first i (omega arith) (x .here))
+      go (no l) u = absurd (x .none j (omega arith) (y .some))
+      go (yes l) (no m) = absurd (y .none i (omega arith) (x .some))
 
   pub same-verdict : (k b : ℕ) (u v : Verdict) → Says d p k b u → Says d p k b v → u ≡ v
   same-verdict k b (VIOLATED i) (VIOLATED j) x y = ap VIOLATED (same-break k i j (x .1) (y .1))
   same-verdict k b (VIOLATED i) CLEAN x y = absurd (y .1 (breakable-up (x .1 .within) (x .1 .some)))
-  same-verdict k b (VIOLATED i) (SPENT-AT j) x y = absurd (x .0 j (y .here))
+  same-verdict k b (VIOLATED i) (SPENT-AT j) x y = absurd (x .0 j (y .some))
   same-verdict k b CLEAN (VIOLATED j) x y = absurd (x .1 (breakable-up (y .1 .within) (y .1 .some)))
   same-verdict k b CLEAN CLEAN x y = refl
-  same-verdict k b CLEAN (SPENT-AT j) x y = absurd (x .0 j (y .here))
-  same-verdict k b (SPENT-AT i) (VIOLATED j) x y = absurd (y .0 i (x .here))
-  same-verdict k b (SPENT-AT i) CLEAN x y = absurd (y .0 i (x .here))
+  same-verdict k b CLEAN (SPENT-AT j) x y = absurd (x .0 j (y .some))
+  same-verdict k b (SPENT-AT i) (VIOLATED j) x y = absurd (y .0 i (x .some))
+  same-verdict k b (SPENT-AT i) CLEAN x y = absurd (y .0 i (x .some))
   same-verdict k b (SPENT-AT i) (SPENT-AT j) x y = ap SPENT-AT (same-exceeds k b i j x y)

@@ -8,8 +8,10 @@ pub mod Judging
 pub mod Calls
 pub mod Witness
 pub mod Refuted
+pub mod Strict
 pub mod Theorem
 -- the table of document 01's marked cases
+pub mod Raised
 pub mod Table
 -- the loop over the bounds
 pub mod Loop

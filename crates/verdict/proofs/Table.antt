@@ -2,7 +2,7 @@
 use mathlib.Core.Path.{refl}
 use mathlib.Core.List.{_++_}
 use Rattle.design.specs.DesignA.{bytesA, pieceA, designA, count, check-A}
-use Rattle.design.specs.Constrained.{bytesMoved, designMoved, check-moved, bytesNoIdle, designNoIdle, check-noIdle}
+use Rattle.design.specs.Constrained.{bytesMoved, designMoved, check-moved, bytesNoIdle, designNoIdle, check-noIdle, designRaised, check-raised}
 use Rattle.design.specs.Multiplied.{check-multiplied}
 use Rattle.design.specs.Passing.{bytesPassing, designPassing, wrapsBelow, check-passing}
 use Rattle.design.specs.Check.{checking}
@@ -11,6 +11,7 @@ use Rattle.step.specs.Pattern.{signed, wrap, outside}
 use Rattle.step.specs.Piece.{pieceRight}
 use Rattle.step.specs.Gate.{gate}
 use Rattle.step.specs.OneStep.{stepping}
+use Rattle.step.specs.Strict.{strictAt, strictFrom, strict, idlesFrom}
 use Rattle.step.specs.StatusEventGuard.{eventReadOf, guardReadOf, eventReadBy, guardReadBy, countFrom}
 use Rattle.step.specs.Operations.{firstBreak}
 use Rattle.clauses.specs.Formula.{encoding}
@@ -23,9 +24,12 @@ use Rattle.clauses.specs.Decode.{flagValues, chosenFrom, choicesOf, choicesToWr
 use Rattle.search.specs.Search.{turn, solved}
 use Rattle.search.specs.Solve.{solve}
 use Rattle.search.specs.Refutation.{follows, refute}
+use Rattle.verdict.proofs.Strict.{strictBreakers, strict-count}
+use Rattle.verdict.proofs.Raised.{raised-idling}
 use Rattle.verdict.specs.Verdict.{searched, judgedFrom, judge, memoryLeft, roomFor, verdict}
 use Rattle.verdict.specs.Owners.{alone, eachOwner, owners}
-use Rattle.verdict.specs.Table.{AllHold, twoExternals, designTwo, bareCases, pieceCases, passingCases, ownerCases, refutedCases, table}
+use Rattle.verdict.specs.Cases.{AllHold, twoExternals, designTwo, designLoop, designSame}
+use Rattle.verdict.specs.Table.{bareCases, pieceCases, passingCases, ownerCases, refutedCases, strictRunCases, strictCountCases, table}
 
 bare-hold : AllHold bareCases
 unfolding bytesA pieceA bytesMoved bytesNoIdle designA designMoved designNoIdle count checking stepping pieceRight gate onDesign eventReadOf guardReadOf eventReadBy guardReadBy countFrom firstBreak encoding signed wrap turn solved solve
@@ -92,6 +96,15 @@ refuted-hold : AllHold (refutedCases ++ (ownerCases ++ (passingCases ++ (pieceCa
 unfolding twoExternals designTwo checking encoding signed wrap follows refute
 refuted-hold = (refl, (refl, (refl, (refl, (refl, (refl, (refl, (refl, (refl, (refl, (refl, (refl, (refl, (refl, (refl, (refl, (refl, (refl, (refl, (refl, (refl, (refl, (refl, (refl, (refl, (refl, (refl, (refl, owners-hold))))))))))))))))))))))))))))
 
+counts-hold : AllHold (strictCountCases ++ (refutedCases ++ (ownerCases ++ (passingCases ++ (pieceCases ++ bareCases)))))
+unfolding bytesA pieceA designA designRaised designTwo count checking pieceRight encoding stepping firstBreak strictAt strictFrom strict strictBreakers
+counts-hold =
+    (strict-count _ _ _ _ refl, (strict-count _ _ _ _ refl, (strict-count _ _ _ _ refl, (strict-count _ _ _ _ refl, (strict-count _ _ _ _ refl, (strict-count _ _ _ _ refl, (strict-count _ _ _ _ refl, (check-raised, ((refl, refl), (refl, (raised-idling, refuted-hold)))))))))))
+
+strict-hold : AllHold (strictRunCases ++ (strictCountCases ++ (refutedCases ++ (ownerCases ++ (passingCases ++ (pieceCases ++ bareCases))))))
+unfolding designA designTwo designLoop designSame count encoding stepping strictAt strictFrom strict idlesFrom
+strict-hold = (refl, (refl, (refl, (refl, (refl, (refl, (refl, (refl, (refl, (refl, (refl, (refl, (refl, (refl, (refl, (refl, (refl, counts-hold)))))))))))))))))
+
 pub table-holds : AllHold table
 unfolding bytesA pieceA bytesMoved bytesNoIdle designA designMoved designNoIdle count checking stepping pieceRight gate onDesign eventReadOf guardReadOf eventReadBy guardReadBy countFrom firstBreak encoding signed wrap turn solved solve
 table-holds = (
@@ -156,7 +169,7 @@ table-holds = (
                                                             models-multiplied-1,
                                                             (
                                                               models-multiplied-2,
-                                                              (refl, (refl, (refl, (refl, (refl, ((refl, refl), ((refl, refl), ((refl, refl), ((refl, refl), refuted-hold))))))))),
+                                                              (refl, (refl, (refl, (refl, (refl, ((refl, refl), ((refl, refl), ((refl, refl), ((refl, refl), strict-hold))))))))),
                                                             ),
                                                           ),
                                                         ),

@@ -7,6 +7,7 @@ use lib.ListN.{drop, getD}
 use Rattle.design.specs.Tree.{Design}
 use Rattle.design.specs.Check.{Checked, check}
 use Rattle.step.specs.Property.{Property, propertyOf}
+use Rattle.step.proofs.Strict.{thesis-runs, readings-agree}
 use Rattle.clauses.specs.Formula.{n, formula}
 use Rattle.clauses.specs.Theorem.{Theorem}
 use Rattle.clauses.proofs.Theorem.{theorem-of-file}
@@ -25,6 +26,7 @@ use Rattle.clauses.proofs.Within.{n-up}
 use Rattle.verdict.proofs.Witness.{decodes, witness}
 use Rattle.verdict.proofs.Isolation.{owner-counted, equals-alone}
 use Rattle.verdict.proofs.Refuted.{joined, refuted}
+use Rattle.verdict.proofs.Strict.{of-strict}
 
 of-formula : (d : Design) (p : Property) (k : ℕ) → Theorem d p k → OfFormula d p k
 unfolding searched
@@ -98,4 +100,7 @@ demand-3 file piece bytes all d e = record {
   owners = λ k count lent pieces budgets choices i o h same told q. of-owner file piece bytes all d e k count lent pieces budgets choices i o h same told q;
   joined = λ p k low right few numbers. joined file piece d e p k low right few numbers;
   refuted = λ p k. refuted file piece d e p k (theorem-of-file file piece bytes all d e p k);
+  readings = readings-agree file piece bytes d e;
+  thesis = thesis-runs d;
+  strict = λ p l k budget told lent left o. of-strict d (propertyOf file piece d p) (readings-agree file piece bytes d e p l) k budget told lent left o;
 }

@@ -6,21 +6,23 @@
 -- and no right piece either: where calls are refused by 13 or 8, `propertyOf` still names some property, and it holds of that one.
 use mathlib.Core.Path.{_≡_}
 use mathlib.Core.Logic.{_↔_}
-use mathlib.Core.Bool.{true}
+use mathlib.Core.Bool.{true, false}
 use mathlib.Core.List.{List, [], _++_}
 use Prim.Native.Nat.{ℕ, zero, suc, _+_, _<_, _≤_}
 use lib.IntN.{ℤ}
 use lib.ListN.{length, take, drop}
 use Rattle.design.specs.Tree.{Design, movers}
+use Rattle.design.specs.State.{start}
 use Rattle.step.specs.Piece.{pieceRight}
 use Rattle.step.specs.Property.{Property, propertyOf}
 use Rattle.step.specs.OneStep.{breaksAt}
 use Rattle.step.specs.Breaking.{AllBelow, Breaking, Breakable}
+use Rattle.step.specs.Strict.{idlesFrom, ThesisRuns, StrictBreaking, StrictBreakable, StrictBreakingStep, Smallest, ReadingsAgree}
 use Rattle.clauses.specs.Meaning.{Assignment, satisfies, Satisfiable, Within}
 use Rattle.clauses.specs.Formula.{n, formula, choices}
 use Rattle.clauses.specs.Words.{words, clausesOf}
 use Rattle.design.specs.Answer.{answer}
-use Rattle.step.specs.Limits.{lastProperty, maxBound}
+use Rattle.step.specs.Limits.{lastStateProperty, lastProperty, maxBound}
 use Rattle.clauses.specs.Limits.{lastVariable}
 use Rattle.clauses.specs.Encode.{encode}
 use Rattle.clauses.specs.Decode.{decode}
@@ -102,11 +104,6 @@ module _ (d : Design) (q : Property) where
     pub none : NoneShorter i
     pub more : budget < triesBelow (suc i)
 
-  -- "The first such bound is the one named"
-  pub record FirstExceeds (k budget i : ℕ) : Type 0 where
-    pub here : Exceeds k budget i
-    pub first : (j : ℕ) → j < i → Exceeds k budget j → ⊥
-
   -- the search needs no try beyond the budget
   abbrev pub Enough : ℕ → ℕ → Type 0
   Enough k budget = (i : ℕ) → Exceeds k budget i → ⊥
@@ -115,7 +112,8 @@ module _ (d : Design) (q : Property) where
   abbrev pub Says : ℕ → ℕ → Verdict → Type 0
   Says k budget (VIOLATED i) = Enough k budget × FirstBreak k i
   Says k budget CLEAN = Enough k budget × (Breakable d q k → ⊥)
-  Says k budget (SPENT-AT i) = FirstExceeds k budget i
+  -- "The first such bound is the one named"
+  Says k budget (SPENT-AT i) = Smallest (Exceeds k budget) i
 
   -- "the tries answered are then the budget; otherwise they are the total over the bounds solved"
   abbrev pub triesTold : ℕ → ℕ → Verdict → ℕ
@@ -140,6 +138,15 @@ module _ (d : Design) (q : Property) where
     -- VIOLATED i gives i choices that break at i
     pub witness : (i : ℕ) → told .verdict ≡ VIOLATED i → Witness i lent left
 
+-- What an answer on property 0 or 1 says to readers of the thesis (document 02, R-8), whose runs are strict: of the verdict, and the choices after the call
+pub record OfStrictRuns (d : Design) (q : Property) (k : ℕ) (told : Told) (left : List ℕ) : Type 0 where
+  -- CLEAN: no strict run of at most k choices breaks the property
+  pub clean : told .verdict ≡ CLEAN → StrictBreakable d q k → ⊥
+  -- VIOLATED i: step i is the smallest at which a strict run breaks it,
+  pub violated : (i : ℕ) → told .verdict ≡ VIOLATED i → Smallest (StrictBreakingStep d q) i
+  -- and the i choices written are such a run, and never idle
+  pub witness : (i : ℕ) → told .verdict ≡ VIOLATED i → StrictBreaking d q i (take i left) × (idlesFrom d (start d) (take i left) ≡ false)
+
 -- of a file, a piece, and the file's design; and, of several owners (document 02, R-6), each one whose piece this is
 pub record Demand3 (file piece : List ℕ) (d : Design) : Type 0 where
   pub formula : (p k : ℕ) → OfFormula d (propertyOf file piece d p) k
@@ -159,3 +166,11 @@ pub record Demand3 (file piece : List ℕ) (d : Design) : Type 0 where
   -- is `Right` (search/specs/Refutation).
   pub refuted : (p k : ℕ) (list : List ℤ) → Joined file piece p k (k + 3) 0 list → (variables : ℕ) (refutation : List ℤ) (values : List ℕ)
       → (refute variables list refutation values) .reply ≡ Done Accepted → Breakable d (propertyOf file piece d p) k → ⊥
+  -- Document 02, R-8, for property 0 or 1: both readings of an idle step agree on what is broken, and at which step first (step/specs/Strict). Property 2 is left out, as R-8 leaves it out: of it
+  -- this is not so (the table has the smallest design that shows it).
+  pub readings : (p : ℕ) → p ≤ lastStateProperty → ReadingsAgree d (propertyOf file piece d p)
+  -- strict runs are the runs of the thesis' formula,
+  pub thesis : ThesisRuns d
+  -- and what VERDICT's or an owner's answer says (`verdict` and `owners` above), it says of strict runs, too
+  pub strict : (p : ℕ) → p ≤ lastStateProperty → (k budget : ℕ) (told : Told) (lent left : List ℕ) → OfVerdict d (propertyOf file piece d p) k budget told lent left
+      → OfStrictRuns d (propertyOf file piece d p) k told left

@@ -4,6 +4,7 @@ pub mod Owners
 pub mod Isolation
 pub mod Answers
 pub mod Claim
+pub mod Cases
 pub mod Table
 pub mod Loop
 pub mod OwnersLoop

@@ -3,7 +3,7 @@
 
 use super::terms::*;
 use crate::builder::file_bytes;
-use crate::design::{Boolean, Cell, Design, Kind, MAX_FILE};
+use crate::design::{Boolean, Cell, Design, Kind, Variable, MAX_FILE};
 
 /// The name and the tree of each, but for Design A.
 pub fn all() -> Vec<(&'static str, Design)> {
@@ -22,6 +22,7 @@ pub fn all() -> Vec<(&'static str, Design)> {
         ("longest", longest()),
         ("moved", moved()),
         ("no-idle", no_idle()),
+        ("raised-next", raised_next()),
         ("crossing-turns", crossing_turns()),
         ("vending", vending()),
         ("minus-three", minus_three()),
@@ -303,6 +304,23 @@ pub fn no_idle() -> Design {
         cells: vec![normal((0, 0, 0), 0, None, vec![count])],
         invariant: truth(true),
         constraint: Some(not(and(same_count, same(is(ALLOWED), is_next(ALLOWED))))),
+    }
+}
+
+/// Externals 0 and 1, of which the second is raised from the start. The constraint is that external 0 is true next: choice 1 idles
+/// and breaks it at step 1. A run that idles only where no mover is enabled raises external 0 first, and nothing lowers it: no such
+/// run breaks this.
+///
+/// No file in which the two readings of an idle step give different answers is shorter. With one mover every list is strict, so there are
+/// two at least. An external is the shortest mover, and the rest is as short as can be: a matrix of one event, no cell, and 2 bytes
+/// each for event, invariant and constraint.
+pub fn raised_next() -> Design {
+    Design {
+        variables: vec![external(), Variable { initial: 1, ..external() }],
+        matrices: vec![matrix(1, vec![truth(true)])],
+        cells: vec![],
+        invariant: truth(true),
+        constraint: Some(is_next(0)),
     }
 }
 
