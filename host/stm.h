@@ -27,6 +27,10 @@
 #include <stddef.h>
 #include <stdint.h>
 
+/* The requests of document 02 that are in force are R-1 to this one; the version counts them. */
+#define STM_REQUESTS "8"
+#define STM_VERSION "0." STM_REQUESTS
+
 /* The number and the place of a refusal. */
 #define STM_NUMBER(code) ((unsigned)((code) & 255u))
 #define STM_PLACE(code) ((uint64_t)((code) >> 8))

@@ -1,18 +1,16 @@
 //! The checked-in design files are what the builder writes, use all of the format, and break where designs/README.md says.
 
 mod support;
+#[path = "support/tables.rs"]
+mod tables;
 
 use reference::design::{check, Boolean, CellKind, Design, Integer, Statement};
 use reference::designs::{
     all_files, all_pieces, money_changer, money_changer_pieces, mutex, peterson, Property, Version,
 };
 use std::collections::BTreeSet;
-use std::path::{Path, PathBuf};
 use support::first_break;
-
-fn folder() -> PathBuf {
-    Path::new(env!("CARGO_MANIFEST_DIR")).join("../designs")
-}
+use tables::{file_of, folder, rows};
 
 /// The files of the folder with this ending are these.
 fn folder_has(ending: &str, files: &[(String, Vec<u8>)]) {
@@ -59,23 +57,6 @@ fn other_pieces_break_both_mutual_exclusions_where_they_should() {
             let invariant = design.expression(piece).unwrap();
             assert_eq!(first_break(&Design { invariant, ..design }, 0), Some(step), "{name}");
         }
-    }
-}
-
-/// The rows of a table, by their words.
-fn rows(table: &str) -> Vec<Vec<String>> {
-    let text = std::fs::read_to_string(folder().join(table)).unwrap();
-    let rows = text.lines().filter(|line| !line.starts_with('#') && !line.is_empty());
-    rows.map(|line| line.split_whitespace().map(String::from).collect()).collect()
-}
-
-/// The file whose row a piece's row has to be: the one with the piece as its
-/// invariant; where the property is the constraint, the design's own.
-fn file_of(design: &str, piece: &str, property: &str) -> String {
-    let name = piece.strip_prefix("money-changer-").and_then(|p| p.strip_suffix(".piece"));
-    match property {
-        "2" => design.to_string(),
-        _ => design.replace("dyn", name.unwrap()),
     }
 }
 

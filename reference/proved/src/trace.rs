@@ -57,21 +57,20 @@ fn run_stm(design: &Path, piece: &Path, property: u64, choices: &[u8]) -> io::Re
     command.output()
 }
 
-/// `stm` exits with HOLDS or BROKEN where it has printed a run, with REFUSED where it has printed a refusal.
+/// `stm` exits with HOLDS or BROKEN where it has printed a run, with REFUSED where it has told a refusal on standard error.
 const HOLDS: i32 = 0;
 const BROKEN: i32 = 10;
-const REFUSED: i32 = 2;
+const REFUSED: i32 = 3;
 
 /// Without the meaning of a refusal, or the line of counts that follows a run.
 fn replay_form(output: Output) -> io::Result<Vec<u8>> {
-    let text = String::from_utf8_lossy(&output.stdout).into_owned();
+    let [answer, told] = [&output.stdout, &output.stderr].map(|bytes| String::from_utf8_lossy(bytes));
     let kept = match output.status.code() {
-        Some(HOLDS | BROKEN) => text.rsplit_once("events read ").map(|(lines, _)| lines.to_string()),
-        Some(REFUSED) if text.starts_with("refused ") => text.split_once(':').map(|(refusal, _)| format!("{refusal}\n")),
+        Some(HOLDS | BROKEN) => answer.rsplit_once("events read ").map(|(lines, _)| lines.to_string()),
+        Some(REFUSED) if answer.is_empty() && told.starts_with("refused ") => {
+            told.split_once(':').map(|(refusal, _)| format!("{refusal}\n"))
+        }
         _ => None,
     };
-    kept.map(String::into_bytes).ok_or_else(|| {
-        let told = String::from_utf8_lossy(&output.stderr);
-        io::Error::other(format!("stm ended with {}: {told}", output.status))
-    })
+    kept.map(String::into_bytes).ok_or_else(|| io::Error::other(format!("stm ended with {}: {told}", output.status)))
 }

@@ -6,6 +6,12 @@ mod lent;
 
 use lent::Lent;
 
+/// A program that is linked with this archive tells it from the proved one, which has no such symbol. A weak reference to it takes in no
+/// object by itself, so it has to stand in the entries' own: Cargo.toml has this package compiled as one unit.
+#[no_mangle]
+#[allow(non_upper_case_globals)]
+pub static stm_second_implementation: u8 = 1;
+
 macro_rules! define {
     ($($name:ident[$(($($parameter:ident: $kind:ty),+))*];)*) => {$(
         /// # Safety

@@ -34,7 +34,7 @@ pub fn breaks(design: &Design, property: u64, choices: &[u8]) -> bool {
 }
 
 /// Whether the property is false of a step's two states.
-fn bad_step(design: &Design, property: u64, before: &State, after: &State) -> bool {
+pub fn bad_step(design: &Design, property: u64, before: &State, after: &State) -> bool {
     match &design.constraint {
         Some(constraint) if property == CONSTRAINT => {
             after.mark == 1 || !says(constraint, before, after)

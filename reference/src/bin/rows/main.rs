@@ -1,6 +1,6 @@
 //! The reference rows: asks a serving program for every row of a table again and compares.
 //!
-//! rows SERVER FILE [--owners] [--write]
+//! rows SERVER FILE [--owners | --published] [--write]
 //!
 //! FILE is the table, designs/rows.txt; the design files are in its folder. The first four words of a row say what to ask; with
 //! --write the rest is written anew, so that a new row is made by a line of four words. The first word is a design file, or a
@@ -13,9 +13,13 @@
 //!
 //! With --owners, rows that follow each other, with no comment or empty line between, are the owners of one call on one design: that
 //! call is asked, too, and has to tell each owner what its row says.
+//!
+//! With --published, rows are of bounds that VERDICT's own search does not reach: `published` asks them without it, and their tries,
+//! models and strict lists are `?`. Without it, a row whose tries are `?` is a fault, so that no row is left unasked by a `?`.
 
 mod files;
 mod owners;
+mod published;
 mod served;
 mod table;
 mod walk;
@@ -23,28 +27,45 @@ mod walk;
 use crate::files::{design_and_piece, with_invariant};
 use crate::owners::ask_owners;
 use crate::served::Served;
-use crate::table::{first_difference, number, table_text, Line};
+use crate::table::{first_difference, number, table_text, Line, TRIES, UNASKED};
 use reference::client::Program;
 use reference::protocol::hex;
 use std::path::Path;
 use std::process::ExitCode;
 
-const USAGE: &str = "usage: rows SERVER FILE [--owners] [--write]";
+const USAGE: &str = "usage: rows SERVER FILE [--owners | --published] [--write]";
+
+/// How the rows of a table are asked.
+#[derive(Clone, Copy, PartialEq, Eq)]
+enum Kind {
+    /// By VERDICT.
+    Verdicts,
+    /// By VERDICT, and those that stand together by one call, too.
+    Owners,
+    /// Without VERDICT.
+    Published,
+}
 
 struct Settings {
     server: String,
     file: String,
-    owners: bool,
+    kind: Kind,
     write: bool,
 }
 
 fn settings() -> Option<Settings> {
     let mut arguments = std::env::args().skip(1);
     let (server, file) = (arguments.next()?, arguments.next()?);
-    let options: Vec<String> = arguments.collect();
-    let known = options.iter().all(|option| option == "--owners" || option == "--write");
-    let has = |name: &str| options.iter().any(|option| option == name);
-    known.then(|| Settings { server, file, owners: has("--owners"), write: has("--write") })
+    let mut settings = Settings { server, file, kind: Kind::Verdicts, write: false };
+    for option in arguments {
+        match (&option[..], settings.kind) {
+            ("--owners", Kind::Verdicts) => settings.kind = Kind::Owners,
+            ("--published", Kind::Verdicts) => settings.kind = Kind::Published,
+            ("--write", _) => settings.write = true,
+            _ => return None,
+        }
+    }
+    Some(settings)
 }
 
 fn main() -> ExitCode {
@@ -69,7 +90,7 @@ fn run(settings: &Settings) -> Result<String, String> {
     let folder = path.parent().unwrap_or(Path::new("."));
     let stored = std::fs::read_to_string(path).map_err(|e| format!("{}: {e}", path.display()))?;
     let mut program = Program::start(&settings.server)?;
-    let table = ask_all(&mut program, folder, &stored, settings.owners);
+    let table = ask_all(&mut program, folder, &stored, settings.kind);
     program.stop();
     let table = table?;
     let text = table_text(&table);
@@ -92,11 +113,11 @@ fn ask_all(
     program: &mut Program,
     folder: &Path,
     stored: &str,
-    owners: bool,
+    kind: Kind,
 ) -> Result<Vec<Line>, String> {
-    let lines = stored.lines().map(|line| read_line(program, folder, line));
+    let lines = stored.lines().map(|line| read_line(program, folder, line, kind));
     let table = lines.collect::<Result<Vec<Line>, String>>()?;
-    if owners {
+    if kind == Kind::Owners {
         for lines in table.split(|line| matches!(line, Line::Comment(_))) {
             let rows: Vec<&[String]> = lines.iter().filter_map(Line::row).collect();
             if !rows.is_empty() {
@@ -108,25 +129,37 @@ fn ask_all(
     Ok(table)
 }
 
-fn read_line(program: &mut Program, folder: &Path, line: &str) -> Result<Line, String> {
+fn read_line(program: &mut Program, folder: &Path, line: &str, kind: Kind) -> Result<Line, String> {
     if line.starts_with('#') || line.is_empty() {
         return Ok(Line::Comment(line.to_string()));
     }
     let words: Vec<&str> = line.split_whitespace().collect();
-    let row = row(program, folder, &words).map_err(|e| format!("{line}\n{e}"))?;
+    let row = row(program, folder, &words, kind).map_err(|e| format!("{line}\n{e}"))?;
     Ok(Line::Row(row))
 }
 
 /// The words of a row, from its first four.
-fn row(program: &mut Program, folder: &Path, words: &[&str]) -> Result<Vec<String>, String> {
+fn row(
+    program: &mut Program,
+    folder: &Path,
+    words: &[&str],
+    kind: Kind,
+) -> Result<Vec<String>, String> {
     let [name, property, bound, budget, ..] = words[..] else {
         return Err("a row starts with file, property, bound and budget".to_string());
     };
+    if kind != Kind::Published && words.get(TRIES) == Some(&UNASKED) {
+        return Err("only with --published are the tries of a row not asked for".to_string());
+    }
     let (file, piece) = design_and_piece(folder, name)?;
     let mut ask = |design: &[u8], piece: &[u8]| {
         let (design, piece) = (hex(design), hex(piece));
         let bound = number(bound)? as u32;
-        Served { program: &mut *program, design, piece, property, bound }.answers(budget)
+        let mut served = Served { program: &mut *program, design, piece, property, bound };
+        match kind {
+            Kind::Verdicts | Kind::Owners => served.answers(budget),
+            Kind::Published => served.published_answers(budget),
+        }
     };
     let answers = ask(&file, &piece)?;
     if !piece.is_empty() && answers[0] != "REFUSED" {

@@ -1,7 +1,7 @@
 //! One row's questions to a serving program.
 
 use crate::files::design_of;
-use crate::table::{budget_of, number};
+use crate::table::{budget_of, choices_text, number, UNASKED};
 use crate::walk::Walk;
 use reference::client::Program;
 use reference::models::models;
@@ -22,11 +22,18 @@ pub struct Served<'a> {
     pub bound: u32,
 }
 
-struct Size {
-    movers: u64,
-    variables: u64,
-    clauses: u64,
-    words: u64,
+pub struct Size {
+    pub movers: u64,
+    pub variables: u64,
+    pub clauses: u64,
+    pub words: u64,
+}
+
+impl Size {
+    /// As a row has them.
+    pub fn row_words(&self) -> [String; 3] {
+        [self.variables, self.clauses, self.words].map(|x| x.to_string())
+    }
 }
 
 /// The breaking lists of as many choices as the bound, and the strict ones among them.
@@ -47,9 +54,9 @@ impl Served<'_> {
         let counts = self.counts(&size)?;
         let [models, strict] = match counts {
             Some(counts) => [counts.models, counts.strict].map(|x| x.to_string()),
-            None => ["?", "?"].map(String::from),
+            None => [UNASKED; 2].map(String::from),
         };
-        let [n, clauses, words] = [size.variables, size.clauses, size.words].map(|x| x.to_string());
+        let [n, clauses, words] = size.row_words();
         Ok(vec![kind, at, tries, n, clauses, words, models, choices, strict])
     }
 
@@ -72,7 +79,7 @@ impl Served<'_> {
         }
     }
 
-    fn size(&mut self) -> Result<Size, String> {
+    pub fn size(&mut self) -> Result<Size, String> {
         let answer = self.ask("size", &format!("{} {}", self.property, self.bound))?;
         let [_, _, movers, _, variables, clauses, words] = &answer[..] else {
             return Err(format!("size replies: {answer:?}"));
@@ -130,19 +137,20 @@ impl Served<'_> {
         for list in 0..lists {
             let digit = |i: u32| (list / movers.pow(i) % movers) as u8;
             let choices: Vec<u8> = (0..self.bound).map(digit).collect();
-            if self.breaks(&choices)? {
+            if self.broken(&choices)?.is_some() {
                 breaking.insert(choices);
             }
         }
         Ok(breaking)
     }
 
-    fn breaks(&mut self, choices: &[u8]) -> Result<bool, String> {
-        let digits: Vec<String> = choices.iter().map(u8::to_string).collect();
-        let choices = if digits.is_empty() { "-".to_string() } else { digits.join(",") };
-        let answer = self.ask("replay", &format!("{} {choices}", self.property))?;
+    /// The first breaking step that REPLAY says.
+    pub fn broken(&mut self, choices: &[u8]) -> Result<Option<u64>, String> {
+        let rest = format!("{} {}", self.property, choices_text(choices));
+        let answer = self.ask("replay", &rest)?;
         match &answer[..] {
-            [broken, _, _] => Ok(broken != "none"),
+            [broken, _, _] if broken == "none" => Ok(None),
+            [broken, _, _] => number(broken).map(Some),
             _ => Err(format!("replay replies: {answer:?}")),
         }
     }

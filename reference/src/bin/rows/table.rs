@@ -11,6 +11,9 @@ pub const VARIABLES: usize = 7;
 pub const WORDS: usize = 9;
 pub const CHOICES: usize = 11;
 
+/// In the place of a number that was not asked for.
+pub const UNASKED: &str = "?";
+
 /// A line of the table: a row as its words, or a comment.
 pub enum Line {
     Comment(String),
@@ -28,6 +31,15 @@ impl Line {
 
 pub fn number(text: &str) -> Result<u64, String> {
     text.parse().map_err(|_| format!("no number: {text}"))
+}
+
+/// Choices as a row and a request have them.
+pub fn choices_text(choices: &[u8]) -> String {
+    let digits: Vec<String> = choices.iter().map(u8::to_string).collect();
+    if digits.is_empty() {
+        return "-".to_string();
+    }
+    digits.join(",")
 }
 
 pub fn budget_of(word: &str) -> Result<u64, String> {

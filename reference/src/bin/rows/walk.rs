@@ -1,11 +1,14 @@
-//! The strict lists of a design, walked by a serving program's START and STEP. It shares no code with `reference::strict`, so that the
-//! two can be held against each other.
+//! Lists of a design, walked by a serving program's START and STEP: the strict ones, and those that go on by every choice. It shares no
+//! code with `reference::strict`, so that the two can be held against each other.
 
 use reference::client::Program;
 use std::collections::HashMap;
 
 /// A choice, and the state that it leads to, as STEP replies it.
 type Steps = Vec<(u8, String)>;
+
+/// A list of choices, and the state that it leads to.
+pub type Walked = (Vec<u8>, String);
 
 pub struct Walk<'a> {
     program: &'a mut Program,
@@ -20,9 +23,20 @@ impl<'a> Walk<'a> {
         Walk { program, design, movers, known: HashMap::new() }
     }
 
+    /// The list of no choice.
+    pub fn first(&mut self) -> Result<Walked, String> {
+        Ok((vec![], self.ask("start", "")?))
+    }
+
+    /// The list with each choice after it, in the order of the choices.
+    pub fn longer(&mut self, (list, state): &Walked) -> Result<Vec<Walked>, String> {
+        let steps = self.all_steps(state)?.into_iter();
+        Ok(steps.map(|(choice, after, _)| ([&list[..], &[choice]].concat(), after)).collect())
+    }
+
     /// Every strict list of so many choices.
     pub fn strict_lists(&mut self, length: u32) -> Result<Vec<Vec<u8>>, String> {
-        let mut lists = vec![(vec![], self.ask("start", "")?)];
+        let mut lists = vec![self.first()?];
         for _ in 0..length {
             let mut longer = vec![];
             for (list, state) in &lists {
