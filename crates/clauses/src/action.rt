@@ -13,7 +13,7 @@ use design::limits::MAX_BITS;
 use design::shape::Shape;
 
 // The cursor, and the position past what was read.
-#[derive(Drop)]
+#[derive(Clone, Copy)]
 pub struct Done {
     pub pen: Cursor,
     pub next: usize,

@@ -6,7 +6,7 @@ use super::frame::{FrameSizes, sizes, variables};
 use super::literal::LAST_VARIABLE;
 use step::gate::gate;
 
-#[derive(Drop)]
+#[derive(Clone, Copy)]
 pub enum Admission {
     Refused { number: u8, place: usize },
     Passed(FrameSizes),

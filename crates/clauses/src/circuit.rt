@@ -11,7 +11,7 @@ ghost use Rattle.clauses.specs.Encoders.{Sums, SumsBit};
 use super::gate::{Out, emit_and, emit_or, emit_xor};
 use super::literal::{FALSE, TRUE, negate};
 
-#[derive(Drop)]
+#[derive(Clone, Copy)]
 pub struct Bit {
     pub bit: u32,
     pub carry: u32,
@@ -20,7 +20,7 @@ pub struct Bit {
 }
 
 // A word; of a sum also its last carry and the earlier one, which goes into the last bit.
-#[derive(Drop)]
+#[derive(Clone, Copy)]
 pub struct Word {
     pub lits: [u32; 16],
     pub carry: u32,

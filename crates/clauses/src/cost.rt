@@ -33,7 +33,7 @@ const PRODUCT_MARK_ANDS: u64 = 2 * SUM_ANDS + 2;
 const PRODUCT_MARK_WIDES: u64 = 2 * SUM_WIDES;
 
 // Gates by kind, and the position past what they are built from. `wides` are xors and muxes.
-#[derive(Drop)]
+#[derive(Clone, Copy)]
 pub struct GatesAt {
     pub ands: u64,
     pub wides: u64,

@@ -13,7 +13,7 @@ ghost use Rattle.clauses.specs.Replies.{decode_exit, DECODE};
 use super::admission::{Admission, admit};
 use super::frame::{FrameSizes, frame_length, variables};
 
-#[derive(Drop)]
+#[derive(Clone, Copy)]
 pub enum DecodeReply {
     Refused { number: u8, place: usize },
     Done,

@@ -13,14 +13,14 @@ use super::part::{put_part, put_parts};
 use design::index::{index_cells, index_events, shape};
 use design::limits::{EVENT_PLACES, MAX_MOVERS};
 
-#[derive(Drop)]
+#[derive(Clone, Copy)]
 pub enum EncodeReply {
     Refused { number: u8, place: usize },
     Encoded(u64),
 }
 
 // How many words and variables a formula has.
-#[derive(Drop)]
+#[derive(Clone, Copy)]
 pub struct Formula {
     pub words: usize,
     pub variables: usize,

@@ -17,14 +17,14 @@ use design::bytes::{wide, word};
 use design::shape::Shape;
 
 // The result of an expression, the pen after its gates, and the position past it.
-#[derive(Drop)]
+#[derive(Clone, Copy)]
 pub struct IntOut {
     pub lits: [u32; 16],
     pub pen: Pen,
     pub next: usize,
 }
 
-#[derive(Drop)]
+#[derive(Clone, Copy)]
 pub struct BoolOut {
     pub lit: u32,
     pub pen: Pen,

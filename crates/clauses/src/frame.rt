@@ -22,14 +22,14 @@ use step::limits::CONSTRAINT;
 use step::piece::expression;
 
 // Gates by kind; `wides` are xors and muxes.
-#[derive(Drop)]
+#[derive(Clone, Copy)]
 pub struct Gates {
     pub ands: u64,
     pub wides: u64,
 }
 
 // State bits, property gates, flags and gates of the step. `last` is 1 where the last clause takes the last frame too, else 0.
-#[derive(Drop)]
+#[derive(Clone, Copy)]
 pub struct FrameSizes {
     pub bits: u64,
     pub movers: u64,
@@ -39,7 +39,7 @@ pub struct FrameSizes {
 }
 
 // SIZE's numbers: S, P, w, G, n, and the whole formula's clauses and words.
-#[derive(Drop)]
+#[derive(Clone, Copy)]
 pub struct FormulaSizes {
     pub bits: u64,
     pub property: u64,

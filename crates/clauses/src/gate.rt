@@ -7,14 +7,14 @@ ghost use Rattle.clauses.specs.Writing.{from_code, Puts, Emits};
 use super::literal::{negate, next, positive, put_end, put_literal};
 
 // Where a writer stands: at the place of the next word in the buffer, and before the next variable.
-#[derive(Drop)]
+#[derive(Clone, Copy)]
 pub struct Cursor {
     pub cur: usize,
     pub var: u32,
 }
 
 // A writer of an expression's gates: where it stands, whether what it writes marks, and the mark so far.
-#[derive(Drop)]
+#[derive(Clone, Copy)]
 pub struct Pen {
     pub at: Cursor,
     pub marks: bool,
@@ -22,7 +22,7 @@ pub struct Pen {
 }
 
 // A literal, and the cursor and the next variable after its gates.
-#[derive(Drop)]
+#[derive(Clone, Copy)]
 pub struct Out {
     pub lit: u32,
     pub cur: usize,

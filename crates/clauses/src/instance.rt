@@ -4,7 +4,7 @@ use design::limits::MAX_MOVERS;
 use design::shape::Shape;
 
 // Of a design's shape and the places of its normal cells, with the sizes of a frame, for a property and a bound.
-#[derive(Drop)]
+#[derive(Clone, Copy)]
 pub struct Instance {
     pub shape: Shape,
     pub cells: [u16; MAX_MOVERS],

@@ -1,4 +1,6 @@
 // The clause writer: SIZE, ENCODE, DECODE.
+#![tactic(auto)]
+
 mod literal; // literals as codes, and the one function that stores a word
 mod gate; // and, xor, mux, or
 mod circuit; // sum, difference, product, less, equal, over 16 bits

@@ -19,7 +19,7 @@ use design::limits::{EVENT_PLACES, EVENT_ROW, MAX_BITS};
 use design::shape::Shape;
 
 // The first variable of a mover's result, the cursor, and the next variable.
-#[derive(Drop)]
+#[derive(Clone, Copy)]
 pub struct Moved {
     pub first: u32,
     pub cur: usize,

@@ -11,7 +11,7 @@ use design::limits::{EVENT_PLACES, MAX_BITS, MAX_MOVERS};
 use design::shape::Shape;
 
 // The first variable of each mover's result, and the cursor.
-#[derive(Drop)]
+#[derive(Clone, Copy)]
 pub struct StepOut {
     pub firsts: [u32; MAX_MOVERS],
     pub pen: Cursor,

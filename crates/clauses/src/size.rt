@@ -6,7 +6,7 @@ ghost use Rattle.clauses.specs.Replies.{size_reply};
 use super::admission::{Admission, admit};
 use super::frame::{FormulaSizes, formula};
 
-#[derive(Drop)]
+#[derive(Clone, Copy)]
 pub enum SizeReply {
     Refused { number: u8, place: usize },
     Sized(FormulaSizes),

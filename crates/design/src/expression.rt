@@ -10,7 +10,7 @@ ghost use Rattle.design.specs.Answers.{found};
 use super::shape::Shape;
 
 // What reading answers: the position past what was read, or that it is not right.
-#[derive(Drop)]
+#[derive(Clone, Copy)]
 pub enum Found {
     At(usize),
     Bad,

@@ -93,7 +93,7 @@ pub fn trailer_offsets(file: &[u8]) -> Offsets
 }
 
 // Where an expression stands: from `at` up to `end`.
-#[derive(Drop)]
+#[derive(Clone, Copy)]
 pub struct Extent {
     pub at: usize,
     pub end: usize,

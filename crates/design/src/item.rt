@@ -11,14 +11,14 @@ use super::limits::{MAX_DEPTH, MAX_EVENTS, MAX_STATUSES};
 use super::shape::Shape;
 
 // What walking an item or a section answers: the position past it, or a refusal's number and place.
-#[derive(Drop)]
+#[derive(Clone, Copy)]
 pub enum Walked {
     Past(usize),
     Refused(u8, usize),
 }
 
 // The same with the number of movers.
-#[derive(Drop)]
+#[derive(Clone, Copy)]
 pub enum Counted {
     Passed(usize, usize),
     Stopped(u8, usize),

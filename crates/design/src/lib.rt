@@ -1,4 +1,6 @@
 // The file reader: CHECK.
+#![tactic(auto)]
+
 pub mod action;
 pub mod bits;
 pub mod bytes;
@@ -20,7 +22,7 @@ use limits::{TRAILER, counts_right, length_right, movers_right, tail_bytes, vers
 use section::check_sections;
 
 // CHECK's answer: number 0 for an accepted file.
-#[derive(Drop)]
+#[derive(Clone, Copy)]
 pub struct Refusal {
     pub number: u8,
     pub place: usize,

@@ -5,7 +5,7 @@ ghost use Rattle.design.specs.Limits.{max_variables, max_matrices, max_slots};
 ghost use Rattle.design.specs.State.{slot_count};
 
 // Variables and matrices; normal cells, externals and state bits. While CHECK reads, only the first two are known, and the others are 0.
-#[derive(Drop)]
+#[derive(Clone, Copy)]
 pub struct Shape {
     pub variables: usize,
     pub matrices: usize,
@@ -15,7 +15,7 @@ pub struct Shape {
 }
 
 // What the trailer counts.
-#[derive(Drop)]
+#[derive(Clone, Copy)]
 pub struct Counts {
     pub variables: usize,
     pub matrices: usize,
@@ -23,7 +23,7 @@ pub struct Counts {
 }
 
 // Where the trailer and the number before it say that sections start. `constraint` is where the invariant ends: at the constraint, if the file has one, else where the items end.
-#[derive(Drop)]
+#[derive(Clone, Copy)]
 pub struct Offsets {
     pub matrices: usize,
     pub events: usize,

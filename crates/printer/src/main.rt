@@ -1,6 +1,8 @@
 // The clause-printing program: property byte, bound byte and design from standard input; the formula's parts in order to standard output.
 // Proved: the texts of the parts that `parts_of` answers, joined, are the whole output (`clauses_text`), and `put_part_of` gives the text of each.
 // Plain to read below: they are written in order. No contract can say what is written.
+#![tactic(auto)]
+
 use libc::{STDIN_FILENO, STDOUT_FILENO};
 use text::input::MAX_READ;
 use text::listing::{MAX_TEXT, MAX_WORDS, PartRange, parts_of, put_part_of};

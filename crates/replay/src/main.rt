@@ -1,4 +1,6 @@
 // The Replay program: property byte, count byte, choices and design from standard input; the run and its result to standard output.
+#![tactic(auto)]
+
 use libc::{STDIN_FILENO, STDOUT_FILENO};
 use text::input::MAX_READ;
 use text::trace::put_replay;

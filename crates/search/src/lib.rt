@@ -1,4 +1,6 @@
 // The search: SOLVE; and REFUTE, which sets units as it does.
+#![tactic(auto)]
+
 ghost use Rattle.std.specs.Prelude.{◌≡◌, length};
 ghost use Rattle.search.specs.Solve.{solve as solveOf};
 ghost use Rattle.search.specs.Memory.{Fresh, outcome, Leaves};
@@ -19,21 +21,21 @@ use words::{Spot, bad_word};
 const MAX_VARIABLE: u64 = 2147483647;
 
 // The search's answer.
-#[derive(Drop)]
+#[derive(Clone, Copy)]
 pub enum Answered {
     Sat,
     Unsat,
     Spent,
 }
 
-#[derive(Drop)]
+#[derive(Clone, Copy)]
 pub struct Solved {
     pub answer: Answered,
     pub tries: u64,
 }
 
 // What SOLVE answers: a refusal's number and place, or the search's answer and tries.
-#[derive(Drop)]
+#[derive(Clone, Copy)]
 pub enum Reply {
     Refused { number: u8, place: usize },
     Done(Solved),

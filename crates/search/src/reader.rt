@@ -5,7 +5,7 @@ ghost use Rattle.search.specs.Memory.{has_end, Past};
 use super::words::ends;
 
 // The words, and the place of the next one to read.
-#[derive(Drop)]
+#[derive(Clone, Copy)]
 pub struct Reader<'a> {
     pub words: &'a [i32],
     pub at: usize,

@@ -11,7 +11,7 @@ use super::scan::{Found, scan_from};
 use super::words::{Spot, bad_word, ends, sign, variable};
 
 // Every clause follows up to an empty one; the word at which the first clause begins that does not; or no empty clause.
-#[derive(Drop)]
+#[derive(Clone, Copy)]
 pub enum Judged {
     Accepted,
     Word(usize),
@@ -19,7 +19,7 @@ pub enum Judged {
 }
 
 // What REFUTE answers: a refusal's number and place, or what it found.
-#[derive(Drop)]
+#[derive(Clone, Copy)]
 pub enum Reply {
     Refused { number: u8, place: usize },
     Done(Judged),

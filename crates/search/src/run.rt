@@ -9,7 +9,7 @@ use super::{Answered, Solved};
 
 // What a turn comes to: a unit set, with how many settings stand and the place at which the next scan starts; a branch
 // value taken, with how many settings stand; all set; or no branch left.
-#[derive(Drop)]
+#[derive(Clone, Copy)]
 pub enum Step {
     Goes { set: usize, next: usize },
     Tries(usize),

@@ -9,7 +9,7 @@ use super::words::{ends, sign, variable};
 
 // What a scan finds: no such clause, one that is all false, or a unit: its variable, the value that makes its literal
 // true, and the place past its clause.
-#[derive(Drop)]
+#[derive(Clone, Copy)]
 pub enum Found {
     Nothing,
     Conflict,

@@ -6,7 +6,7 @@ ghost use Rattle.search.specs.Answers.{declared_spot};
 ghost use Rattle.search.specs.Memory.{sign_of};
 
 // A number, or none.
-#[derive(Drop)]
+#[derive(Clone, Copy)]
 pub enum Spot {
     Nowhere,
     At(usize),

@@ -17,14 +17,14 @@ use design::shape::Shape;
 
 // A value, the position past its expression, and whether the expression passes the end: whether a sum, difference or product in it has an exact
 // value that 16 bits do not hold. Only statements and conditions ask for the last.
-#[derive(Drop)]
+#[derive(Clone, Copy)]
 pub struct IntAt {
     pub value: u16,
     pub next: usize,
     pub passed: bool,
 }
 
-#[derive(Drop)]
+#[derive(Clone, Copy)]
 pub struct BoolAt {
     pub value: bool,
     pub next: usize,

@@ -16,7 +16,7 @@ use design::limits::{MAX_MATRICES, MAX_SLOTS, MAX_VARIABLES};
 use design::shape::Shape;
 
 // The entries that a call takes, the values as patterns; they are passed by value.
-#[derive(Drop)]
+#[derive(Clone, Copy)]
 pub struct Entries {
     pub patterns: [u16; MAX_VARIABLES],
     pub statuses: [u16; MAX_MATRICES],

@@ -1,4 +1,6 @@
 // The step rule: START, STEP, HOLDS, REPLAY.
+#![tactic(auto)]
+
 mod calls;
 mod evaluate;
 mod execute;
@@ -23,7 +25,7 @@ use gate::gate;
 use replaying::{refuse_replay, replay_accepted};
 
 // A refusal of number 0 is none.
-#[derive(Drop)]
+#[derive(Clone, Copy)]
 pub struct Started {
     pub refusal: Refusal,
     pub values: [i16; MAX_VARIABLES],
@@ -31,7 +33,7 @@ pub struct Started {
     pub mark: u16,
 }
 
-#[derive(Drop)]
+#[derive(Clone, Copy)]
 pub struct Stepped {
     pub refusal: Refusal,
     pub values: [i16; MAX_VARIABLES],
@@ -40,14 +42,14 @@ pub struct Stepped {
     pub idle: bool,
 }
 
-#[derive(Drop)]
+#[derive(Clone, Copy)]
 pub struct Held {
     pub refusal: Refusal,
     pub holds: bool,
 }
 
 // The first breaking step, where there is one; how many choices had their event read, and how many their guard.
-#[derive(Drop)]
+#[derive(Clone, Copy)]
 pub struct Replayed {
     pub refusal: Refusal,
     pub broken: bool,

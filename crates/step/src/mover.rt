@@ -18,7 +18,7 @@ use design::limits::{EVENT_PLACES, EVENT_ROW, MAX_MOVERS, MAX_NEST};
 use design::shape::{Shape, slot_count};
 
 // What came of testing a mover: whether its event was read, whether its guard was (a cell without one counts, too), and whether the choice was idle.
-#[derive(Drop)]
+#[derive(Clone, Copy)]
 pub struct Tested {
     pub event: bool,
     pub guard: bool,

@@ -51,7 +51,7 @@ pub fn load_start(file: &[u8], shape: Shape, slots: &mut [u16])
 }
 
 // What is asked of a run: a property, by its number, of a design of this shape.
-#[derive(Drop)]
+#[derive(Clone, Copy)]
 pub struct Query {
     pub shape: Shape,
     pub property: u64,

@@ -1,4 +1,6 @@
 // The text of the programs, written into a lent buffer.
+#![tactic(auto)]
+
 mod number; // numbers
 mod line; // a line of the Replay program
 pub mod input; // the design in a program's input

@@ -18,7 +18,7 @@ pub const MAX_WORDS: usize = 16384;
 pub const MAX_TEXT: usize = 22 * MAX_WORDS;
 
 // The parts that are printed: from first up to end.
-#[derive(Drop)]
+#[derive(Clone, Copy)]
 pub struct PartRange {
     pub first: u64,
     pub end: u64,

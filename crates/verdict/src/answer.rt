@@ -3,7 +3,7 @@ ghost use Rattle.std.specs.Prelude.{◌≡◌};
 ghost use Rattle.verdict.specs.Answers.{verdict_number, verdict_step, owner_words};
 
 // "VIOLATED with its step, CLEAN, or SPENT with the bound it stood at"
-#[derive(Drop)]
+#[derive(Clone, Copy)]
 pub enum Verdict {
     Violated(u64),
     Clean,
@@ -11,14 +11,14 @@ pub enum Verdict {
 }
 
 // The verdict, and the tries summed.
-#[derive(Drop)]
+#[derive(Clone, Copy)]
 pub struct Told {
     pub verdict: Verdict,
     pub tries: u64,
 }
 
 // What VERDICT answers: a refusal's number and place, or the verdict and the tries.
-#[derive(Drop)]
+#[derive(Clone, Copy)]
 pub enum Reply {
     Refused { number: u8, place: usize },
     Done(Told),

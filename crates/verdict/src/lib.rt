@@ -1,4 +1,6 @@
 // VERDICT, and several owners on one design.
+#![tactic(auto)]
+
 pub mod answer;
 mod bounds;
 pub mod owners;
