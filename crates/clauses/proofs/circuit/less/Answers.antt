@@ -1,0 +1,7 @@
+use Rattle.clauses.proofs.EmitCircuits.{less_emits}
+use Rattle.std.proofs.Common.{rules}
+use Rattle.clauses.proofs.circuit.less.Goals as goal
+
+pub returns : goal.returns
+returns c =
+    less_emits _ _ _ _ _ _ _ c.negate_top-x.ensures c.negate_top-y.ensures c.negate-l.ensures c.difference-w.ensures

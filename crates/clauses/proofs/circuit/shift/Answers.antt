@@ -1,0 +1,14 @@
+use Rattle.std.proofs.Common.{◌≡◌, ◌-◌, length, arith, rules}
+use Rattle.clauses.proofs.EmitCircuits.{Shifting, shifting_start, shifting_on, shifting_end}
+use Rattle.clauses.proofs.circuit.shift.Goals as goal
+
+pub loop-i-init : goal.loop-i-init
+loop-i-init c = shifting_start c.args.t1 (let h : length c.args.t1 ≡ 16 = search rules in h)
+
+pub loop-i-preserved : goal.loop-i-preserved
+loop-i-preserved c =
+    shifting_on c.args.t1 _ _ (let h : length c.args.t1 ≡ 16 = search rules in h) c.loop-i-test.true c.loop-i.invariant
+
+pub returns : goal.returns
+returns c =
+    shifting_end c.args.t1 _ _ (let h : length c.args.t1 ≡ 16 = search rules in h) c.loop-i-test.false c.loop-i.invariant

@@ -1,0 +1,11 @@
+use Rattle.std.proofs.Common.{◌≡◌, ◌+◌, ◌-◌, ◌≤◌, [], length, refl, ap, ◌∙◌, arith}
+use Rattle.clauses.specs.Writing.{variable_limit}
+use Rattle.clauses.specs.Literal.{positive, negate}
+use Rattle.clauses.proofs.EmitClauses.{Tying, tying_start, tying_on, tying_end}
+use Rattle.clauses.proofs.clause.put_ties.Given as goal
+
+abbrev pub invariant-loop-i : goal.invariant-loop-i
+invariant-loop-i l = (l.f + 1 ≤ variable_limit → Tying (positive l.f) l.r l.b l.n l.initial.buf l.cur l.buf l.at l.x l.y l.i) × (length l.buf ≡ length l.initial.buf)
+
+abbrev pub decreases-loop-i : goal.decreases-loop-i
+decreases-loop-i l = l.n - l.i

@@ -1,0 +1,28 @@
+use Rattle.std.proofs.Common.{arith, rules}
+use Rattle.clauses.proofs.EncodeCall.{writable_accepted, writable_admitted, formula_written}
+use Rattle.clauses.proofs.EmitFormula.{formula_ready}
+use Rattle.clauses.proofs.encode.write_formula.Goals as goal
+
+pub sizes-s-requires : goal.sizes-s-requires
+sizes-s-requires c = (writable_accepted c.requires, c.requires.right)
+
+pub index_events-requires : goal.index_events-requires
+index_events-requires c = (writable_accepted c.requires, search rules)
+
+pub index_cells-requires : goal.index_cells-requires
+index_cells-requires c = (writable_accepted c.requires, search rules)
+
+pub shape-shape-requires : goal.shape-shape-requires
+shape-shape-requires c = writable_accepted c.requires
+
+pub put_parts-words-requires : goal.put_parts-words-requires
+put_parts-words-requires c =
+    (
+      formula_ready _ (writable_admitted c.requires (λ i. omega (arith, c.shared_slice_known-1.given i)) c.sizes-s.ensures.0 c.sizes-s.ensures.1) (λ i. omega (arith, c.shared_slice_known-1.given i)) c.index_events.ensures c.index_cells.ensures c.shape-shape.ensures,
+      c.requires.right,
+    )
+
+pub returns : goal.returns
+returns c =
+    formula_written _ _ _ _ _ _ _ _ _ c.requires (λ i. omega (arith, c.shared_slice_known-1.given i)) c.sizes-s.ensures.1
+    c.put_parts-words.ensures c.variables.ensures.0

@@ -1,0 +1,10 @@
+use Rattle.std.proofs.Common.{◌≡◌, ◌-◌, length, refl, arith}
+use Rattle.design.proofs.Widths.{width_bound}
+use Rattle.clauses.proofs.EmitParts.{Valuing, valuing_start, valuing_on, valuing_end, values_inside}
+use Rattle.clauses.proofs.first.put_values.Given as goal
+
+abbrev pub invariant-loop-v : goal.invariant-loop-v
+invariant-loop-v l = Valuing l.file l.shape.variables l.initial.buf l.cur l.buf l.at l.x l.v × (length l.buf ≡ length l.initial.buf)
+
+abbrev pub decreases-loop-v : goal.decreases-loop-v
+decreases-loop-v l = l.shape.variables - l.v

@@ -1,0 +1,134 @@
+use Rattle.std.proofs.Common.{◌≡◌, ℕ, ◌+◌, ◌*◌, length, sym, ap, ◌∙◌, arith, rules}
+use Rattle.clauses.specs.FlatState.{slots_of, layout_of}
+use Rattle.clauses.proofs.EmitSlots.{status_room}
+use Rattle.clauses.proofs.CellCounts.{sizes, kinds}
+use Rattle.clauses.proofs.EmitCells.{few_bits, slotted, normal_fields, is, action_here, action_writes, target_set, muxes_first, cell_emits}
+use Rattle.clauses.proofs.mover.encode_cell.Goals as goal
+
+pub encode_enable-e-requires : goal.encode_enable-e-requires
+encode_enable-e-requires c = c.requires
+
+pub overflow_add-at : goal.overflow_add-at
+overflow_add-at c =
+    omega (
+      arith,
+      (normal_fields c.requires.0 c.args.p c.requires.2).header,
+      (normal_fields c.requires.0 c.args.p c.requires.2).past,
+      sizes c.requires.0.shaped,
+    )
+
+pub overflow_add-p : goal.overflow_add-p
+overflow_add-p c =
+    omega (
+      arith,
+      (normal_fields c.requires.0 c.args.p c.requires.2).header,
+      (normal_fields c.requires.0 c.args.p c.requires.2).past,
+      sizes c.requires.0.shaped,
+    )
+
+pub bounds-file-p : goal.bounds-file-p
+bounds-file-p c =
+    omega (
+      arith,
+      (normal_fields c.requires.0 c.args.p c.requires.2).header,
+      (normal_fields c.requires.0 c.args.p c.requires.2).past,
+      sizes c.requires.0.shaped,
+    )
+
+pub overflow_add-at-2 : goal.overflow_add-at-2
+overflow_add-at-2 c =
+    omega (arith, (normal_fields c.requires.0 c.args.p c.requires.2).past, sizes c.requires.0.shaped, c.wide.ensures.0)
+
+pub encode_list-a-requires : goal.encode_list-a-requires
+encode_list-a-requires c =
+    (
+      slotted c.requires.0.shaped _ c.requires.1,
+      c.requires.1,
+      action_here c.requires.0 c.args.p c.requires.2 _ (ap (λ (k :
+          ℕ). c.args.p + 8 + k) c.wide.ensures.0),
+    )
+
+pub offset-requires : goal.offset-requires
+offset-requires c =
+    omega (arith, kinds c.requires.0.shaped, sizes c.requires.0.shaped)
+
+pub bounds-file-p-2 : goal.bounds-file-p-2
+bounds-file-p-2 c =
+    omega (
+      arith,
+      (normal_fields c.requires.0 c.args.p c.requires.2).header,
+      (normal_fields c.requires.0 c.args.p c.requires.2).past,
+      sizes c.requires.0.shaped,
+    )
+
+pub overflow_mul-o : goal.overflow_mul-o
+overflow_mul-o c = omega (arith, c.wide-2.ensures)
+
+pub overflow_add-o : goal.overflow_add-o
+overflow_add-o c =
+    omega (
+      arith,
+      status_room c.args.file.now c.args.shape.variables c.args.shape.matrices c.wide-2.result _ (omega (
+        arith,
+        c.wide-2.ensures.0,
+        (normal_fields c.requires.0 c.args.p c.requires.2).matrix,
+        c.requires.0.shaped.counts.matrices,
+      )) (ap (λ (k : ℕ). k + 4 * c.wide-2.result) c.offset.ensures),
+      few_bits c.requires.0.shaped,
+    )
+
+pub overflow_add-p-2 : goal.overflow_add-p-2
+overflow_add-p-2 c =
+    omega (
+      arith,
+      (normal_fields c.requires.0 c.args.p c.requires.2).header,
+      (normal_fields c.requires.0 c.args.p c.requires.2).past,
+      sizes c.requires.0.shaped,
+    )
+
+pub bounds-file-p-3 : goal.bounds-file-p-3
+bounds-file-p-3 c =
+    omega (
+      arith,
+      (normal_fields c.requires.0 c.args.p c.requires.2).header,
+      (normal_fields c.requires.0 c.args.p c.requires.2).past,
+      sizes c.requires.0.shaped,
+    )
+
+pub overflow_cast-wide : goal.overflow_cast-wide
+overflow_cast-wide c = omega (arith, c.wide-3.ensures.1)
+
+pub store_word-requires : goal.store_word-requires
+store_word-requires c = (
+  omega (
+    arith,
+    status_room c.args.file.now c.args.shape.variables c.args.shape.matrices c.wide-2.result _ (omega (
+      arith,
+      c.wide-2.ensures.0,
+      (normal_fields c.requires.0 c.args.p c.requires.2).matrix,
+      c.requires.0.shaped.counts.matrices,
+    )) (ap (λ (k : ℕ). k + 4 * c.wide-2.result) c.offset.ensures),
+    few_bits c.requires.0.shaped,
+  ),
+  omega arith,
+  c.encode_list-a.ensures.1,
+)
+
+pub muxes-x-requires : goal.muxes-x-requires
+muxes-x-requires c =
+    (c.requires.0.shaped.bits.few, c.store_word.ensures.1, c.requires.1)
+
+pub shape_of-buf : goal.shape_of-buf
+shape_of-buf c =
+    omega (arith, c.buf-3-1.given, c.buf-2-1.given, c.buf-1.given)
+
+pub returns : goal.returns
+returns c =
+    λ x. let i = is c.requires.0 c.args.p x in
+    cell_emits (layout_of c.args.shape) (slots_of c.args.file.now c.args.shape c.args.bits.now) x.cell (c.encode_enable-e.ensures x) (action_writes c.requires.0 c.args.p x _ (ap (λ (k : ℕ). c.args.p + 8 + k) c.wide.ensures.0) c.args.bits.now _ c.encode_list-a.result c.encode_list-a.ensures.0) (target_set c.args.file.now c.args.shape _ (few_bits c.requires.0.shaped) c.encode_list-a.ensures.1
+    x.cell.matrix c.wide-2.result _ x.cell.target c.wide-3.result c.constant.result _ (c.wide-2.ensures.0 ∙ sym i.matrix) (c.wide-3.ensures.0 ∙ sym i.target) (omega (
+      arith,
+      i.matrix,
+      (normal_fields c.requires.0 c.args.p c.requires.2).matrix,
+      c.requires.0.shaped.counts.matrices,
+    )) (ap (λ (k : ℕ). k + 4 * c.wide-2.result) c.offset.ensures) c.constant.ensures (let h : length c.constant.result ≡ 16 = search rules in h) c.store_word.ensures.0) (muxes_first c.args.file.now c.args.shape _ _ c.args.bits.now (few_bits c.requires.0.shaped) c.store_word.ensures.1 c.requires.1 (c.muxes-x.ensures.0 c.args.file.now c.requires.0.shaped.bits.total))

@@ -1,0 +1,11 @@
+use Rattle.std.proofs.Common.{◌≡◌, ◌+◌, ◌-◌, length, refl, arith}
+use Rattle.clauses.specs.FlatState.{slots_of, layout_of}
+use Rattle.clauses.proofs.CellCounts.{kinds}
+use Rattle.clauses.proofs.EmitSteps.{few_cells, place_small, cell_here, cell_is, external_is, raised_kind, all_few, Moving, moving_start, moving_on, moving_end, mover_total}
+use Rattle.clauses.proofs.movers.encode_step.Given as goal
+
+abbrev pub invariant-loop-i : goal.invariant-loop-i
+invariant-loop-i l = Moving l.file l.shape l.bits l.initial.g l.initial.buf l.initial.at l.firsts l.buf l.at l.g l.i × (length l.buf ≡ length l.initial.buf)
+
+abbrev pub decreases-loop-i : goal.decreases-loop-i
+decreases-loop-i l = l.shape.normals + l.shape.externals - l.i

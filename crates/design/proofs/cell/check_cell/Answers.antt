@@ -1,0 +1,32 @@
+-- `design::cell::check_cell` meets its contract. Assumes nothing.
+use native.Mathlib.Omega.{arith}
+use borrow.Author.Tests.{not-true, not-false}
+use Rattle.design.proofs.Cells.{cell_passes, cell_fields, cell_order, cell_invalid, cell_guard, cell_action}
+use mathlib.Core.Path.{sym, ◌∙◌}
+use borrow.Author.Rules.{rules}
+use Rattle.design.proofs.cell.check_cell.Goals as goal
+
+pub returns-then-end-past : goal.returns-then-end-past
+returns-then-end-past c = λ f. cell_passes _ _ _ _ f _ _ _ (omega arith) c.if-end-past.true
+
+pub returns-then-not-fields_ok : goal.returns-then-not-fields_ok
+returns-then-not-fields_ok c =
+    λ f. cell_fields _ _ _ _ f _ _ _ (omega arith) c.if-end-past.false _ c.fields_ok.ensures c.if-not-fields_ok.true
+
+pub returns-then-not-in_order : goal.returns-then-not-in_order
+returns-then-not-in_order c =
+    λ f. cell_order _ _ _ _ f _ _ _ (omega arith) c.if-end-past.false _ _ c.fields_ok.ensures
+    c.if-not-fields_ok.false c.in_order.ensures c.if-not-in_order.true
+
+pub returns-then-kind-ne0 : goal.returns-then-kind-ne0
+returns-then-kind-ne0 c =
+    λ f. cell_invalid _ _ _ _ f _ _ _ (omega arith) c.if-end-past.false _ _ c.fields_ok.ensures c.if-not-fields_ok.false c.in_order.ensures
+    c.if-not-in_order.false c.if-kind-ne0.true
+
+pub returns-in-Past : goal.returns-in-Past
+returns-in-Past c =
+    λ f. cell_action _ _ _ _ f _ _ _ (omega arith) c.if-end-past.false _ _ c.fields_ok.ensures c.if-not-fields_ok.false c.in_order.ensures c.if-not-in_order.false _ _ c.if-kind-ne0.false (sym c.in-Past.is ∙ c.check_guard.ensures c.args.end) (c.check_action.ensures c.args.end)
+
+pub returns-in-Refused : goal.returns-in-Refused
+returns-in-Refused c =
+    λ f. cell_guard _ _ _ _ f _ _ _ (omega arith) c.if-end-past.false _ _ c.fields_ok.ensures c.if-not-fields_ok.false c.in_order.ensures c.if-not-in_order.false _ _ c.if-kind-ne0.false (sym c.in-Refused.is ∙ c.check_guard.ensures c.args.end)

@@ -1,0 +1,65 @@
+-- `design::expression::check_bool` meets its contract. Assumes nothing.
+use native.Mathlib.Omega.{arith}
+use mathlib.Core.Path.{refl, sym, ap, ◌∙◌}
+use mathlib.Core.Logic.{inl, inr}
+use Prim.Native.Nat.{ℕ, ◌<◌}
+use borrow.Author.Tests.{not-true, not-false}
+use Rattle.design.specs.Check.{names_of}
+use Rattle.design.specs.Expression.{with_later, bool_op}
+use Rattle.design.proofs.Readers.{bool_zero, bool_past, bool_leaf, bool_not, bool_pair, bool_pair_bad, compare_pair, compare_bad, bool_none, bool_illegal, bool_later}
+use Rattle.design.proofs.expression.+check_bool.Goals as goal
+
+pub returns-then-depth-eq0 : goal.returns-then-depth-eq0
+returns-then-depth-eq0 t c = bool_zero _ _ _ _ _ c.if-depth-eq0.true
+
+pub returns-then-end-at : goal.returns-then-end-at
+returns-then-end-at t c = bool_past _ _ _ _ _ c.if-end-at.true
+
+pub returns-then-not-later : goal.returns-then-not-later
+returns-then-not-later t c =
+    bool_illegal _ _ _ _ _ c.if-depth-eq0.false c.if-end-at.false c.in-23.is c.if-not-later.true
+
+pub returns-in-16 : goal.returns-in-16
+unfolding bool_op
+returns-in-16 t c =
+    bool_leaf _ _ _ _ _ c.if-depth-eq0.false c.if-end-at.false _ _ (ap bool_op c.in-16.is) (c.read_boolean_constant.ensures (with_later c.args.later (names_of c.args.file.now c.args.shape)))
+
+pub returns-in-17 : goal.returns-in-17
+unfolding bool_op
+returns-in-17 t c =
+    bool_leaf _ _ _ _ _ c.if-depth-eq0.false c.if-end-at.false _ _ (ap bool_op c.in-17.is) c.read_boolean_variable.ensures
+
+pub returns-in-18 : goal.returns-in-18
+unfolding bool_op
+returns-in-18 t c =
+    bool_not _ _ _ _ _ c.if-depth-eq0.false c.if-end-at.false _ (ap bool_op c.in-18.is) c.check_bool.ensures
+
+pub returns-else-not-later : goal.returns-else-not-later
+returns-else-not-later t c =
+    bool_later _ _ _ _ _ c.if-depth-eq0.false c.if-end-at.false _ c.in-23.is c.if-not-later.false c.read_boolean_variable-in-23.ensures
+
+pub returns-in-At : goal.returns-in-At
+returns-in-At t c =
+    bool_pair _ _ _ _ _ c.if-depth-eq0.false c.if-end-at.false _ _ (omega arith) c.in-19-to-20.if-op-lt21-own.true (sym c.in-At.is ∙ c.check_bool-in-19-to-20.ensures) c.check_bool-in-At.ensures
+
+pub returns-in-Bad : goal.returns-in-Bad
+returns-in-Bad t c =
+    bool_pair_bad _ _ _ _ _ c.if-depth-eq0.false c.if-end-at.false (omega arith) c.in-19-to-20.if-op-lt21-own.true (sym c.in-Bad.is ∙ c.check_bool-in-19-to-20.ensures)
+
+pub returns-in-At-check_int : goal.returns-in-At-check_int
+returns-in-At-check_int t c =
+    compare_pair _ _ _ _ _ c.if-depth-eq0.false c.if-end-at.false _ _ c.in-21-to-22.if-op-lt21-own.false c.in-21-to-22.if-op-lt23-own.true (sym c.in-At-check_int.is ∙ c.check_int.ensures) c.check_int-in-At-check_int.ensures
+
+pub returns-in-Bad-check_int : goal.returns-in-Bad-check_int
+returns-in-Bad-check_int t c =
+    compare_bad _ _ _ _ _ c.if-depth-eq0.false c.if-end-at.false c.in-21-to-22.if-op-lt21-own.false c.in-21-to-22.if-op-lt23-own.true
+    (sym c.in-Bad-check_int.is ∙ c.check_int.ensures)
+
+pub returns-in_default : goal.returns-in_default
+returns-in_default t c =
+    bool_leaf _ _ _ _ _ c.if-depth-eq0.false c.if-end-at.false _ _ (bool_none _ (inl c.in_default.if-op-lt16-own.true)) refl
+
+pub returns-in_default-2 : goal.returns-in_default-2
+returns-in_default-2 t c =
+    bool_leaf _ _ _ _ _ c.if-depth-eq0.false c.if-end-at.false _ _
+    (bool_none _ (inr (omega arith))) refl

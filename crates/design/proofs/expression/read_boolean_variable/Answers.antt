@@ -1,0 +1,22 @@
+-- `design::expression::read_boolean_variable` meets its contract. Assumes nothing.
+use borrow.Author.Tests.{le-ltb, lt-ltb, eq-eqb, ne_eqb}
+use native.Mathlib.Omega.{arith}
+use borrow.Author.Rules.{rules}
+use Rattle.design.proofs.expression.read_boolean_variable.Goals as goal
+
+pub returns-then-end-at : goal.returns-then-end-at
+returns-then-end-at c = simp (le-ltb _ _ c.if-end-at.true)
+
+pub overflow_cast-v : goal.overflow_cast-v
+overflow_cast-v c = omega (arith, c.shared_slice_known-1.given c.args.at)
+
+pub returns-then-shape-v : goal.returns-then-shape-v
+returns-then-shape-v c = simp (lt-ltb _ _ c.if-end-at.false, le-ltb _ _ c.if-shape-v.true)
+
+pub returns-then-k-eq1 : goal.returns-then-k-eq1
+returns-then-k-eq1 c =
+    simp (lt-ltb _ _ c.if-end-at.false, lt-ltb _ _ c.if-shape-v.false, eq-eqb _ _ c.if-k-eq1.true)
+
+pub returns-else-k-eq1 : goal.returns-else-k-eq1
+returns-else-k-eq1 c =
+    simp (lt-ltb _ _ c.if-end-at.false, lt-ltb _ _ c.if-shape-v.false, ne_eqb _ _ c.if-k-eq1.false)

@@ -1,0 +1,22 @@
+-- `design::index::external_count` meets its contract. Assumes nothing.
+use native.Mathlib.Omega.{arith}
+use Prim.Native.Nat.{◌-◌}
+use Rattle.design.proofs.Externals.{Counting, counting_start, counting_yes, counting_no, counting_end}
+use Rattle.design.proofs.index.external_count.Goals as goal
+use Rattle.design.proofs.index.external_count.Goals.{then-file-v-eq2, else-file-v-eq2}
+
+pub loop-v-init : goal.loop-v-init
+loop-v-init c = counting_start _ _
+
+pub overflow_add-count : goal.overflow_add-count
+overflow_add-count c = omega (arith, c.loop-v.invariant.few)
+
+pub loop-v-preserved : goal.loop-v-preserved
+loop-v-preserved c =
+    elim c.if-file-v-eq2.branch [
+      | then-file-v-eq2 w ↦ counting_yes _ _ _ _ _ c.loop-v-test.true w.if-file-v-eq2.true w.count-is c.loop-v.invariant
+      | else-file-v-eq2 w ↦ counting_no _ _ _ _ _ c.loop-v-test.true w.if-file-v-eq2.false w.count-is c.loop-v.invariant
+    ]
+
+pub returns : goal.returns
+returns c = counting_end _ _ _ _ c.loop-v-test.false c.loop-v.invariant

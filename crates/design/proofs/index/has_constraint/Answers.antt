@@ -1,0 +1,10 @@
+-- `design::index::has_constraint` meets its contract. Assumes nothing.
+use mathlib.Core.Path.{ap, ◌∙◌}
+use borrow.Author.Rules.{rules}
+use Rattle.design.specs.Limits.{constrained}
+use Rattle.design.proofs.File.{version_here}
+use Rattle.design.proofs.index.has_constraint.Goals as goal
+
+pub returns : goal.returns
+returns c =
+    c.is_constrained.ensures ∙ ap constrained (version_here c.args.file.now _ c.trailer_word.ensures.0)

@@ -1,0 +1,14 @@
+use native.Mathlib.Omega.{arith}
+use Prim.Native.Nat.{ℕ, ◌+◌, ◌*◌, ◌-◌}
+use mathlib.Core.Path.{◌≡◌, ap, ◌∙◌}
+use lib.ListN.{length, get_or}
+use Rattle.design.specs.Check.{matrices_offset, matrix_count}
+use Rattle.design.proofs.Tables.{bounds, matrix_in, few_events, EventsGoing, events_start_lem, row_inside, events_on, events_end}
+use Rattle.design.specs.Limits.{event_places}
+use Rattle.design.proofs.index.index_events.Given as goal
+
+abbrev pub invariant-loop-m : goal.invariant-loop-m
+invariant-loop-m l = (l.mats ≡ matrices_offset l.file) × (l.nm ≡ matrix_count l.file) × EventsGoing l.file l.p l.m l.table × (length l.table ≡ event_places)
+
+abbrev pub decreases-loop-m : goal.decreases-loop-m
+decreases-loop-m l = l.nm - l.m

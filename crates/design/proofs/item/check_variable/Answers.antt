@@ -1,0 +1,38 @@
+-- `design::item::check_variable` meets its contract. Assumes nothing.
+use borrow.Author.Tests.{le-leb, lt-leb, eq-eqb, ne_eqb}
+use Rattle.design.specs.DesignFile.{variable_at}
+use Rattle.design.proofs.Items.{lt_leb_of, le_leb_of}
+use borrow.Author.Rules.{rules}
+use Rattle.design.proofs.item.check_variable.Goals as goal
+
+pub returns-then-end-at : goal.returns-then-end-at
+unfolding variable_at
+returns-then-end-at c = simp (lt-leb _ _ c.if-end-at.true)
+
+pub returns-then-k-gt2 : goal.returns-then-k-gt2
+unfolding variable_at
+returns-then-k-gt2 c = simp (le-leb _ _ c.if-end-at.false, lt-leb _ _ c.if-k-gt2.true)
+
+pub returns-then-k-eq1 : goal.returns-then-k-eq1
+unfolding variable_at
+returns-then-k-eq1 c = simp (le-leb _ _ c.if-end-at.false, le-leb _ _ c.if-k-gt2.false, eq-eqb _ _ c.if-k-eq1.true)
+
+pub returns-then-v-gt1 : goal.returns-then-v-gt1
+unfolding variable_at
+returns-then-v-gt1 c =
+    simp (
+      le-leb _ _ c.if-end-at.false,
+      le-leb _ _ c.if-k-gt2.false,
+      ne_eqb _ _ c.if-k-eq1.false,
+      lt_leb_of _ _ _ c.word-v.ensures.0 c.if-v-gt1.true,
+    )
+
+pub returns-else-v-gt1 : goal.returns-else-v-gt1
+unfolding variable_at
+returns-else-v-gt1 c =
+    simp (
+      le-leb _ _ c.if-end-at.false,
+      le-leb _ _ c.if-k-gt2.false,
+      ne_eqb _ _ c.if-k-eq1.false,
+      le_leb_of _ _ _ c.word-v.ensures.0 c.if-v-gt1.false,
+    )

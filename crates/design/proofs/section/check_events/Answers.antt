@@ -1,0 +1,27 @@
+-- `design::section::check_events` meets its contract. Assumes nothing.
+use native.Mathlib.Omega.{arith}
+use Prim.Native.Nat.{◌≤◌, ◌+◌}
+use mathlib.Core.Path.{◌≡◌, refl, sym, ◌∙◌}
+use Rattle.design.specs.DesignFile.{events_from}
+use Rattle.design.specs.Check.{names_of}
+use Rattle.design.specs.Answers.{walked}
+use Rattle.design.proofs.Items.{rows_none, rows_refused, rows_more, row_ends}
+use Rattle.design.proofs.section.check_events.Goals as goal
+
+pub loop-left-init : goal.loop-left-init
+loop-left-init c = (omega arith, omega arith, refl)
+
+pub loop-left-preserved : goal.loop-left-preserved
+loop-left-preserved c =
+    let e = sym c.in-Past.is ∙ c.check_matrix_events.ensures in let g = row_ends _ _ _ _ _ c.loop-left.left c.loop-left.p _ (omega arith) c.wide-count.ensures.0 _ (omega arith) e in (
+      g,
+      omega arith,
+      rows_more _ _ _ _ _ _ _ _ (omega arith) c.wide-count.ensures.0 _ e ∙ c.loop-left.invariant.2,
+    )
+
+pub returns-in-Refused : goal.returns-in-Refused
+returns-in-Refused c =
+    rows_refused _ _ _ _ _ _ _ _ (omega arith) c.wide-count.ensures.0 _ _ (sym c.in-Refused.is ∙ c.check_matrix_events.ensures) ∙ c.loop-left.invariant.2
+
+pub returns : goal.returns
+returns c = rows_none _ _ _ _ _ _ _ (omega arith) ∙ c.loop-left.invariant.2

@@ -1,0 +1,30 @@
+-- `design::section::check_from_matrices` meets its contract. Assumes nothing.
+use native.Mathlib.Omega.{arith}
+use mathlib.Core.Path.{sym, ◌∙◌}
+use Rattle.design.proofs.File.{variables_end, x_matrix, x_events, past_at}
+use Rattle.design.proofs.section.check_from_matrices.Goals as goal
+
+pub check_matrices-requires : goal.check_matrices-requires
+check_matrices-requires c =
+    let a = variables_end c.args.file.now c.args.end c.args.counts c.args.offsets _ _ c.requires.2
+    in omega arith
+
+pub returns-then-offsets-p : goal.returns-then-offsets-p
+returns-then-offsets-p c =
+    x_events c.args.file.now c.args.end c.args.counts c.args.offsets _ c.requires.2 _ (sym c.in-Past.is ∙ c.check_matrices.ensures) c.if-offsets-p.true
+
+pub check_from_events-requires : goal.check_from_events-requires
+check_from_events-requires c = record {
+  trailer_bytes_in_bounds = (c.requires.0, c.requires.1);
+  variables_right = (
+    c.requires.2,
+    past_at _ _ _ c.if-offsets-p.false (sym c.in-Past.is ∙ c.check_matrices.ensures),
+  );
+}
+
+pub returns-else-offsets-p : goal.returns-else-offsets-p
+returns-else-offsets-p c = c.check_from_events.ensures
+
+pub returns-in-Refused : goal.returns-in-Refused
+returns-in-Refused c =
+    x_matrix c.args.file.now c.args.end c.args.counts c.args.offsets _ c.requires.2 _ _ (sym c.in-Refused.is ∙ c.check_matrices.ensures)

@@ -1,0 +1,13 @@
+use native.Mathlib.Omega.{arith}
+use Prim.Native.Nat.{◌≤◌}
+use mathlib.Core.Path.{◌≡◌, refl, sym, ◌∙◌}
+use Rattle.design.specs.DesignFile.{items, matrix_at}
+use Rattle.design.specs.Answers.{walked}
+use Rattle.design.proofs.Items.{items_none, items_refused, items_more, matrix_ends}
+use Rattle.design.proofs.section.check_matrices.Given as goal
+
+abbrev pub invariant-loop-left : goal.invariant-loop-left
+invariant-loop-left l = (l.p ≤ l.end) × (walked (items (matrix_at l.file l.end) l.left l.p) ≡ walked (items (matrix_at l.file l.end) l.nm l.at))
+
+abbrev pub decreases-loop-left : goal.decreases-loop-left
+decreases-loop-left l = l.left

@@ -1,0 +1,14 @@
+use native.Mathlib.Omega.{arith}
+use Prim.Native.Nat.{◌≤◌, ◌+◌}
+use mathlib.Core.Path.{◌≡◌, refl, sym, ◌∙◌}
+use mathlib.Core.Logic.{⊎_elim}
+use Rattle.design.specs.DesignFile.{items, variable_at}
+use Rattle.design.specs.Answers.{counted, raises}
+use Rattle.design.proofs.Items.{count_none, count_refused, variable_more, variable_ends}
+use Rattle.design.proofs.section.check_variables.Given as goal
+
+abbrev pub invariant-loop-left : goal.invariant-loop-left
+invariant-loop-left l = (l.p ≤ l.end) × (l.externals + l.left ≤ l.nv) × (counted raises l.externals (items (variable_at l.file l.end) l.left l.p) ≡ counted raises 0 (items (variable_at l.file l.end) l.nv 0))
+
+abbrev pub decreases-loop-left : goal.decreases-loop-left
+decreases-loop-left l = l.left

@@ -1,0 +1,9 @@
+-- `entries::owners::stm_owners` meets its contract. Assumes nothing.
+use Rattle.entries.specs.Owners.{owners_entry}
+use Rattle.entries.proofs.Owning.{owners_return}
+use borrow.Author.Rules.{rules}
+use Rattle.entries.proofs.owners.stm_owners.Goals as goal
+
+pub returns : goal.returns
+unfolding owners_entry
+returns c = owners_return _ _ c.owners-r.ensures _ c.code_of.ensures

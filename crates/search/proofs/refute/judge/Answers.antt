@@ -1,0 +1,10 @@
+-- `search::refute::judge` meets its contract.
+use mathlib.Core.Path.{ap, ◌∙◌}
+use Prim.Native.Nat.{ℕ}
+use lib.ListN.{replicate}
+use borrow.Author.Rules.{rules}
+use Rattle.search.proofs.refute.judge.Goals as goal
+
+pub returns : goal.returns
+returns c =
+    (c.read-found.ensures, c.fill8.ensures ∙ ap (λ (k : ℕ). replicate k 0) c.read-found.auto.1.1.0)

@@ -1,0 +1,65 @@
+-- `search::run::run` meets its contract.
+use native.Mathlib.Omega.{arith}
+use lib.ListN.{length}
+use borrow.Author.Rules.{rules}
+use Rattle.search.specs.Memory.{settings_of}
+use Rattle.search.proofs.Counting.{ahead}
+use Rattle.search.proofs.Running.{Searching, searching_start, ready_here, again_goes, latest_try, again_tries, ends_spent, ends_sat, ends_unsat}
+use Rattle.search.proofs.run.run.Goals as goal
+
+pub loop-set-init : goal.loop-set-init
+loop-set-init c =
+    let the-pre = c.requires in
+    searching_start _ _ _ _ the-pre.0 the-pre.1
+
+pub turn-requires : goal.turn-requires
+turn-requires c = ready_here c.loop-set.invariant
+
+pub loop-set-smaller-in-Goes : goal.loop-set-smaller-in-Goes
+loop-set-smaller-in-Goes c =
+    let the-loop = c.loop-set in
+    let the-turn = c.turn in
+    (again_goes the-loop.invariant the-turn.result the-turn.new.1.0 the-turn.new.1.1.0 the-turn.ensures c.in-Goes.is).less
+
+pub loop-set-preserved-in-Goes : goal.loop-set-preserved-in-Goes
+loop-set-preserved-in-Goes c =
+    let the-loop = c.loop-set in
+    let the-turn = c.turn in
+    (again_goes the-loop.invariant the-turn.result the-turn.new.1.0 the-turn.new.1.1.0 the-turn.ensures c.in-Goes.is).searching
+
+pub returns-then-tries-budget : goal.returns-then-tries-budget
+returns-then-tries-budget c =
+    let the-loop = c.loop-set in
+    let the-turn = c.turn in
+    ends_spent the-loop.invariant the-turn.result the-turn.new.1.0 the-turn.new.1.1.0 the-turn.ensures c.in-Tries.is c.if-tries-budget.true
+
+pub latest-low-requires : goal.latest-low-requires
+latest-low-requires c =
+    let the-loop = c.loop-set in
+    let the-turn = c.turn in
+    let l = latest_try the-loop.invariant the-turn.result the-turn.new.1.0 the-turn.new.1.1.0 the-turn.ensures c.in-Tries.is in
+    (l.some, l.room)
+
+pub loop-set-smaller : goal.loop-set-smaller
+loop-set-smaller c =
+    let the-loop = c.loop-set in
+    let the-turn = c.turn in
+    (again_tries the-loop.invariant the-turn.result the-turn.new.1.0 the-turn.new.1.1.0 the-turn.ensures c.in-Tries.is c.latest-low.ensures c.if-tries-budget.false).less
+
+pub loop-set-preserved : goal.loop-set-preserved
+loop-set-preserved c =
+    let the-loop = c.loop-set in
+    let the-turn = c.turn in
+    (again_tries the-loop.invariant the-turn.result the-turn.new.1.0 the-turn.new.1.1.0 the-turn.ensures c.in-Tries.is c.latest-low.ensures c.if-tries-budget.false).searching
+
+pub returns-in-Sat : goal.returns-in-Sat
+returns-in-Sat c =
+    let the-loop = c.loop-set in
+    let the-turn = c.turn in
+    ends_sat the-loop.invariant the-turn.result the-turn.new.1.0 the-turn.new.1.1.0 the-turn.ensures c.in-Sat.is
+
+pub returns-in-Unsat : goal.returns-in-Unsat
+returns-in-Unsat c =
+    let the-loop = c.loop-set in
+    let the-turn = c.turn in
+    ends_unsat the-loop.invariant the-turn.result the-turn.new.1.0 the-turn.new.1.1.0 the-turn.ensures c.in-Unsat.is

@@ -1,0 +1,47 @@
+-- `search::words::bad_word` meets its contract.
+use mathlib.Core.Path.{◌≡◌, sym, subst}
+use mathlib.Core.Bool.{false, not, cond}
+use Prim.Native.Nat.{◌+◌, ◌-◌}
+use native.Mathlib.Omega.{arith}
+use lib.ListN.{length}
+use Rattle.search.specs.Search.{none, at}
+use Rattle.search.specs.Answers.{declared_spot}
+use Rattle.search.specs.Solve.{bad_word}
+use Rattle.search.proofs.BadWords.{Reads, reads_start, reads_next, reads_bad, reads_all}
+use Rattle.search.proofs.words.bad_word.Goals as goal
+
+pub loop-i-init : goal.loop-i-init
+loop-i-init c = reads_start _ _
+
+pub variable-requires : goal.variable-requires
+variable-requires c = c.loop-i-test.true
+
+pub returns-then-variable-n : goal.returns-then-variable-n
+returns-then-variable-n c =
+    let the-loop = c.loop-i in
+    reads_bad _ _ _ _ the-loop.invariant c.loop-i-test.true (omega arith)
+
+pub ends-begun-requires : goal.ends-begun-requires
+ends-begun-requires c = c.loop-i-test.true
+
+pub loop-i-preserved : goal.loop-i-preserved
+loop-i-preserved c =
+    let the-loop = c.loop-i in
+    let the-args = c.args in
+    let the-loop-test = c.loop-i-test in
+    let d = the-loop in
+    subst (λ b. Reads the-args.n the-args.words.now (d.i + 1) (not b)) (sym c.ends-begun.ensures) (reads_next _ _ _ _ d.invariant the-loop-test.true (omega arith))
+
+pub returns-then-begun : goal.returns-then-begun
+returns-then-begun c =
+    let the-loop = c.loop-i in
+    let the-args = c.args in
+    subst (λ b. declared_spot (cond b (at the-loop.i) none) ≡ declared_spot (bad_word the-args.n 0 false the-args.words.now)) c.if-begun.true
+    (reads_all _ _ _ _ the-loop.invariant c.loop-i-test.false)
+
+pub returns-else-begun : goal.returns-else-begun
+returns-else-begun c =
+    let the-loop = c.loop-i in
+    let the-args = c.args in
+    subst (λ b. declared_spot (cond b (at the-loop.i) none) ≡ declared_spot (bad_word the-args.n 0 false the-args.words.now)) c.if-begun.false
+    (reads_all _ _ _ _ the-loop.invariant c.loop-i-test.false)

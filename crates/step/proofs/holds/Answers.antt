@@ -1,0 +1,10 @@
+use Rattle.std.proofs.Common.{sym, ap, ◌∙◌, rules}
+use Rattle.design.specs.declared.Refusal.{Refusal}
+use Rattle.step.proofs.States.{holds_refused}
+use Rattle.step.proofs.holds.Goals as goal
+
+pub returns-then-checked-ne0 : goal.returns-then-checked-ne0
+returns-then-checked-ne0 c = c.refuse_holds.ensures ∙ holds_refused _ _ _ _ _ _ c.check-checked.ensures c.if-checked-ne0.true
+
+pub holds_accepted-requires : goal.holds_accepted-requires
+holds_accepted-requires c = sym (ap (λ (y : Refusal). y.number) c.check-checked.ensures) ∙ c.if-checked-ne0.false

@@ -1,0 +1,12 @@
+use Rattle.std.proofs.Common.{◌≡◌, ℕ, ◌-◌, ◌≤◌, ◌++◌, map, take, replicate, pos, ap, ◌∙◌, arith}
+use Rattle.step.specs.Pattern.{signed}
+use Rattle.step.proofs.Signed.{stored}
+use Rattle.step.proofs.Entries.{Copying, copying_start, copying_mapped, copied}
+use Rattle.design.specs.Limits.{max_variables}
+use Rattle.step.proofs.interface.give_values.Given as goal
+
+abbrev pub invariant-loop-i : goal.invariant-loop-i
+invariant-loop-i l = (l.i ≤ l.n) × Copying (replicate max_variables (pos 0)) 0 (map signed l.slots) l.i l.out
+
+abbrev pub decreases-loop-i : goal.decreases-loop-i
+decreases-loop-i l = l.n - l.i

@@ -1,0 +1,15 @@
+use Rattle.std.proofs.Common.{◌≡◌, ◌-◌, arith}
+use borrow.Author.Tests.{not-true, not-false}
+use Rattle.design.specs.Tree.{Design}
+use Rattle.design.specs.Check.{matrices_offset}
+use Rattle.design.proofs.Places.{read}
+use Rattle.step.specs.Interface.{statuses_right}
+use Rattle.step.proofs.Entries.{LookingAt, statuses_start, statuses_wrong, statuses_right_lem, statuses_end, matrices_inside}
+use Rattle.design.specs.Limits.{max_matrices}
+use Rattle.step.proofs.interface.wrong_status.Given as goal
+
+abbrev pub invariant-loop-m : goal.invariant-loop-m
+invariant-loop-m l = (l.mats ≡ matrices_offset l.file) × LookingAt l.file (λ (d : Design). statuses_right d.statuses l.ss) l.m
+
+abbrev pub decreases-loop-m : goal.decreases-loop-m
+decreases-loop-m l = max_matrices - l.m

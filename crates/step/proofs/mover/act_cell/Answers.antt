@@ -1,0 +1,39 @@
+use Rattle.std.proofs.Common.{ℕ, ◌+◌, refl, ap, ap₂, arith, rules}
+use Rattle.design.proofs.Indexed.{normal_fields}
+use Rattle.step.proofs.Cells.{sizes, kinds, in_range, action_reads, acted}
+use Rattle.step.proofs.mover.act_cell.Goals as goal
+
+pub run_list-requires : goal.run_list-requires
+run_list-requires c =
+    (
+      action_reads _ _ _ _ c.requires.0.1 _ c.requires.1 _ _ (ap (λ (k : ℕ). c.args.p + 8 + k) c.wide.ensures.0) (ap₂ (λ
+          (k j : ℕ). c.args.p + 8 + k + j) c.wide.ensures.0 c.word.ensures.0),
+      omega (
+        arith,
+        c.wide.ensures.0,
+        c.word.ensures.0,
+        (normal_fields _ _ _ c.requires.0.1.indexed _ c.requires.1).past,
+        sizes _ _ _ _ c.requires.0.1,
+      ),
+      kinds _ _ _ _ c.requires.0.1,
+      omega (arith, c.requires.0.1.size),
+    )
+
+pub overflow_cast-slots : goal.overflow_cast-slots
+overflow_cast-slots c =
+    omega (arith, c.shared_slice_known-4-1.given (c.args.p + 4))
+
+pub bounds-slots-shape : goal.bounds-slots-shape
+bounds-slots-shape c =
+    omega (
+      arith,
+      (in_range _ _ _ _ c.requires.0.1 _ _ _ c.wide-m.ensures.0 refl (normal_fields _ _ _ c.requires.0.1.indexed _ c.requires.1)).0,
+      sizes _ _ _ _ c.requires.0.1,
+      c.requires.0.1.size,
+      c.slots-1.given,
+    )
+
+pub returns : goal.returns
+returns c =
+    λ x. acted _ _ _ _ c.requires.0.1 _ x _ _ (ap (λ (k : ℕ). c.args.p + 8 + k) c.wide.ensures.0) (ap₂ (λ (k j : ℕ). c.args.p +
+    8 + k + j) c.wide.ensures.0 c.word.ensures.0) _ c.run_list.ensures.0 _ _ c.wide-m.ensures.0 refl

@@ -1,0 +1,35 @@
+use Rattle.std.proofs.Common.{sym, ap, ◌∙◌, arith, rules}
+use Rattle.design.specs.Answers.{shape_of}
+use Rattle.design.proofs.Places.{read}
+use Rattle.design.proofs.Indexed.{variables_inside}
+use Rattle.step.proofs.Pieces.{piece_unread, piece_empty, piece_long, piece_found, piece_bad}
+use Rattle.design.specs.declared.shape.Shape.{Shape}
+use Rattle.step.proofs.piece.piece_right.Goals as goal
+
+pub returns-then-property-gt0 : goal.returns-then-property-gt0
+returns-then-property-gt0 c = piece_unread _ _ _ c.if-property-gt0.true
+
+pub returns-then-len-eq0 : goal.returns-then-len-eq0
+returns-then-len-eq0 c = piece_empty _ _ _ c.if-len-eq0.true
+
+pub returns-then-len-gt-MAX_BYTES : goal.returns-then-len-gt-MAX_BYTES
+returns-then-len-gt-MAX_BYTES c = piece_long _ _ _ c.if-property-gt0.false c.if-len-eq0.false c.if-len-gt-MAX_BYTES.true
+
+pub trailer_counts-requires : goal.trailer_counts-requires
+trailer_counts-requires c = (read _ c.requires).all.long
+
+pub check_bool-requires : goal.check_bool-requires
+check_bool-requires c = (
+  omega arith,
+  let v = variables_inside _ c.requires in let e = ap (λ (x : Shape). x.variables)
+      (c.shape_of-shape.ensures ∙ ap shape_of c.trailer_counts.ensures.0) in omega arith,
+)
+
+pub returns-in-At : goal.returns-in-At
+returns-in-At c =
+    piece_found _ _ _ c.if-property-gt0.false c.if-len-eq0.false c.if-len-gt-MAX_BYTES.false _ (c.shape_of-shape.ensures ∙ ap shape_of c.trailer_counts.ensures.0) _ (sym c.in-At.is ∙ c.check_bool.ensures)
+
+pub returns-in-Bad : goal.returns-in-Bad
+returns-in-Bad c =
+    piece_bad _ _ _ c.if-property-gt0.false c.if-len-eq0.false
+    c.if-len-gt-MAX_BYTES.false _ (c.shape_of-shape.ensures ∙ ap shape_of c.trailer_counts.ensures.0) (sym c.in-Bad.is ∙ c.check_bool.ensures)

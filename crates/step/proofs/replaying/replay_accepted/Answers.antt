@@ -1,0 +1,56 @@
+use Rattle.std.proofs.Common.{ℕ, ◌+◌, replicate, sym, ap, ◌∙◌, ap₂, arith, length-take-le, rules}
+use Rattle.design.specs.Limits.{pair_slots}
+use Rattle.design.proofs.Indexed.{sized, count_movers, few_movers}
+use Rattle.step.proofs.Choices.{movers_here}
+use Rattle.step.proofs.Replays.{take_replicate}
+use Rattle.step.proofs.Answering.{all_below, replay_over, replay_answer_lem}
+use Rattle.step.proofs.replaying.replay_accepted.Goals as goal
+
+pub overflow_add-shape : goal.overflow_add-shape
+overflow_add-shape c =
+    let movers = movers_here _ _ _ _ c.shape-shape.ensures c.index_cells-normals.ensures in omega (
+      arith,
+      few_movers _ _ _ c.shape-shape.ensures.shaped movers c.requires.0,
+    )
+
+pub returns-then-over-choices : goal.returns-then-over-choices
+returns-then-over-choices c =
+    let movers = movers_here _ _ _ _ c.shape-shape.ensures c.index_cells-normals.ensures in c.refuse_replay.ensures ∙ replay_over _ _ _ _ c.requires.0 c.requires.1 c.requires.2 c.requires.3 _ _ (count_movers _ _ _ c.shape-shape.ensures.shaped movers) c.first_over-over.ensures c.if-over-choices.true
+
+pub slot_count-n-requires : goal.slot_count-n-requires
+slot_count-n-requires c =
+    let s = sized _ c.requires.0 _ c.shape-shape.ensures.shaped in (s.0, s.1)
+
+pub overflow_add-end : goal.overflow_add-end
+overflow_add-end c = omega (arith, c.slot_count-n.ensures.1)
+
+pub slice_bounds-all-end : goal.slice_bounds-all-end
+slice_bounds-all-end c = omega (arith, c.slot_count-n.ensures.1)
+
+pub slice_bounds-replay_slots-end : goal.slice_bounds-replay_slots-end
+slice_bounds-replay_slots-end c = sym (length-take-le _ _ (omega (arith, c.slot_count-n.ensures.1)))
+
+pub replay_slots-requires : goal.replay_slots-requires
+replay_slots-requires c =
+    let few = c.slot_count-n.ensures.1 in let twice = ap₂ (λ (x y : ℕ). x + y) c.slot_count-n.ensures.0 c.slot_count-n.ensures.0 in (
+      record {
+        ready = record {
+          indexed = record {
+            accepted = c.requires.0;
+            events = c.index_events.ensures;
+            shaped = c.shape-shape.ensures.shaped;
+          };
+          size = length-take-le _ _ (omega arith) ∙ twice;
+        };
+        right = c.requires.2;
+        movers = movers_here _ _ _ _ c.shape-shape.ensures c.index_cells-normals.ensures;
+        few = c.requires.3;
+        named
+            = all_below c.args.choices.now (c.shape-shape.result.normals + c.shape-shape.result.externals) _ c.first_over-over.ensures c.if-over-choices.false;
+      },
+      take_replicate (c.slot_count-n.result + c.slot_count-n.result) pair_slots 0 (omega arith) ∙ ap (λ (n : ℕ). replicate n 0) twice,
+    )
+
+pub returns : goal.returns
+returns c =
+    let movers = movers_here _ _ _ _ c.shape-shape.ensures c.index_cells-normals.ensures in replay_answer_lem _ _ _ _ c.requires.0 c.requires.1 c.requires.2 c.requires.3 _ _ (count_movers _ _ _ c.shape-shape.ensures.shaped movers) c.first_over-over.ensures c.if-over-choices.false _ c.replay_slots.ensures

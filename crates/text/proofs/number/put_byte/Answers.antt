@@ -1,0 +1,8 @@
+-- `text::number::put_byte` meets its contract. Assumes nothing.
+use Rattle.text.proofs.Putting.{written_byte}
+use mathlib.Core.Path.{refl}
+use borrow.Author.Rules.{rules}
+use Rattle.text.proofs.number.put_byte.Goals as goal
+
+pub returns : goal.returns
+returns c = written_byte _ _ _ _ refl

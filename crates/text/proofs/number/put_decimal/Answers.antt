@@ -1,0 +1,7 @@
+-- `text::number::put_decimal` meets its contract. Assumes nothing.
+use Rattle.text.proofs.Putting.{decimal_past}
+use borrow.Author.Rules.{rules}
+use Rattle.text.proofs.number.put_decimal.Goals as goal
+
+pub returns : goal.returns
+returns c = (c.put_digits.ensures, decimal_past _ c.put_digits.ensures)

@@ -1,0 +1,11 @@
+use native.Mathlib.Omega.{arith}
+use mathlib.Core.Path.{refl}
+use Prim.Native.Nat.{◌-◌}
+use Rattle.verdict.proofs.OwnersLoop.{SoFar, so_far_start, so_far_next, so_far_end}
+use Rattle.verdict.proofs.owners.each_owner.Given as goal
+
+abbrev pub invariant-loop-i : goal.invariant-loop-i
+invariant-loop-i l = SoFar l.file l.bound l.count l.pieces l.budgets (record { l.clauses = l.initial.clauses; l.values = l.initial.values; l.trail = l.initial.trail }) l.initial.choices l.initial.answers l.i (record { l.clauses = l.clauses; l.values = l.values; l.trail = l.trail }) l.choices l.answers
+
+abbrev pub decreases-loop-i : goal.decreases-loop-i
+decreases-loop-i l = l.count - l.i

@@ -1,0 +1,16 @@
+-- `verdict::owners::one_owner` meets its contract. Assumes nothing.
+use Rattle.verdict.proofs.OneOwner.{owner_refused, owner_clearable, owner_done_left}
+use borrow.Author.Rules.{rules}
+use Rattle.verdict.proofs.owners.one_owner.Goals as goal
+
+pub clear-requires : goal.clear-requires
+clear-requires c =
+    owner_clearable _ _ _ _ _ _ c.verdict-r.ensures _ c.in-Done.is (λ i. (c.shared_slice_known-1.given i).fits) c.last_bound.ensures
+
+pub returns-in-Done : goal.returns-in-Done
+returns-in-Done c =
+    owner_done_left _ _ _ _ _ _ c.verdict-r.ensures _ c.in-Done.is (λ i. (c.shared_slice_known-1.given i).fits) c.last_bound.ensures c.clear.ensures
+
+pub returns-in_default : goal.returns-in_default
+returns-in_default c =
+    λ d e. owner_refused _ _ _ _ _ _ c.verdict-r.ensures _ _ c.in_default.is d
