@@ -203,10 +203,6 @@ module _ (m : ℕ) where
   copying_from n src i now x l k e g =
       copying_on (replicate m 0) 0 (drop n src) i i now x 0 (omega arith) (let q : length (replicate {A = ℕ} m 0) ≡ m = length-replicate m 0 in omega arith) (let q = length-drop n src in omega arith) (e ∙ sym (get_or-drop n src i 0)) g
 
--- an array of a struct, which a proof of code has element by element
-pub field_long : (xs : List ℕ) (n : ℕ) → length (map (λ (x : ℕ). x) xs) ≡ n → length xs ≡ n
-field_long xs n e = sym (length-map xs (λ (x : ℕ). x)) ∙ e
-
 -- the entries: values, then statuses, then the mark
 module _ (d : Design) (e : Entries) (n : length e.patterns ≡ max_variables) (k : length e.statuses ≡ max_matrices) where
   abbrev vt : List Bool

@@ -6,22 +6,22 @@ use Rattle.clauses.proofs.action.+encode_list_encode_stmt.Goals as goal
 
 pub encode_list-bounds-file-at : goal.encode_list-bounds-file-at
 encode_list-bounds-file-at t c =
-    omega (arith, list_here c.args.file.now c.args.shape c.requires.1.2)
+    omega (arith, list_here c.args.file.now c.args.shape c.requires.2)
 
 pub encode_list-overflow_add-p : goal.encode_list-overflow_add-p
 encode_list-overflow_add-p t c =
-    omega (arith, list_here c.args.file.now c.args.shape c.requires.1.2)
+    omega (arith, list_here c.args.file.now c.args.shape c.requires.2)
 
 pub encode_list-loop-left-init : goal.encode_list-loop-left-init
 encode_list-loop-left-init t c =
-    (listing_start c.args.file.now c.args.shape _ _ _ _ _ _ c.wide-left.ensures.0 c.requires.1.1 c.requires.1.2, refl)
+    (listing_start c.args.file.now c.args.shape _ _ _ _ _ _ c.wide-left.ensures.0 c.requires.1 c.requires.2, refl)
 
 pub encode_list-encode_stmt-r-requires : goal.encode_list-encode_stmt-r-requires
 encode_list-encode_stmt-r-requires t c =
     (
-      omega (arith, c.requires.0, c.loop-left.invariant.0.ahead, list_here c.args.file.now c.args.shape c.requires.1.2),
+      omega (arith, c.requires.0, c.loop-left.invariant.0.ahead, list_here c.args.file.now c.args.shape c.requires.2),
       (
-        slotted_again c.requires.1.0 (c.requires.1.1 ∙ sym c.loop-left.invariant.0.size),
+        slotted_again c.requires.0 (c.requires.1 ∙ sym c.loop-left.invariant.0.size),
         c.loop-left.invariant.0.size,
         listing_here c.args.file.now c.args.shape c.loop-left.invariant.0 c.loop-left-test.true,
       ),
@@ -42,18 +42,18 @@ encode_list-returns t c =
 
 pub encode_stmt-bounds-file-at : goal.encode_stmt-bounds-file-at
 encode_stmt-bounds-file-at t c =
-    omega (arith, stmt_here c.args.file.now c.args.shape c.requires.1.2)
+    omega (arith, stmt_here c.args.file.now c.args.shape c.requires.2)
 
 pub encode_stmt-overflow_add-at : goal.encode_stmt-overflow_add-at
 encode_stmt-overflow_add-at t c =
-    omega (arith, stmt_here c.args.file.now c.args.shape c.requires.1.2)
+    omega (arith, stmt_here c.args.file.now c.args.shape c.requires.2)
 
 pub encode_stmt-encode_assign-requires : goal.encode_stmt-encode_assign-requires
 encode_stmt-encode_assign-requires t c =
     (
-      c.requires.1.0,
-      c.requires.1.1,
-      stmt_assign_here c.args.file.now c.args.shape c.requires.1.2 c.if-op-eq32.true,
+      c.requires.0,
+      c.requires.1,
+      stmt_assign_here c.args.file.now c.args.shape c.requires.2 c.if-op-eq32.true,
     )
 
 pub encode_stmt-returns-then-op-eq32 : goal.encode_stmt-returns-then-op-eq32
@@ -64,22 +64,22 @@ encode_stmt-returns-then-op-eq32 t c =
     )
 
 pub encode_stmt-overflow_sub-last : goal.encode_stmt-overflow_sub-last
-encode_stmt-overflow_sub-last t c = omega (arith, bits_some c.requires.1.0)
+encode_stmt-overflow_sub-last t c = omega (arith, bits_some c.requires.0)
 
 pub encode_stmt-bounds-state-last : goal.encode_stmt-bounds-state-last
-encode_stmt-bounds-state-last t c = omega (arith, c.requires.1.0.few, c.requires.1.1)
+encode_stmt-bounds-state-last t c = omega (arith, c.requires.0.few, c.requires.1)
 
 pub encode_stmt-overflow_add-at-2 : goal.encode_stmt-overflow_add-at-2
 encode_stmt-overflow_add-at-2 t c =
-    omega (arith, stmt_here c.args.file.now c.args.shape c.requires.1.2)
+    omega (arith, stmt_here c.args.file.now c.args.shape c.requires.2)
 
 pub encode_stmt-encode_bool-c-requires : goal.encode_stmt-encode_bool-c-requires
 encode_stmt-encode_bool-c-requires t c =
-    (false, c.requires.1.0, if_test_here c.args.file.now c.args.shape c.requires.1.2 c.if-op-eq32.false)
+    (false, c.requires.0, if_test_here c.args.file.now c.args.shape c.requires.2 c.if-op-eq32.false)
 
 pub encode_stmt-bounds-state-last-2 : goal.encode_stmt-bounds-state-last-2
 encode_stmt-bounds-state-last-2 t c =
-    omega (arith, c.requires.1.0.few, c.requires.1.1)
+    omega (arith, c.requires.0.few, c.requires.1)
 
 pub encode_stmt-encode_list-a-requires : goal.encode_stmt-encode_list-a-requires
 encode_stmt-encode_list-a-requires t c =
@@ -88,8 +88,8 @@ encode_stmt-encode_list-a-requires t c =
     let state = c.args.state.now in
     let x = c.encode_bool-c in
     let size = length-set state (shape.bits - 1) x.result.pen.mark in (
-      omega (arith, c.requires.0, stmt_here file shape c.requires.1.2, if_first_on file shape c.requires.1.2 c.if-op-eq32.false state (x.ensures false)),
-      (slotted_again c.requires.1.0 (sym size), size ∙ c.requires.1.1, if_first_here file shape c.requires.1.2 c.if-op-eq32.false state (x.ensures false)),
+      omega (arith, c.requires.0, stmt_here file shape c.requires.2, if_first_on file shape c.requires.2 c.if-op-eq32.false state (x.ensures false)),
+      (slotted_again c.requires.0 (sym size), size ∙ c.requires.1, if_first_here file shape c.requires.2 c.if-op-eq32.false state (x.ensures false)),
     )
 
 pub encode_stmt-encode_list-b-requires : goal.encode_stmt-encode_list-b-requires
@@ -100,13 +100,13 @@ encode_stmt-encode_list-b-requires t c =
     let x = c.encode_bool-c in
     let size = length-set state (shape.bits - 1) x.result.pen.mark in
     let marked = set state (shape.bits - 1) x.result.pen.mark in (
-      omega (arith, c.requires.0, stmt_here file shape c.requires.1.2, if_second_on file shape c.requires.1.2 c.if-op-eq32.false state (x.ensures false) marked c.encode_list-a.ensures.0),
-      (slotted_again c.requires.1.0 (sym size), size ∙ c.requires.1.1, if_second_here file shape c.requires.1.2 c.if-op-eq32.false state (x.ensures false) marked c.encode_list-a.ensures.0),
+      omega (arith, c.requires.0, stmt_here file shape c.requires.2, if_second_on file shape c.requires.2 c.if-op-eq32.false state (x.ensures false) marked c.encode_list-a.ensures.0),
+      (slotted_again c.requires.0 (sym size), size ∙ c.requires.1, if_second_here file shape c.requires.2 c.if-op-eq32.false state (x.ensures false) marked c.encode_list-a.ensures.0),
     )
 
 pub encode_stmt-muxes-m-requires : goal.encode_stmt-muxes-m-requires
 encode_stmt-muxes-m-requires t c =
-    (c.requires.1.0.few, c.encode_list-a.ensures.1, c.encode_list-b.ensures.1)
+    (c.requires.0.few, c.encode_list-a.ensures.1, c.encode_list-b.ensures.1)
 
 pub encode_stmt-returns : goal.encode_stmt-returns
 encode_stmt-returns t c =
@@ -116,8 +116,8 @@ encode_stmt-returns t c =
     let x = c.encode_bool-c in
     let size = length-set state (shape.bits - 1) x.result.pen.mark in
     let marked = set state (shape.bits - 1) x.result.pen.mark in (
-      if_node file shape state marked _ _ _ x.result.lit c.args.pen (get_or state (shape.bits - 1) 0) x.result.pen c.if-op-eq32.false (mark_read false c.requires.1.0 (omega arith) false refl).1
-          (mark_over file shape c.requires.1.0 c.requires.1.0.bits x.result.pen.mark) (x.ensures false) c.encode_list-a.ensures.0 c.encode_list-b.ensures.0
-          (c.muxes-m.ensures.0 file c.requires.1.0.sum),
+      if_node file shape state marked _ _ _ x.result.lit c.args.pen (get_or state (shape.bits - 1) 0) x.result.pen c.if-op-eq32.false (mark_read false c.requires.0 (omega arith) false refl).1
+          (mark_over file shape c.requires.0 c.requires.0.bits x.result.pen.mark) (x.ensures false) c.encode_list-a.ensures.0 c.encode_list-b.ensures.0
+          (c.muxes-m.ensures.0 file c.requires.0.sum),
       c.muxes-m.ensures.1,
     )

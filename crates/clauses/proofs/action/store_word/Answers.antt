@@ -10,7 +10,7 @@ bounds-state-off c = omega (arith, c.loop-i-test.true, c.requires.0)
 
 pub loop-i-preserved : goal.loop-i-preserved
 loop-i-preserved c =
-    storing_on _ _ _ _ _ _ (let h : length c.args.t3 ≡ 16 = search rules in omega arith) (omega arith) c.loop-i-test.true c.loop-i.invariant
+    storing_on _ _ _ _ _ _ (let h : length c.args.x ≡ 16 = search rules in omega arith) (omega arith) c.loop-i-test.true c.loop-i.invariant
 
 pub returns : goal.returns
 returns c = (storing_end _ _ _ _ _ _ c.loop-i-test.false c.loop-i.invariant, c.loop-i.invariant.size ∙ c.requires.2)

@@ -7,8 +7,8 @@ loop-i-init c = negating_start _ _ refl
 
 pub loop-i-preserved : goal.loop-i-preserved
 loop-i-preserved c =
-    negating_on _ _ _ _ (let h : length c.args.t1 ≡ 16 = search rules in h) c.loop-i-test.true c.negate.ensures
+    negating_on _ _ _ _ (let h : length c.args.b ≡ 16 = search rules in h) c.loop-i-test.true c.negate.ensures
     c.loop-i.invariant
 
 pub returns : goal.returns
-returns c = negating_end _ _ _ (let h : length c.args.t1 ≡ 16 = search rules in h) c.loop-i-test.false c.loop-i.invariant
+returns c = negating_end _ _ _ (let h : length c.args.b ≡ 16 = search rules in h) c.loop-i-test.false c.loop-i.invariant

@@ -4,4 +4,4 @@ use Rattle.clauses.proofs.circuit.negate_top.Goals as goal
 
 pub returns : goal.returns
 returns c =
-    negate_top_lem c.args.t1 15 c.negate.result (let h : length c.args.t1 ≡ 16 = search rules in h) c.negate.ensures
+    negate_top_lem c.args.b 15 c.negate.result (let h : length c.args.b ≡ 16 = search rules in h) c.negate.ensures

@@ -5,19 +5,19 @@ use Rattle.clauses.proofs.circuit.sum.Goals as goal
 
 pub loop-i-init : goal.loop-i-init
 loop-i-init c = (
-  summing_start c.args.t1 c.args.t2 (let h : length c.args.t1 ≡ 16 = search rules in h) (let h : length c.args.t2 ≡ 16 = search rules
+  summing_start c.args.a c.args.b (let h : length c.args.a ≡ 16 = search rules in h) (let h : length c.args.b ≡ 16 = search rules
       in h) _ _ _ _ _ refl,
   refl,
 )
 
 pub loop-i-preserved : goal.loop-i-preserved
 loop-i-preserved c = (
-  summing_on c.args.t1 c.args.t2 (let h : length c.args.t1 ≡ 16 = search rules in h) (let h : length c.args.t2 ≡
+  summing_on c.args.a c.args.b (let h : length c.args.a ≡ 16 = search rules in h) (let h : length c.args.b ≡
       16 = search rules in h) _ _ _ _ _ _ _ c.loop-i-test.true c.loop-i.invariant.0 _ _ c.sum_bit-t.ensures,
   omega arith,
 )
 
 pub returns : goal.returns
 returns c =
-    summing_end c.args.t1 c.args.t2 (let h : length c.args.t1 ≡ 16 = search rules in h) (let h
-    : length c.args.t2 ≡ 16 = search rules in h) _ _ _ _ _ _ _ c.loop-i-test.false c.loop-i.invariant.0
+    summing_end c.args.a c.args.b (let h : length c.args.a ≡ 16 = search rules in h) (let h
+    : length c.args.b ≡ 16 = search rules in h) _ _ _ _ _ _ _ c.loop-i-test.false c.loop-i.invariant.0

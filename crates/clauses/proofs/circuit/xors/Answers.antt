@@ -5,7 +5,7 @@ use Rattle.clauses.proofs.circuit.xors.Goals as goal
 
 pub loop-i-init : goal.loop-i-init
 loop-i-init c = (
-  rowing_start xor! xors! xors_row 16 c.args.t1 c.args.t2 (let h : length c.args.t1 ≡ 16 = search rules in h) (let h : length c.args.t2
+  rowing_start xor! xors! xors_row 16 c.args.a c.args.b (let h : length c.args.a ≡ 16 = search rules in h) (let h : length c.args.b
       ≡ 16 = search rules in h) _ _ _ _,
   refl,
   refl,
@@ -13,13 +13,13 @@ loop-i-init c = (
 
 pub loop-i-preserved : goal.loop-i-preserved
 loop-i-preserved c = (
-  rowing_on xor! xors! xors_row 16 c.args.t1 c.args.t2 (let h :
-      length c.args.t1 ≡ 16 = search rules in h) (let h : length c.args.t2 ≡ 16 = search rules in h) _ _ _ _ c.loop-i-test.true (omega arith) c.loop-i.invariant.0 _ _ _ refl refl c.emit_xor-t.ensures,
+  rowing_on xor! xors! xors_row 16 c.args.a c.args.b (let h :
+      length c.args.a ≡ 16 = search rules in h) (let h : length c.args.b ≡ 16 = search rules in h) _ _ _ _ c.loop-i-test.true (omega arith) c.loop-i.invariant.0 _ _ _ refl refl c.emit_xor-t.ensures,
   search rules,
   omega arith,
 )
 
 pub returns : goal.returns
 returns c =
-    rowing_all xor! xors! xors_row 16 c.args.t1 c.args.t2 (let h : length c.args.t1 ≡ 16 =
-    search rules in h) (let h : length c.args.t2 ≡ 16 = search rules in h) _ _ _ _ c.loop-i.invariant.1 c.loop-i-test.false c.loop-i.invariant.0
+    rowing_all xor! xors! xors_row 16 c.args.a c.args.b (let h : length c.args.a ≡ 16 =
+    search rules in h) (let h : length c.args.b ≡ 16 = search rules in h) _ _ _ _ c.loop-i.invariant.1 c.loop-i-test.false c.loop-i.invariant.0

@@ -6,33 +6,33 @@ use Rattle.clauses.proofs.GateCounts.{bool_next, bool_slot, bool_name, bool_nega
 use Rattle.clauses.proofs.cost.+size_bool.Goals as goal
 
 pub bounds-text-at : goal.bounds-text-at
-bounds-text-at t c = omega (arith, (bool_live _ _ _ _ _ c.requires.1.0.3).inside)
+bounds-text-at t c = omega (arith, (bool_live _ _ _ _ _ c.requires.0.3).inside)
 
 pub overflow_add-at : goal.overflow_add-at
-overflow_add-at t c = omega (arith, (bool_live _ _ _ _ _ c.requires.1.0.3).inside)
+overflow_add-at t c = omega (arith, (bool_live _ _ _ _ _ c.requires.0.3).inside)
 
 pub size_bool-requires : goal.size_bool-requires
 size_bool-requires t c =
-    let (file, depth, later, h) = c.requires.1.0 in
+    let (file, depth, later, h) = c.requires.0 in
     (omega (arith, (bool_live _ _ _ _ _ h).inside), ((file, depth - 1, later, not_first _ _ _ _ _ h c.in-18.is), omega arith, omega arith))
 
 pub overflow_add-at-in-23 : goal.overflow_add-at-in-23
-overflow_add-at-in-23 t c = omega (arith, (bool_slot _ _ _ _ _ c.requires.1.0.3 true c.in-23.is).0)
+overflow_add-at-in-23 t c = omega (arith, (bool_slot _ _ _ _ _ c.requires.0.3 true c.in-23.is).0)
 
 pub overflow_add-at-in-16-to-17 : goal.overflow_add-at-in-16-to-17
-overflow_add-at-in-16-to-17 t c = omega (arith, (bool_name _ _ _ _ _ c.requires.1.0.3 (omega arith) (omega arith)).0)
+overflow_add-at-in-16-to-17 t c = omega (arith, (bool_name _ _ _ _ _ c.requires.0.3 (omega arith) (omega arith)).0)
 
 pub overflow_add-at-in-19-to-20 : goal.overflow_add-at-in-19-to-20
-overflow_add-at-in-19-to-20 t c = omega (arith, (bool_live _ _ _ _ _ c.requires.1.0.3).inside)
+overflow_add-at-in-19-to-20 t c = omega (arith, (bool_live _ _ _ _ _ c.requires.0.3).inside)
 
 pub size_bool-a-requires : goal.size_bool-a-requires
 size_bool-a-requires t c =
-    let (file, depth, later, h) = c.requires.1.0 in
+    let (file, depth, later, h) = c.requires.0 in
     (omega (arith, (bool_live _ _ _ _ _ h).inside), ((file, depth - 1, later, logic_first _ _ _ _ _ h (omega arith) (omega arith)), omega arith, omega arith))
 
 pub size_bool-b-requires : goal.size_bool-b-requires
 size_bool-b-requires t c =
-    let (file, depth, later, h) = c.requires.1.0 in
+    let (file, depth, later, h) = c.requires.0 in
     let first = logic_first _ _ _ _ _ h (omega arith) (omega arith) in
     let a = c.size_bool-a.ensures file (depth - 1) later first in (
       omega (arith, (bool_live _ _ _ _ _ h).inside, bool_next _ _ _ _ _ first _ _ a),
@@ -46,43 +46,43 @@ size_bool-b-requires t c =
 
 pub join-requires : goal.join-requires
 join-requires t c =
-    let (file, depth, later, h) = c.requires.1.0 in
+    let (file, depth, later, h) = c.requires.0 in
     let a = c.size_bool-a.ensures file (depth - 1) later (logic_first _ _ _ _ _ h (omega arith) (omega arith)) in
     let b = c.size_bool-b.ensures file (depth - 1) later (bool_then _ _ _ _ _ h _ (omega arith) (omega arith) _ a) in
-    let f = bool_few _ _ _ c.requires.1.2 _ _ _ _ a in
-    let g = bool_few _ _ _ c.requires.1.2 _ _ _ _ b in
+    let f = bool_few _ _ _ c.requires.2 _ _ _ _ a in
+    let g = bool_few _ _ _ c.requires.2 _ _ _ _ b in
     (omega (arith, f.ands, g.ands), omega (arith, f.wides, g.wides))
 
 pub overflow_add-at-in-21-to-22 : goal.overflow_add-at-in-21-to-22
-overflow_add-at-in-21-to-22 t c = omega (arith, (bool_live _ _ _ _ _ c.requires.1.0.3).inside)
+overflow_add-at-in-21-to-22 t c = omega (arith, (bool_live _ _ _ _ _ c.requires.0.3).inside)
 
 pub size_int-a-requires : goal.size_int-a-requires
 size_int-a-requires t c =
-    let (file, depth, later, h) = c.requires.1.0 in
+    let (file, depth, later, h) = c.requires.0 in
     ((file, depth - 1, later, compare_first _ _ _ _ _ h (omega arith) (omega arith)), omega arith, omega arith)
 
 pub size_int-b-requires : goal.size_int-b-requires
 size_int-b-requires t c =
-    let (file, depth, later, h) = c.requires.1.0 in
+    let (file, depth, later, h) = c.requires.0 in
     let a = c.size_int-a.ensures file (depth - 1) later (compare_first _ _ _ _ _ h (omega arith) (omega arith)) in
     ((file, depth - 1, later, compare_then _ _ _ _ _ h _ (omega arith) (omega arith) _ a), omega arith, omega arith)
 
 pub join-requires-then-op-eq21 : goal.join-requires-then-op-eq21
 join-requires-then-op-eq21 t c =
-    let (file, depth, later, h) = c.requires.1.0 in
+    let (file, depth, later, h) = c.requires.0 in
     let a = c.size_int-a.ensures file (depth - 1) later (compare_first _ _ _ _ _ h (omega arith) (omega arith)) in
     let b = c.size_int-b.ensures file (depth - 1) later (compare_then _ _ _ _ _ h _ (omega arith) (omega arith) _ a) in
-    let f = int_few _ _ _ c.requires.1.2 _ _ _ _ a in
-    let g = int_few _ _ _ c.requires.1.2 _ _ _ _ b in
+    let f = int_few _ _ _ c.requires.2 _ _ _ _ a in
+    let g = int_few _ _ _ c.requires.2 _ _ _ _ b in
     (omega (arith, f.ands, g.ands), omega (arith, f.wides, g.wides))
 
 pub join-requires-else-op-eq21 : goal.join-requires-else-op-eq21
 join-requires-else-op-eq21 t c =
-    let (file, depth, later, h) = c.requires.1.0 in
+    let (file, depth, later, h) = c.requires.0 in
     let a = c.size_int-a.ensures file (depth - 1) later (compare_first _ _ _ _ _ h (omega arith) (omega arith)) in
     let b = c.size_int-b.ensures file (depth - 1) later (compare_then _ _ _ _ _ h _ (omega arith) (omega arith) _ a) in
-    let f = int_few _ _ _ c.requires.1.2 _ _ _ _ a in
-    let g = int_few _ _ _ c.requires.1.2 _ _ _ _ b in
+    let f = int_few _ _ _ c.requires.2 _ _ _ _ a in
+    let g = int_few _ _ _ c.requires.2 _ _ _ _ b in
     (omega (arith, f.ands, g.ands), omega (arith, f.wides, g.wides))
 
 pub returns-in-18 : goal.returns-in-18
@@ -112,5 +112,5 @@ returns-else-op-eq21 t c =
 
 pub returns-in_default : goal.returns-in_default
 returns-in_default t c =
-    absurd (⊎_elim (λ w. bool_unknown _ _ _ _ _ c.requires.1.0.3 (inl (omega (arith, w.taken)))) (λ w. bool_unknown _ _ _ _ _ c.requires.1.0.3 (inr (above _ _
+    absurd (⊎_elim (λ w. bool_unknown _ _ _ _ _ c.requires.0.3 (inl (omega (arith, w.taken)))) (λ w. bool_unknown _ _ _ _ _ c.requires.0.3 (inr (above _ _
     c.in_default-1.rest.1 (omega (arith, w.3.left))))) c.in_default.branch)

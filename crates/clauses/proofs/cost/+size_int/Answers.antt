@@ -6,40 +6,40 @@ use Rattle.clauses.proofs.GateCounts.{int_next, int_then, int_number, int_name, 
 use Rattle.clauses.proofs.cost.+size_int.Goals as goal
 
 pub bounds-text-at : goal.bounds-text-at
-bounds-text-at t c = omega (arith, (int_live _ _ _ _ _ c.requires.1.0.3).inside)
+bounds-text-at t c = omega (arith, (int_live _ _ _ _ _ c.requires.0.3).inside)
 
 pub overflow_add-at : goal.overflow_add-at
-overflow_add-at t c = omega (arith, (int_number _ _ _ _ _ c.requires.1.0.3 c.in-1.is).0)
+overflow_add-at t c = omega (arith, (int_number _ _ _ _ _ c.requires.0.3 c.in-1.is).0)
 
 pub overflow_add-at-in-8 : goal.overflow_add-at-in-8
-overflow_add-at-in-8 t c = omega (arith, product_inside _ _ _ _ _ c.requires.1.0.3 c.in-8.is)
+overflow_add-at-in-8 t c = omega (arith, product_inside _ _ _ _ _ c.requires.0.3 c.in-8.is)
 
 pub size_int-a-requires : goal.size_int-a-requires
 size_int-a-requires t c =
-    let (file, depth, later, h) = c.requires.1.0 in
+    let (file, depth, later, h) = c.requires.0 in
     let e = c.in-8.is in
-    (omega (arith, c.requires.0, product_inside _ _ _ _ _ h e), ((file, depth - 1, later, product_operand _ _ _ _ _ h e), c.requires.1.1, c.requires.1.2))
+    (omega (arith, c.requires.0, product_inside _ _ _ _ _ h e), ((file, depth - 1, later, product_operand _ _ _ _ _ h e), c.requires.1, c.requires.2))
 
 pub size_product-requires : goal.size_product-requires
 size_product-requires t c =
-    let (file, depth, later, h) = c.requires.1.0 in
-    let few = int_few _ _ _ c.requires.1.2 _ _ _ _ (c.size_int-a.ensures file (depth - 1) later (product_operand _ _ _ _ _ h c.in-8.is)) in
+    let (file, depth, later, h) = c.requires.0 in
+    let few = int_few _ _ _ c.requires.2 _ _ _ _ (c.size_int-a.ensures file (depth - 1) later (product_operand _ _ _ _ _ h c.in-8.is)) in
     record { ands = few.ands; wides = few.wides }
 
 pub overflow_add-at-in-2-to-3 : goal.overflow_add-at-in-2-to-3
-overflow_add-at-in-2-to-3 t c = omega (arith, (int_name _ _ _ _ _ c.requires.1.0.3 false (omega arith) (omega arith)).0)
+overflow_add-at-in-2-to-3 t c = omega (arith, (int_name _ _ _ _ _ c.requires.0.3 false (omega arith) (omega arith)).0)
 
 pub overflow_add-at-in-4-to-5 : goal.overflow_add-at-in-4-to-5
-overflow_add-at-in-4-to-5 t c = omega (arith, (int_live _ _ _ _ _ c.requires.1.0.3).inside)
+overflow_add-at-in-4-to-5 t c = omega (arith, (int_live _ _ _ _ _ c.requires.0.3).inside)
 
 pub size_int-a-requires-in-4-to-5 : goal.size_int-a-requires-in-4-to-5
 size_int-a-requires-in-4-to-5 t c =
-    let (file, depth, later, h) = c.requires.1.0 in
+    let (file, depth, later, h) = c.requires.0 in
     (omega (arith, (int_live _ _ _ _ _ h).inside), ((file, depth - 1, later, int_first _ _ _ _ _ h (omega arith) (omega arith)), omega arith, omega arith))
 
 pub size_int-b-requires : goal.size_int-b-requires
 size_int-b-requires t c =
-    let (file, depth, later, h) = c.requires.1.0 in
+    let (file, depth, later, h) = c.requires.0 in
     let first = int_first _ _ _ _ _ h (omega arith) (omega arith) in
     let a = c.size_int-a-in-4-to-5.ensures file (depth - 1) later first in (
       omega (arith, (int_live _ _ _ _ _ h).inside, int_next _ _ _ _ _ first _ _ a),
@@ -52,16 +52,16 @@ size_int-b-requires t c =
 
 pub size_sum-requires : goal.size_sum-requires
 size_sum-requires t c =
-    let (file, depth, later, h) = c.requires.1.0 in
+    let (file, depth, later, h) = c.requires.0 in
     let a = c.size_int-a-in-4-to-5.ensures file (depth - 1) later (int_first _ _ _ _ _ h (omega arith) (omega arith)) in
     let b = c.size_int-b.ensures file (depth - 1) later (int_then _ _ _ _ _ h _ (omega arith) (omega arith) _ a) in
-    let f = int_few _ _ _ c.requires.1.2 _ _ _ _ a in
-    let g = int_few _ _ _ c.requires.1.2 _ _ _ _ b in
+    let f = int_few _ _ _ c.requires.2 _ _ _ _ a in
+    let g = int_few _ _ _ c.requires.2 _ _ _ _ b in
     (record { ands = f.ands; wides = f.wides }, record { ands = g.ands; wides = g.wides })
 
 pub overflow_add-at-in-6-to-7 : goal.overflow_add-at-in-6-to-7
 overflow_add-at-in-6-to-7 t c =
-    omega (arith, (int_name _ _ _ _ _ c.requires.1.0.3 true (omega arith) (omega arith)).0)
+    omega (arith, (int_name _ _ _ _ _ c.requires.0.3 true (omega arith) (omega arith)).0)
 
 pub returns-in-1 : goal.returns-in-1
 returns-in-1 t c = λ file depth later h. c.no_gates.ensures ∙ (int_number _ _ _ _ _ h c.in-1.is).1 _
@@ -84,4 +84,4 @@ returns-in-6-to-7 t c = λ file depth later h. c.no_gates-in-6-to-7.ensures ∙ 
 
 pub returns-in_default : goal.returns-in_default
 returns-in_default t c =
-    absurd (⊎_elim (λ w. int_unknown _ _ _ _ _ c.requires.1.0.3 (inl (omega (arith, w.taken)))) (λ w. int_unknown _ _ _ _ _ c.requires.1.0.3 (inr (above _ 8 c.in_default-1.rest.1 w.3.left))) c.in_default.branch)
+    absurd (⊎_elim (λ w. int_unknown _ _ _ _ _ c.requires.0.3 (inl (omega (arith, w.taken)))) (λ w. int_unknown _ _ _ _ _ c.requires.0.3 (inr (above _ 8 c.in_default-1.rest.1 w.3.left))) c.in_default.branch)

@@ -15,13 +15,13 @@ returns-then-flags-i-ne1 c = (
 pub returns-then-not-rest_zero : goal.returns-then-not-rest_zero
 returns-then-not-rest_zero c = (
   chosen_more c.args.flags.now _ c.first_nonzero-i.ensures.0 c.if-flags-i.false c.if-flags-i-ne1.false (sym c.rest_zero.ensures ∙ not-true _
-      c.if-not-rest_zero.true),
+      c.if-not-rest_zero.true-raw),
   omega arith,
 )
 
 pub returns : goal.returns
 returns c =
     (
-      chosen_one c.args.flags.now _ c.first_nonzero-i.ensures.0 c.if-flags-i.false c.if-flags-i-ne1.false (sym c.rest_zero.ensures ∙ not-false _ c.if-not-rest_zero.false),
+      chosen_one c.args.flags.now _ c.first_nonzero-i.ensures.0 c.if-flags-i.false c.if-flags-i-ne1.false (sym c.rest_zero.ensures ∙ not-false _ c.if-not-rest_zero.false-raw),
       c.first_nonzero-i.ensures.1,
     )

@@ -15,17 +15,17 @@ bounds-text-at t c =
     let file = c.args.file.now in
     let shape = c.args.shape in
     let at = c.args.at in
-    let (later, slots, here) = c.requires.1 in
+    let (later, slots, here) = c.requires in
     omega (arith, bool_byte text file shape later at here)
 
 pub bool_leaf-requires : goal.bool_leaf-requires
-bool_leaf-requires t c = (c.requires.1, inl c.if-op-lt18.true)
+bool_leaf-requires t c = (c.requires, inl c.if-op-lt18.true)
 
 pub returns-then-op-lt18 : goal.returns-then-op-lt18
 returns-then-op-lt18 t c = λ later. c.bool_leaf.ensures later _
 
 pub bool_leaf-requires-then-op-gt22 : goal.bool_leaf-requires-then-op-gt22
-bool_leaf-requires-then-op-gt22 t c = (c.requires.1, inr c.if-op-gt22.true)
+bool_leaf-requires-then-op-gt22 t c = (c.requires, inr c.if-op-gt22.true)
 
 pub returns-then-op-gt22 : goal.returns-then-op-gt22
 returns-then-op-gt22 t c = λ later. c.bool_leaf-then-op-gt22.ensures later _
@@ -36,7 +36,7 @@ overflow_add-at t c =
     let file = c.args.file.now in
     let shape = c.args.shape in
     let at = c.args.at in
-    let (later, slots, here) = c.requires.1 in
+    let (later, slots, here) = c.requires in
     omega (arith, bool_byte text file shape later at here)
 
 pub encode_bool-a-requires : goal.encode_bool-a-requires
@@ -45,7 +45,7 @@ encode_bool-a-requires t c =
     let file = c.args.file.now in
     let shape = c.args.shape in
     let at = c.args.at in
-    let (later, slots, here) = c.requires.1 in (
+    let (later, slots, here) = c.requires in (
       omega (arith, c.requires.0, bool_byte text file shape later at here),
       (
         later,
@@ -72,7 +72,7 @@ overflow_add-at-then-op-lt21 t c =
     let file = c.args.file.now in
     let shape = c.args.shape in
     let at = c.args.at in
-    let (later, slots, here) = c.requires.1 in
+    let (later, slots, here) = c.requires in
     omega (arith, bool_byte text file shape later at here)
 
 pub encode_bool-a-requires-then-op-lt21 : goal.encode_bool-a-requires-then-op-lt21
@@ -81,7 +81,7 @@ encode_bool-a-requires-then-op-lt21 t c =
     let file = c.args.file.now in
     let shape = c.args.shape in
     let at = c.args.at in
-    let (later, slots, here) = c.requires.1 in (
+    let (later, slots, here) = c.requires in (
       omega (arith, c.requires.0, bool_byte text file shape later at here),
       (
         later,
@@ -98,7 +98,7 @@ encode_bool-b-requires t c =
     let file = c.args.file.now in
     let shape = c.args.shape in
     let at = c.args.at in
-    let (later, slots, here) = c.requires.1 in
+    let (later, slots, here) = c.requires in
     let first = c.encode_bool-a-then-op-lt21.ensures later in (
       omega (
         arith,
@@ -130,7 +130,7 @@ returns-then-op-lt21 t c =
 
 pub encode_compare-requires : goal.encode_compare-requires
 encode_compare-requires t c =
-    (c.requires.1, c.if-op-lt21.false, c.if-op-gt22.false)
+    (c.requires, c.if-op-lt21.false, c.if-op-gt22.false)
 
 pub returns : goal.returns
 returns t c = c.encode_compare.ensures

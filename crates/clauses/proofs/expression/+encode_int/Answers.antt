@@ -14,11 +14,11 @@ bounds-text-at t c =
     let file = c.args.file.now in
     let shape = c.args.shape in
     let at = c.args.at in
-    let (later, slots, here) = c.requires.1 in
+    let (later, slots, here) = c.requires in
     omega (arith, int_byte text file shape later at here)
 
 pub int_leaf-requires : goal.int_leaf-requires
-int_leaf-requires t c = (c.requires.1, inl c.if-op-lt4.true, λ e. omega (arith, c.if-op-lt4.true))
+int_leaf-requires t c = (c.requires, inl c.if-op-lt4.true, λ e. omega (arith, c.if-op-lt4.true))
 
 pub returns-then-op-lt4 : goal.returns-then-op-lt4
 returns-then-op-lt4 t c = λ later. c.int_leaf.ensures later _
@@ -29,7 +29,7 @@ overflow_add-at t c =
     let file = c.args.file.now in
     let shape = c.args.shape in
     let at = c.args.at in
-    let (later, slots, here) = c.requires.1 in
+    let (later, slots, here) = c.requires in
     omega (arith, product_here text file shape later at here c.if-op-eq8.true)
 
 pub encode_int-a-requires : goal.encode_int-a-requires
@@ -38,7 +38,7 @@ encode_int-a-requires t c =
     let file = c.args.file.now in
     let shape = c.args.shape in
     let at = c.args.at in
-    let (later, slots, here) = c.requires.1 in (
+    let (later, slots, here) = c.requires in (
       omega (arith, c.requires.0, product_here text file shape later at here c.if-op-eq8.true),
       (
         later,
@@ -54,7 +54,7 @@ overflow_add-at-then-op-eq8 t c =
     let file = c.args.file.now in
     let shape = c.args.shape in
     let at = c.args.at in
-    let (later, slots, here) = c.requires.1 in
+    let (later, slots, here) = c.requires in
     omega (arith, product_here text file shape later at here c.if-op-eq8.true)
 
 pub word-requires : goal.word-requires
@@ -63,7 +63,7 @@ word-requires t c =
     let file = c.args.file.now in
     let shape = c.args.shape in
     let at = c.args.at in
-    let (later, slots, here) = c.requires.1 in
+    let (later, slots, here) = c.requires in
     omega (arith, product_here text file shape later at here c.if-op-eq8.true)
 
 pub returns-then-op-eq8 : goal.returns-then-op-eq8
@@ -76,7 +76,7 @@ returns-then-op-eq8 t c =
     c.multiply.ensures
 
 pub int_leaf-requires-then-op-gt5 : goal.int_leaf-requires-then-op-gt5
-int_leaf-requires-then-op-gt5 t c = (c.requires.1, inr c.if-op-gt5.true, c.if-op-eq8.false)
+int_leaf-requires-then-op-gt5 t c = (c.requires, inr c.if-op-gt5.true, c.if-op-eq8.false)
 
 pub returns-then-op-gt5 : goal.returns-then-op-gt5
 returns-then-op-gt5 t c = λ later. c.int_leaf-then-op-gt5.ensures later _
@@ -87,7 +87,7 @@ overflow_add-at-2 t c =
     let file = c.args.file.now in
     let shape = c.args.shape in
     let at = c.args.at in
-    let (later, slots, here) = c.requires.1 in
+    let (later, slots, here) = c.requires in
     omega (arith, int_byte text file shape later at here)
 
 pub encode_int-a-requires-2 : goal.encode_int-a-requires-2
@@ -96,7 +96,7 @@ encode_int-a-requires-2 t c =
     let file = c.args.file.now in
     let shape = c.args.shape in
     let at = c.args.at in
-    let (later, slots, here) = c.requires.1 in (
+    let (later, slots, here) = c.requires in (
       omega (arith, c.requires.0, int_byte text file shape later at here),
       (
         later,
@@ -112,7 +112,7 @@ encode_int-b-requires t c =
     let file = c.args.file.now in
     let shape = c.args.shape in
     let at = c.args.at in
-    let (later, slots, here) = c.requires.1 in
+    let (later, slots, here) = c.requires in
     let first = c.encode_int-a-2.ensures later in (
       omega (
         arith,

@@ -15,7 +15,7 @@ ends_unmarked-requires c = none_few _ _ c.no_gates-then-not-has_constraint.ensur
 
 pub returns-then-not-has_constraint : goal.returns-then-not-has_constraint
 returns-then-not-has_constraint c =
-    let none = sym c.has_constraint.ensures ∙ not-true _ c.if-not-has_constraint.true in
+    let none = sym c.has_constraint.ensures ∙ not-true _ c.if-not-has_constraint.true-raw in
     no_constraint c.requires none _ c.if-property-lt-CONSTRAINT.false _ _ c.no_gates-then-not-has_constraint.ensures c.ends_unmarked.ensures
 
 pub constraint-stands-requires : goal.constraint-stands-requires
@@ -28,7 +28,7 @@ size_bool-requires c =
         c.args.file.now,
         max_depth,
         true,
-        constraint_reads c.requires (sym c.has_constraint.ensures ∙ not-false _ c.if-not-has_constraint.false) _ _
+        constraint_reads c.requires (sym c.has_constraint.ensures ∙ not-false _ c.if-not-has_constraint.false-raw) _ _
             c.constraint-stands.ensures.0 c.constraint-stands.ensures.1,
       ),
       omega (arith, c.constraint-stands.ensures.1),
@@ -37,13 +37,13 @@ size_bool-requires c =
 
 pub ends_unmarked-requires-2 : goal.ends_unmarked-requires-2
 ends_unmarked-requires-2 c =
-    let has = sym c.has_constraint.ensures ∙ not-false _ c.if-not-has_constraint.false in
+    let has = sym c.has_constraint.ensures ∙ not-false _ c.if-not-has_constraint.false-raw in
     let (at, end) = c.constraint-stands.ensures in
     constraint_few c.requires has _ _ at end _ (c.size_bool.ensures c.args.file.now max_depth true (constraint_reads c.requires has _ _ at end))
 
 pub returns : goal.returns
 returns c =
-    let has = sym c.has_constraint.ensures ∙ not-false _ c.if-not-has_constraint.false in
+    let has = sym c.has_constraint.ensures ∙ not-false _ c.if-not-has_constraint.false-raw in
     let (at, end) = c.constraint-stands.ensures in
     let counted = c.size_bool.ensures c.args.file.now max_depth true (constraint_reads c.requires has _ _ at end) in
     constraint_gates c.requires has _ _ at end _ counted _ c.if-property-lt-CONSTRAINT.false _ c.ends_unmarked-2.ensures

@@ -13,7 +13,7 @@ has_constraint-requires c = (sizes c.requires.0).0
 pub returns-then-not-has_constraint : goal.returns-then-not-has_constraint
 returns-then-not-has_constraint c =
     let args = c.args in
-    λ d w. gives_true _ (test_none (layout_of args.shape) (read_slots true args.file.now args.shape args.both.now) d.constraint (constraint_none args.file.now d w (sym c.has_constraint.ensures ∙ not-true _ c.if-not-has_constraint.true)))
+    λ d w. gives_true _ (test_none (layout_of args.shape) (read_slots true args.file.now args.shape args.both.now) d.constraint (constraint_none args.file.now d w (sym c.has_constraint.ensures ∙ not-true _ c.if-not-has_constraint.true-raw)))
     _ c.no_property.ensures
 
 pub constraint-stands-requires : goal.constraint-stands-requires
@@ -21,8 +21,8 @@ constraint-stands-requires c = tail c.requires.0
 
 pub encode_test-requires : goal.encode_test-requires
 encode_test-requires c =
-    (true, slotted_two c.requires.0 _ c.requires.1, constraint_here c.requires.0 (sym c.has_constraint.ensures ∙ not-false _ c.if-not-has_constraint.false) _ c.constraint-stands.ensures.0)
+    (true, slotted_two c.requires.0 _ c.requires.1, constraint_here c.requires.0 (sym c.has_constraint.ensures ∙ not-false _ c.if-not-has_constraint.false-raw) _ c.constraint-stands.ensures.0)
 
 pub returns : goal.returns
 returns c =
-    constraint_gives c.requires.0 (sym c.has_constraint.ensures ∙ not-false _ c.if-not-has_constraint.false) _ c.constraint-stands.ensures.0 c.args.both.now _ (c.encode_test.ensures true)
+    constraint_gives c.requires.0 (sym c.has_constraint.ensures ∙ not-false _ c.if-not-has_constraint.false-raw) _ c.constraint-stands.ensures.0 c.args.both.now _ (c.encode_test.ensures true)

@@ -26,7 +26,7 @@ loop-i-smaller c =
     let l = inside_low the-args.words.now the-loop.i the-loop.invariant.ends in omega arith
 
 pub loop-i-preserved : goal.loop-i-preserved
-loop-i-preserved c = passing_next_lem _ _ _ c.loop-i.invariant (sym c.ends.ensures ∙ not-true _ c.loop-i-test.true)
+loop-i-preserved c = passing_next_lem _ _ _ c.loop-i.invariant (sym c.ends.ensures ∙ not-true _ c.loop-i-test.true-raw)
 
 pub overflow_add-result : goal.overflow_add-result
 overflow_add-result c =
@@ -35,4 +35,4 @@ overflow_add-result c =
     let l = inside_low the-args.words.now the-loop.i the-loop.invariant.ends in omega arith
 
 pub returns : goal.returns
-returns c = passing_end _ _ _ c.loop-i.invariant (sym c.ends.ensures ∙ not-false _ c.loop-i-test.false)
+returns c = passing_end _ _ _ c.loop-i.invariant (sym c.ends.ensures ∙ not-false _ c.loop-i-test.false-raw)

@@ -21,28 +21,28 @@ pub overflow_sub-v : goal.overflow_sub-v
 overflow_sub-v c =
     omega (
       arith,
-      denying_named c.loop-v.invariant c.ends.ensures c.loop-v-test.true
+      denying_named c.loop-v.invariant c.ends.ensures c.loop-v-test.true-raw
           c.requires.0 c.variable-v.ensures,
     )
 
 pub bounds-values-v : goal.bounds-values-v
 bounds-values-v c =
-    let a = denying_named c.loop-v.invariant c.ends.ensures c.loop-v-test.true c.requires.0 c.variable-v.ensures in let b =
-    denying_inside c.loop-v.invariant c.ends.ensures c.loop-v-test.true c.requires.0 c.variable-v.ensures in omega arith
+    let a = denying_named c.loop-v.invariant c.ends.ensures c.loop-v-test.true-raw c.requires.0 c.variable-v.ensures in let b =
+    denying_inside c.loop-v.invariant c.ends.ensures c.loop-v-test.true-raw c.requires.0 c.variable-v.ensures in omega arith
 
 pub shape_of-values-then-values-v : goal.shape_of-values-then-values-v
 shape_of-values-then-values-v c = c.loop-v.invariant.wide
 
 pub returns-then-values-v : goal.returns-then-values-v
 returns-then-values-v c =
-    denying_both c.loop-v.invariant c.ends.ensures c.loop-v-test.true c.requires.0 c.variable-v.ensures c.sign-x.ensures c.if-values-v.true
+    denying_both c.loop-v.invariant c.ends.ensures c.loop-v-test.true-raw c.requires.0 c.variable-v.ensures c.sign-x.ensures c.if-values-v.true
 
 pub overflow_sub-values : goal.overflow_sub-values
 overflow_sub-values c =
     omega (
       arith,
       denying_sign c.loop-v.invariant c.ends.ensures
-          c.loop-v-test.true c.requires.0 c.variable-v.ensures c.sign-x.ensures,
+          c.loop-v-test.true-raw c.requires.0 c.variable-v.ensures c.sign-x.ensures,
     )
 
 pub overflow_sub-values-in-loop-v : goal.overflow_sub-values-in-loop-v
@@ -50,12 +50,12 @@ overflow_sub-values-in-loop-v c =
     omega (
       arith,
       denying_named c.loop-v.invariant c.ends.ensures
-          c.loop-v-test.true c.requires.0 c.variable-v.ensures,
+          c.loop-v-test.true-raw c.requires.0 c.variable-v.ensures,
     )
 
 pub bounds-values-v-in-loop-v : goal.bounds-values-v-in-loop-v
 bounds-values-v-in-loop-v c =
-    let a = denying_named c.loop-v.invariant c.ends.ensures c.loop-v-test.true c.requires.0 c.variable-v.ensures in let b = denying_inside c.loop-v.invariant c.ends.ensures c.loop-v-test.true c.requires.0 c.variable-v.ensures in omega arith
+    let a = denying_named c.loop-v.invariant c.ends.ensures c.loop-v-test.true-raw c.requires.0 c.variable-v.ensures in let b = denying_inside c.loop-v.invariant c.ends.ensures c.loop-v-test.true-raw c.requires.0 c.variable-v.ensures in omega arith
 
 pub overflow_add-i : goal.overflow_add-i
 overflow_add-i c = let l = denying_low c.loop-v.invariant in omega arith
@@ -65,10 +65,10 @@ loop-v-smaller c = let l = denying_low c.loop-v.invariant in omega arith
 
 pub loop-v-preserved : goal.loop-v-preserved
 loop-v-preserved c =
-    denying_next c.loop-v.invariant c.ends.ensures c.loop-v-test.true c.requires.0 c.variable-v.ensures c.sign-x.ensures c.if-values-v.false
+    denying_next c.loop-v.invariant c.ends.ensures c.loop-v-test.true-raw c.requires.0 c.variable-v.ensures c.sign-x.ensures c.if-values-v.false
 
 pub shape_of-values : goal.shape_of-values
 shape_of-values c = c.loop-v.invariant.wide
 
 pub returns : goal.returns
-returns c = denying_end c.loop-v.invariant c.ends.ensures c.loop-v-test.false
+returns c = denying_end c.loop-v.invariant c.ends.ensures c.loop-v-test.false-raw

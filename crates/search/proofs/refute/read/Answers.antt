@@ -24,7 +24,7 @@ shape_of-values-then-not-follows c = c.follows.auto.1.1.1.0 ∙ c.loop-at.invari
 
 pub returns-then-not-follows : goal.returns-then-not-follows
 returns-then-not-follows c =
-    judging_stops c.loop-at.invariant.1 c.loop-at-test.true c.loop-at.invariant.0 c.follows.ensures c.if-not-follows.true
+    judging_stops c.loop-at.invariant.1 c.loop-at-test.true c.loop-at.invariant.0 c.follows.ensures c.if-not-follows.true-raw
 
 pub ends-requires : goal.ends-requires
 ends-requires c = c.loop-at-test.true
@@ -35,7 +35,7 @@ shape_of-values-then-ends c =
 
 pub returns-then-ends : goal.returns-then-ends
 returns-then-ends c =
-    judging_accepts c.loop-at.invariant.1 c.loop-at-test.true c.loop-at.invariant.0 c.follows.ensures c.if-not-follows.false c.ends.ensures c.if-ends.true
+    judging_accepts c.loop-at.invariant.1 c.loop-at-test.true c.loop-at.invariant.0 c.follows.ensures c.if-not-follows.false-raw c.ends.ensures c.if-ends.true
 
 pub after_clause-at-requires : goal.after_clause-at-requires
 after_clause-at-requires c =
@@ -49,7 +49,7 @@ pub loop-at-preserved : goal.loop-at-preserved
 loop-at-preserved c =
     (
       c.follows.auto.1.1.1.0 ∙ c.loop-at.invariant.0,
-      judging_next c.loop-at.invariant.1 c.loop-at-test.true c.loop-at.invariant.0 c.follows.ensures c.if-not-follows.false c.ends.ensures c.if-ends.false c.after_clause-at.result c.after_clause-at.ensures,
+      judging_next c.loop-at.invariant.1 c.loop-at-test.true c.loop-at.invariant.0 c.follows.ensures c.if-not-follows.false-raw c.ends.ensures c.if-ends.false c.after_clause-at.result c.after_clause-at.ensures,
     )
 
 pub shape_of-values : goal.shape_of-values

@@ -19,8 +19,8 @@ overflow_add-result c =
     omega (
       arith,
       word_low c.args.n c.args.refutation.now (sym c.in-At-bad_word.is ∙ c.bad_word-2.ensures),
-      c.UNRESOLVED.well-formed.1.0.1,
-      c.UNRESOLVED.well-formed.1.1.0.1,
+      c.well_formed.1.0.1,
+      c.well_formed.1.1.0.1,
     )
 
 pub returns-in-At-bad_word : goal.returns-in-At-bad_word

@@ -16,8 +16,8 @@ scan_after-requires c = (
   c.requires.1.1 c.if-from-here.true,
   omega (
     arith,
-    c.UNRESOLVED.well-formed.0.1,
-    c.UNRESOLVED.well-formed.1.0.1,
+    c.well_formed.0.1,
+    c.well_formed.1.0.1,
   ),
 )
 
@@ -30,7 +30,7 @@ scan_from-found-requires c = (c.requires.0.inside, c.requires.1.0 (omega (arith,
 
 pub scan_after-requires-in-Nothing : goal.scan_after-requires-in-Nothing
 scan_after-requires-in-Nothing c =
-    (c.requires.0.inside₂, starts_zero c.args.earlier.now c.requires.0.closes₂, omega (arith, c.UNRESOLVED.well-formed.0.1, c.UNRESOLVED.well-formed.1.0.1))
+    (c.requires.0.inside₂, starts_zero c.args.earlier.now c.requires.0.closes₂, omega (arith, c.well_formed.0.1, c.well_formed.1.0.1))
 
 pub returns-in-Nothing : goal.returns-in-Nothing
 returns-in-Nothing c =

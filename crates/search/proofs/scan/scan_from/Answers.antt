@@ -20,7 +20,7 @@ pub literal-x-requires : goal.literal-x-requires
 literal-x-requires c =
     let the-args = c.args in
     let the-pre = c.requires in
-    inner_named c.loop-found.invariant (length the-args.values.now) the-pre.0 c.ends.ensures c.loop-found-test.true
+    inner_named c.loop-found.invariant (length the-args.values.now) the-pre.0 c.ends.ensures c.loop-found-test.true-raw
 
 pub after_clause-i-requires : goal.after_clause-i-requires
 after_clause-i-requires c =
@@ -112,7 +112,7 @@ returns-then-spot-eq0 c =
     let the-clauses = c.clauses in
     let the-clauses-test = c.clauses-test in
     let the-loop = c.loop-found in
-    outer_conflict the-clauses.invariant the-clauses-test.true the-loop.invariant c.ends.ensures c.loop-found-test.false c.if-spot-eq0.true
+    outer_conflict the-clauses.invariant the-clauses-test.true the-loop.invariant c.ends.ensures c.loop-found-test.false-raw c.if-spot-eq0.true
 
 pub returns-else-spot-eq0 : goal.returns-else-spot-eq0
 returns-else-spot-eq0 c =

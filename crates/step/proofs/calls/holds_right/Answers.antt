@@ -10,11 +10,10 @@ pub slice_bounds-holds_slots-end : goal.slice_bounds-holds_slots-end
 slice_bounds-holds_slots-end c = sym (length-take-le _ _ c.slot_count-n.ensures.1)
 
 pub holds_slots-requires : goal.holds_slots-requires
-holds_slots-requires c =
-    (
-      record {
-        indexed = record { accepted = c.requires.0; events = c.index_events.ensures; shaped = c.requires.1 };
-        size = length-take-le _ _ c.slot_count-n.ensures.1 ∙ c.slot_count-n.ensures.0;
-      },
-      c.requires.2,
-    )
+holds_slots-requires c = (
+  record {
+    indexed = record { accepted = c.requires.0; events = c.index_events.ensures; shaped = c.requires.1 };
+    size = length-take-le _ _ c.slot_count-n.ensures.1 ∙ c.slot_count-n.ensures.0;
+  },
+  c.requires.2,
+)

@@ -1,34 +1,35 @@
 -- `step::evaluate::eval_bool` meets its contract. Assumes nothing.
-use Rattle.std.proofs.Common.{ℕ, ◌+◌, ◌-◌, ◌<◌, true, false, ltb, get_or, sym, ap, ◌∙◌, inl, inr, ⊎_elim, arith}
+use Rattle.std.proofs.Common.{ℕ, ◌+◌, ◌-◌, ◌<◌, true, false, ltb, get_or, sym, ap, ◌∙◌, inl, inr, arith}
 use Rattle.step.specs.Evaluation.{eval_bool, passes_bool}
 use Rattle.step.specs.Accepted.{past, bool_value, bool_passes}
 use Rattle.step.proofs.Values.{truth_test, bool_live, bool_forward, bool_constant, bool_variable, bool_unknown, boolean_slot, not_first, not_value, logic_first, logic_second, logic_pair, compare_first, compare_second, compare_pair}
 use Rattle.step.proofs.evaluate.+eval_bool.Goals as goal
+use Rattle.step.proofs.evaluate.+eval_bool.Goals.{in_default-via-then-op-lt16, in_default-via-else-op-lt16+else-op-lt21+else-op-lt23}
 
 pub bounds-text-at : goal.bounds-text-at
-bounds-text-at t c = omega (arith, (bool_live _ _ _ _ _ c.requires.1.0.4).inside)
+bounds-text-at t c = omega (arith, (bool_live _ _ _ _ _ c.requires.0.4).inside)
 
 pub overflow_add-p : goal.overflow_add-p
-overflow_add-p t c = omega (arith, (bool_live _ _ _ _ _ c.requires.1.0.4).inside)
+overflow_add-p t c = omega (arith, (bool_live _ _ _ _ _ c.requires.0.4).inside)
 
 pub bounds-text-p : goal.bounds-text-p
 bounds-text-p t c =
-    omega (arith, (bool_constant _ _ _ _ _ c.requires.1.0.4 c.in-16.is).0)
+    omega (arith, (bool_constant _ _ _ _ _ c.requires.0.4 c.in-16.is).0)
 
 pub overflow_add-p-in-16 : goal.overflow_add-p-in-16
 overflow_add-p-in-16 t c =
-    omega (arith, (bool_constant _ _ _ _ _ c.requires.1.0.4 c.in-16.is).0)
+    omega (arith, (bool_constant _ _ _ _ _ c.requires.0.4 c.in-16.is).0)
 
 pub bounds-text-p-in-17 : goal.bounds-text-p-in-17
 bounds-text-p-in-17 t c =
-    omega (arith, (bool_variable _ _ _ _ _ c.requires.1.0.4 false c.in-17.is).0)
+    omega (arith, (bool_variable _ _ _ _ _ c.requires.0.4 false c.in-17.is).0)
 
 pub offset_bounds-slots-v : goal.offset_bounds-slots-v
 offset_bounds-slots-v t c =
     omega (
       arith,
       c.wide-v.ensures.0,
-      boolean_slot c.args.text.now c.args.shape _ _ _ c.requires.1.0 false
+      boolean_slot c.args.text.now c.args.shape _ _ _ c.requires.0 false
           c.in-17.is,
     )
 
@@ -37,28 +38,28 @@ bounds-slots-v t c =
     omega (
       arith,
       c.wide-v.ensures.0,
-      boolean_slot c.args.text.now c.args.shape _ _ _ c.requires.1.0 false
+      boolean_slot c.args.text.now c.args.shape _ _ _ c.requires.0 false
           c.in-17.is,
     )
 
 pub overflow_add-p-in-17 : goal.overflow_add-p-in-17
 overflow_add-p-in-17 t c =
-    omega (arith, (bool_variable _ _ _ _ _ c.requires.1.0.4 false c.in-17.is).0)
+    omega (arith, (bool_variable _ _ _ _ _ c.requires.0.4 false c.in-17.is).0)
 
 pub eval_bool-a-requires : goal.eval_bool-a-requires
-eval_bool-a-requires t c = let (file, depth, later, fits, h) = c.requires.1.0 in
+eval_bool-a-requires t c = let (file, depth, later, fits, h) = c.requires.0 in
     (omega (arith, (bool_live _ _ _ _ _ h).inside), ((file, depth - 1, later, fits, not_first _ _ _ _ _ h c.in-18.is), omega arith))
 
 pub bounds-text-p-in-23 : goal.bounds-text-p-in-23
 bounds-text-p-in-23 t c =
-    omega (arith, (bool_variable _ _ _ _ _ c.requires.1.0.4 true c.in-23.is).0)
+    omega (arith, (bool_variable _ _ _ _ _ c.requires.0.4 true c.in-23.is).0)
 
 pub overflow_add-shape : goal.overflow_add-shape
 overflow_add-shape t c =
     omega (
       arith,
       c.wide-v-in-23.ensures.0,
-      boolean_slot c.args.text.now c.args.shape _ _ _ c.requires.1.0 true
+      boolean_slot c.args.text.now c.args.shape _ _ _ c.requires.0 true
           c.in-23.is,
     )
 
@@ -67,7 +68,7 @@ overflow_add-shape-in-23 t c =
     omega (
       arith,
       c.wide-v-in-23.ensures.0,
-      boolean_slot c.args.text.now c.args.shape _ _ _ c.requires.1.0 true
+      boolean_slot c.args.text.now c.args.shape _ _ _ c.requires.0 true
           c.in-23.is,
     )
 
@@ -76,7 +77,7 @@ overflow_add-shape-in-23-2 t c =
     omega (
       arith,
       c.wide-v-in-23.ensures.0,
-      boolean_slot c.args.text.now c.args.shape _ _ _ c.requires.1.0 true
+      boolean_slot c.args.text.now c.args.shape _ _ _ c.requires.0 true
           c.in-23.is,
     )
 
@@ -85,7 +86,7 @@ offset_bounds-slots-shape t c =
     omega (
       arith,
       c.wide-v-in-23.ensures.0,
-      boolean_slot c.args.text.now c.args.shape _ _ _ c.requires.1.0 true
+      boolean_slot c.args.text.now c.args.shape _ _ _ c.requires.0 true
           c.in-23.is,
     )
 
@@ -94,17 +95,17 @@ bounds-slots-shape t c =
     omega (
       arith,
       c.wide-v-in-23.ensures.0,
-      boolean_slot c.args.text.now c.args.shape _ _ _ c.requires.1.0 true
+      boolean_slot c.args.text.now c.args.shape _ _ _ c.requires.0 true
           c.in-23.is,
     )
 
 pub overflow_add-p-in-23 : goal.overflow_add-p-in-23
 overflow_add-p-in-23 t c =
-    omega (arith, (bool_variable _ _ _ _ _ c.requires.1.0.4 true c.in-23.is).0)
+    omega (arith, (bool_variable _ _ _ _ _ c.requires.0.4 true c.in-23.is).0)
 
 pub eval_bool-a-requires-in-19-to-20 : goal.eval_bool-a-requires-in-19-to-20
 eval_bool-a-requires-in-19-to-20 t c =
-    let (file, depth, later, fits, h) = c.requires.1.0 in (
+    let (file, depth, later, fits, h) = c.requires.0 in (
       omega (arith, (bool_live _ _ _ _ _ h).inside),
       (
         (
@@ -120,7 +121,7 @@ eval_bool-a-requires-in-19-to-20 t c =
     )
 
 pub eval_bool-b-requires : goal.eval_bool-b-requires
-eval_bool-b-requires t c = let (file, depth, later, fits, h) = c.requires.1.0 in
+eval_bool-b-requires t c = let (file, depth, later, fits, h) = c.requires.0 in
     let first = logic_first _ _ _ _ _ h (omega arith) c.in-19-to-20.if-op-lt21-own.true in
     let next = (c.eval_bool-a-in-19-to-20.ensures file (depth - 1) later first).1 in (
       omega (arith, (bool_live _ _ _ _ _ h).inside, bool_forward _ _ _ _ _ _ first next),
@@ -128,12 +129,12 @@ eval_bool-b-requires t c = let (file, depth, later, fits, h) = c.requires.1.0 in
     )
 
 pub eval_int-a-requires : goal.eval_int-a-requires
-eval_int-a-requires t c = let (file, depth, later, fits, h) = c.requires.1.0 in
+eval_int-a-requires t c = let (file, depth, later, fits, h) = c.requires.0 in
     ((file, depth - 1, later, fits, compare_first _ _ _ _ _ h (omega arith) c.in-21-to-22.if-op-lt23-own.true), omega arith)
 
 pub eval_int-b-requires : goal.eval_int-b-requires
 eval_int-b-requires t c =
-    let (file, depth, later, fits, h) = c.requires.1.0 in
+    let (file, depth, later, fits, h) = c.requires.0 in
     let first = compare_first _ _ _ _ _ h (omega arith) c.in-21-to-22.if-op-lt23-own.true in
     let next = (c.eval_int-a.ensures file (depth - 1) later first).1 in
     ((file, depth - 1, later, fits, compare_second _ _ _ _ _ h (omega arith) c.in-21-to-22.if-op-lt23-own.true _ next), omega arith)
@@ -197,5 +198,7 @@ returns-in-21-to-22 t c = λ file depth later h.
 
 pub returns-in_default : goal.returns-in_default
 returns-in_default t c =
-    absurd (⊎_elim (λ w. bool_unknown _ _ _ _ _ c.requires.1.0.4 (inl w.taken)) (λ w. bool_unknown _ _ _ _ _ c.requires.1.0.4 (inr
-    (omega (arith, w.2.left)))) c.in_default.branch)
+    absurd (elim c.in_default.branch [
+      | in_default-via-then-op-lt16 w ↦ bool_unknown _ _ _ _ _ c.requires.0.4 (inl (omega arith))
+      | in_default-via-else-op-lt16+else-op-lt21+else-op-lt23 w ↦ bool_unknown _ _ _ _ _ c.requires.0.4 (inr (omega arith))
+    ])

@@ -1,35 +1,37 @@
 -- `step::evaluate::eval_int` meets its contract. Assumes nothing.
-use Rattle.std.proofs.Common.{ℕ, ◌+◌, ◌-◌, ◌<◌, true, false, get_or, sym, ap, ◌∙◌, inl, inr, ⊎_elim, arith}
+use Rattle.std.proofs.Common.{ℕ, ◌+◌, ◌-◌, ◌<◌, true, false, get_or, sym, ap, ◌∙◌, inl, inr, arith}
 use Rattle.step.specs.Evaluation.{eval_int, passes_int}
 use Rattle.step.specs.Accepted.{past, int_value, int_passes}
 use Rattle.step.proofs.Values.{int_live, int_forward, int_constant, int_variable, int_status, int_unknown, integer_slot, status_slot_lem, int_first, int_second, int_pair, i_product, product_first, product_value}
+use Rattle.design.specs.State.{layout_of}
 use Rattle.step.proofs.evaluate.+eval_int.Goals as goal
+use Rattle.step.proofs.evaluate.+eval_int.Goals.{in_default-via-then-op-lt1, in_default-via-else-op-lt1+else-op-lt6}
 
 pub bounds-text-at : goal.bounds-text-at
-bounds-text-at t c = omega (arith, (int_live _ _ _ _ _ c.requires.1.0.4).inside)
+bounds-text-at t c = omega (arith, (int_live _ _ _ _ _ c.requires.0.4).inside)
 
 pub overflow_add-p : goal.overflow_add-p
-overflow_add-p t c = omega (arith, (int_live _ _ _ _ _ c.requires.1.0.4).inside)
+overflow_add-p t c = omega (arith, (int_live _ _ _ _ _ c.requires.0.4).inside)
 
 pub word-requires : goal.word-requires
-word-requires t c = omega (arith, (int_constant _ _ _ _ _ c.requires.1.0.4 c.in-1.is).0)
+word-requires t c = omega (arith, (int_constant _ _ _ _ _ c.requires.0.4 c.in-1.is).0)
 
 pub overflow_cast-word : goal.overflow_cast-word
 overflow_cast-word t c = omega (arith, c.word.ensures.1)
 
 pub overflow_add-p-in-1 : goal.overflow_add-p-in-1
-overflow_add-p-in-1 t c = omega (arith, (int_constant _ _ _ _ _ c.requires.1.0.4 c.in-1.is).0)
+overflow_add-p-in-1 t c = omega (arith, (int_constant _ _ _ _ _ c.requires.0.4 c.in-1.is).0)
 
 pub bounds-text-p : goal.bounds-text-p
 bounds-text-p t c =
-    omega (arith, (int_variable _ _ _ _ _ c.requires.1.0.4 false c.in-2.is).0)
+    omega (arith, (int_variable _ _ _ _ _ c.requires.0.4 false c.in-2.is).0)
 
 pub offset_bounds-slots-v : goal.offset_bounds-slots-v
 offset_bounds-slots-v t c =
     omega (
       arith,
       c.wide-v.ensures.0,
-      integer_slot c.args.text.now c.args.shape _ _ _ c.requires.1.0 false
+      integer_slot c.args.text.now c.args.shape _ _ _ c.requires.0 false
           c.in-2.is,
     )
 
@@ -38,24 +40,24 @@ bounds-slots-v t c =
     omega (
       arith,
       c.wide-v.ensures.0,
-      integer_slot c.args.text.now c.args.shape _ _ _ c.requires.1.0 false
+      integer_slot c.args.text.now c.args.shape _ _ _ c.requires.0 false
           c.in-2.is,
     )
 
 pub overflow_add-p-in-2 : goal.overflow_add-p-in-2
 overflow_add-p-in-2 t c =
-    omega (arith, (int_variable _ _ _ _ _ c.requires.1.0.4 false c.in-2.is).0)
+    omega (arith, (int_variable _ _ _ _ _ c.requires.0.4 false c.in-2.is).0)
 
 pub bounds-text-p-in-3 : goal.bounds-text-p-in-3
 bounds-text-p-in-3 t c =
-    omega (arith, (int_status _ _ _ _ _ c.requires.1.0.4 false c.in-3.is).0)
+    omega (arith, (int_status _ _ _ _ _ c.requires.0.4 false c.in-3.is).0)
 
 pub overflow_add-shape : goal.overflow_add-shape
 overflow_add-shape t c =
     omega (
       arith,
       c.wide-m.ensures.0,
-      status_slot_lem c.args.text.now c.args.shape _ _ _ c.requires.1.0 false
+      status_slot_lem c.args.text.now c.args.shape _ _ _ c.requires.0 false
           c.in-3.is,
     )
 
@@ -64,7 +66,7 @@ offset_bounds-slots-shape t c =
     omega (
       arith,
       c.wide-m.ensures.0,
-      status_slot_lem c.args.text.now c.args.shape _ _ _ c.requires.1.0 false
+      status_slot_lem c.args.text.now c.args.shape _ _ _ c.requires.0 false
           c.in-3.is,
     )
 
@@ -73,24 +75,24 @@ bounds-slots-shape t c =
     omega (
       arith,
       c.wide-m.ensures.0,
-      status_slot_lem c.args.text.now c.args.shape _ _ _ c.requires.1.0 false
+      status_slot_lem c.args.text.now c.args.shape _ _ _ c.requires.0 false
           c.in-3.is,
     )
 
 pub overflow_add-p-in-3 : goal.overflow_add-p-in-3
 overflow_add-p-in-3 t c =
-    omega (arith, (int_status _ _ _ _ _ c.requires.1.0.4 false c.in-3.is).0)
+    omega (arith, (int_status _ _ _ _ _ c.requires.0.4 false c.in-3.is).0)
 
 pub bounds-text-p-in-6 : goal.bounds-text-p-in-6
 bounds-text-p-in-6 t c =
-    omega (arith, (int_variable _ _ _ _ _ c.requires.1.0.4 true c.in-6.is).0)
+    omega (arith, (int_variable _ _ _ _ _ c.requires.0.4 true c.in-6.is).0)
 
 pub overflow_add-shape-in-6 : goal.overflow_add-shape-in-6
 overflow_add-shape-in-6 t c =
     omega (
       arith,
       c.wide-v-in-6.ensures.0,
-      integer_slot c.args.text.now c.args.shape _ _ _ c.requires.1.0 true
+      integer_slot c.args.text.now c.args.shape _ _ _ c.requires.0 true
           c.in-6.is,
     )
 
@@ -99,7 +101,7 @@ overflow_add-shape-in-6-2 t c =
     omega (
       arith,
       c.wide-v-in-6.ensures.0,
-      integer_slot c.args.text.now c.args.shape _ _ _ c.requires.1.0 true
+      integer_slot c.args.text.now c.args.shape _ _ _ c.requires.0 true
           c.in-6.is,
     )
 
@@ -108,7 +110,7 @@ overflow_add-shape-in-6-3 t c =
     omega (
       arith,
       c.wide-v-in-6.ensures.0,
-      integer_slot c.args.text.now c.args.shape _ _ _ c.requires.1.0 true
+      integer_slot c.args.text.now c.args.shape _ _ _ c.requires.0 true
           c.in-6.is,
     )
 
@@ -117,7 +119,7 @@ offset_bounds-slots-shape-in-6 t c =
     omega (
       arith,
       c.wide-v-in-6.ensures.0,
-      integer_slot c.args.text.now c.args.shape _ _ _ c.requires.1.0 true
+      integer_slot c.args.text.now c.args.shape _ _ _ c.requires.0 true
           c.in-6.is,
     )
 
@@ -126,24 +128,24 @@ bounds-slots-shape-in-6 t c =
     omega (
       arith,
       c.wide-v-in-6.ensures.0,
-      integer_slot c.args.text.now c.args.shape _ _ _ c.requires.1.0 true
+      integer_slot c.args.text.now c.args.shape _ _ _ c.requires.0 true
           c.in-6.is,
     )
 
 pub overflow_add-p-in-6 : goal.overflow_add-p-in-6
 overflow_add-p-in-6 t c =
-    omega (arith, (int_variable _ _ _ _ _ c.requires.1.0.4 true c.in-6.is).0)
+    omega (arith, (int_variable _ _ _ _ _ c.requires.0.4 true c.in-6.is).0)
 
 pub bounds-text-p-in-7 : goal.bounds-text-p-in-7
 bounds-text-p-in-7 t c =
-    omega (arith, (int_status _ _ _ _ _ c.requires.1.0.4 true c.in-7.is).0)
+    omega (arith, (int_status _ _ _ _ _ c.requires.0.4 true c.in-7.is).0)
 
 pub overflow_add-shape-in-7 : goal.overflow_add-shape-in-7
 overflow_add-shape-in-7 t c =
     omega (
       arith,
       c.wide-m-in-7.ensures.0,
-      status_slot_lem c.args.text.now c.args.shape _ _ _ c.requires.1.0 true
+      status_slot_lem c.args.text.now c.args.shape _ _ _ c.requires.0 true
           c.in-7.is,
     )
 
@@ -152,7 +154,7 @@ overflow_add-shape-in-7-2 t c =
     omega (
       arith,
       c.wide-m-in-7.ensures.0,
-      status_slot_lem c.args.text.now c.args.shape _ _ _ c.requires.1.0 true
+      status_slot_lem c.args.text.now c.args.shape _ _ _ c.requires.0 true
           c.in-7.is,
     )
 
@@ -161,7 +163,7 @@ overflow_add-shape-in-7-3 t c =
     omega (
       arith,
       c.wide-m-in-7.ensures.0,
-      status_slot_lem c.args.text.now c.args.shape _ _ _ c.requires.1.0 true
+      status_slot_lem c.args.text.now c.args.shape _ _ _ c.requires.0 true
           c.in-7.is,
     )
 
@@ -170,7 +172,7 @@ overflow_add-shape-in-7-4 t c =
     omega (
       arith,
       c.wide-m-in-7.ensures.0,
-      status_slot_lem c.args.text.now c.args.shape _ _ _ c.requires.1.0 true
+      status_slot_lem c.args.text.now c.args.shape _ _ _ c.requires.0 true
           c.in-7.is,
     )
 
@@ -179,7 +181,7 @@ offset_bounds-slots-shape-in-7 t c =
     omega (
       arith,
       c.wide-m-in-7.ensures.0,
-      status_slot_lem c.args.text.now c.args.shape _ _ _ c.requires.1.0 true
+      status_slot_lem c.args.text.now c.args.shape _ _ _ c.requires.0 true
           c.in-7.is,
     )
 
@@ -189,49 +191,48 @@ bounds-slots-shape-in-7 t c =
       arith,
       c.wide-m-in-7.ensures.0,
       status_slot_lem c.args.text.now c.args.shape _ _ _
-          c.requires.1.0 true c.in-7.is,
+          c.requires.0 true c.in-7.is,
     )
 
 pub overflow_add-p-in-7 : goal.overflow_add-p-in-7
 overflow_add-p-in-7 t c =
-    omega (arith, (int_status _ _ _ _ _ c.requires.1.0.4 true c.in-7.is).0)
+    omega (arith, (int_status _ _ _ _ _ c.requires.0.4 true c.in-7.is).0)
 
 pub overflow_add-p-in-8 : goal.overflow_add-p-in-8
-overflow_add-p-in-8 t c = omega (arith, (i_product _ _ _ _ _ c.requires.1.0.4 c.in-8.is).0)
+overflow_add-p-in-8 t c = omega (arith, (i_product _ _ _ _ _ c.requires.0.4 c.in-8.is).0)
 
 pub eval_int-a-requires : goal.eval_int-a-requires
 eval_int-a-requires t c =
-    let (file, depth, later, fits, h) = c.requires.1.0 in (
+    let (file, depth, later, fits, h) = c.requires.0 in (
       omega (arith, (int_live _ _ _ _ _ h).inside),
       ((file, depth - 1, later, fits, product_first _ _ _ _ _ h c.in-8.is), omega arith),
     )
 
 pub word-requires-in-8 : goal.word-requires-in-8
 word-requires-in-8 t c =
-    omega (arith, (i_product _ _ _ _ _ c.requires.1.0.4 c.in-8.is).0)
+    omega (arith, (i_product _ _ _ _ _ c.requires.0.4 c.in-8.is).0)
 
 pub overflow_cast-word-in-8 : goal.overflow_cast-word-in-8
 overflow_cast-word-in-8 t c = omega (arith, c.word-in-8.ensures.1)
 
 pub eval_int-a-requires-in-4-to-5 : goal.eval_int-a-requires-in-4-to-5
-eval_int-a-requires-in-4-to-5 t c =
+eval_int-a-requires-in-4-to-5 t c = (
+  omega (arith, (int_live _ _ _ _ _ c.requires.0.4).inside),
+  (
     (
-      omega (arith, (int_live _ _ _ _ _ c.requires.1.0.4).inside),
-      (
-        (
-          c.requires.1.0.0,
-          c.requires.1.0.1 - 1,
-          c.requires.1.0.2,
-          c.requires.1.0.3,
-          int_first _ _ _ _ _ c.requires.1.0.4
-              (omega arith) c.in-4-to-5.if-op-lt6-own.true,
-        ),
-        omega arith,
-      ),
-    )
+      c.requires.0.0,
+      c.requires.0.1 - 1,
+      c.requires.0.2,
+      c.requires.0.3,
+      int_first _ _ _ _ _ c.requires.0.4
+          (omega arith) c.in-4-to-5.if-op-lt6-own.true,
+    ),
+    omega arith,
+  ),
+)
 
 pub eval_int-b-requires : goal.eval_int-b-requires
-eval_int-b-requires t c = let (file, depth, later, fits, h) = c.requires.1.0 in
+eval_int-b-requires t c = let (file, depth, later, fits, h) = c.requires.0 in
     let first = int_first _ _ _ _ _ h (omega arith) c.in-4-to-5.if-op-lt6-own.true in
     let next = (c.eval_int-a-in-4-to-5.ensures file (depth - 1) later first).1 in (
       omega (arith, (int_live _ _ _ _ _ h).inside, int_forward _ _ _ _ _ _ first next),
@@ -242,9 +243,9 @@ pub returns-in-1 : goal.returns-in-1
 unfolding eval_int passes_int
 returns-in-1 t c = λ file depth later h.
     let k = int_constant _ _ _ _ _ h c.in-1.is in (
-      c.int_at.ensures.0 ∙ c.word.ensures.0 ∙ sym (ap (int_value _ _) k.1),
+      c.int_at.ensures.0 ∙ c.word.ensures.0 ∙ sym (ap (int_value (layout_of c.args.shape) c.args.slots.now) k.1),
       c.int_at.ensures.1 ∙ sym (ap past k.1),
-      c.int_at.ensures.2 ∙ sym (ap (int_passes _ _) k.1),
+      c.int_at.ensures.2 ∙ sym (ap (int_passes (layout_of c.args.shape) c.args.slots.now) k.1),
     )
 
 pub returns-in-2 : goal.returns-in-2
@@ -252,10 +253,10 @@ unfolding eval_int passes_int
 returns-in-2 t c =
     λ file depth later h.
     let k = int_variable _ _ _ _ _ h false c.in-2.is in (
-      c.int_at-in-2.ensures.0 ∙ ap (λ (v : ℕ). get_or c.args.slots.now (v) 0) c.wide-v.ensures.0 ∙ sym (ap (int_value _ _)
+      c.int_at-in-2.ensures.0 ∙ ap (λ (v : ℕ). get_or c.args.slots.now (v) 0) c.wide-v.ensures.0 ∙ sym (ap (int_value (layout_of c.args.shape) c.args.slots.now)
           k.2),
       c.int_at-in-2.ensures.1 ∙ sym (ap past k.2),
-      c.int_at-in-2.ensures.2 ∙ sym (ap (int_passes _ _) k.2),
+      c.int_at-in-2.ensures.2 ∙ sym (ap (int_passes (layout_of c.args.shape) c.args.slots.now) k.2),
     )
 
 pub returns-in-3 : goal.returns-in-3
@@ -264,9 +265,9 @@ returns-in-3 t c =
     λ file depth later h.
     let k = int_status _ _ _ _ _ h false c.in-3.is in (
       c.int_at-in-3.ensures.0 ∙ ap (λ (v : ℕ). get_or c.args.slots.now (c.args.shape.variables + v) 0)
-          c.wide-m.ensures.0 ∙ sym (ap (int_value _ _) k.2),
+          c.wide-m.ensures.0 ∙ sym (ap (int_value (layout_of c.args.shape) c.args.slots.now) k.2),
       c.int_at-in-3.ensures.1 ∙ sym (ap past k.2),
-      c.int_at-in-3.ensures.2 ∙ sym (ap (int_passes _ _) k.2),
+      c.int_at-in-3.ensures.2 ∙ sym (ap (int_passes (layout_of c.args.shape) c.args.slots.now) k.2),
     )
 
 pub returns-in-6 : goal.returns-in-6
@@ -275,9 +276,9 @@ returns-in-6 t c =
     λ file depth later h.
     let k = int_variable _ _ _ _ _ h true c.in-6.is in (
       c.int_at-in-6.ensures.0 ∙ ap (λ (v : ℕ). get_or c.args.slots.now (c.args.shape.variables + c.args.shape.matrices + 1 + v) 0)
-          c.wide-v-in-6.ensures.0 ∙ sym (ap (int_value _ _) k.2),
+          c.wide-v-in-6.ensures.0 ∙ sym (ap (int_value (layout_of c.args.shape) c.args.slots.now) k.2),
       c.int_at-in-6.ensures.1 ∙ sym (ap past k.2),
-      c.int_at-in-6.ensures.2 ∙ sym (ap (int_passes _ _) k.2),
+      c.int_at-in-6.ensures.2 ∙ sym (ap (int_passes (layout_of c.args.shape) c.args.slots.now) k.2),
     )
 
 pub returns-in-7 : goal.returns-in-7
@@ -287,9 +288,9 @@ returns-in-7 t c =
     let k = int_status _ _ _ _ _ h true c.in-7.is in (
       c.int_at-in-7.ensures.0 ∙ ap (λ (v : ℕ). get_or c.args.slots.now (c.args.shape.variables +
           (c.args.shape.variables + c.args.shape.matrices + 1 + v)) 0) c.wide-m-in-7.ensures.0 ∙ sym (ap
-          (int_value _ _) k.2),
+          (int_value (layout_of c.args.shape) c.args.slots.now) k.2),
       c.int_at-in-7.ensures.1 ∙ sym (ap past k.2),
-      c.int_at-in-7.ensures.2 ∙ sym (ap (int_passes _ _) k.2),
+      c.int_at-in-7.ensures.2 ∙ sym (ap (int_passes (layout_of c.args.shape) c.args.slots.now) k.2),
     )
 
 pub returns-in-8 : goal.returns-in-8
@@ -315,5 +316,7 @@ returns-in-4-to-5 t c = λ file depth later h.
 
 pub returns-in_default : goal.returns-in_default
 returns-in_default t c =
-    absurd (⊎_elim (λ w. int_unknown _ _ _ _ _ c.requires.1.0.4 (inl w.taken)) (λ w. int_unknown _ _ _ _ _ c.requires.1.0.4 (inr (omega
-    (arith, w.1.left)))) c.in_default.branch)
+    absurd (elim c.in_default.branch [
+      | in_default-via-then-op-lt1 w ↦ int_unknown _ _ _ _ _ c.requires.0.4 (inl (omega arith))
+      | in_default-via-else-op-lt1+else-op-lt6 w ↦ int_unknown _ _ _ _ _ c.requires.0.4 (inr (omega arith))
+    ])

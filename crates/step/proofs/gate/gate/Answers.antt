@@ -27,14 +27,14 @@ returns-then-not-piece_right c =
       arith,
       c.last_property.ensures,
       c.if-last_property-property.false,
-    )) (sym c.piece_right.ensures ∙ not-true _ c.if-not-piece_right.true)
+    )) (sym c.piece_right.ensures ∙ not-true _ c.if-not-piece_right.true-raw)
 
 pub returns-then-bound-gt-MAX_BOUND : goal.returns-then-bound-gt-MAX_BOUND
 returns-then-bound-gt-MAX_BOUND c =
     gate_14 _ _ _ _ _ c.check-checked.ensures c.if-checked-ne0.false
-    (omega (arith, c.last_property.ensures, c.if-last_property-property.false)) (sym c.piece_right.ensures ∙ not-false _ c.if-not-piece_right.false) c.if-bound-gt-MAX_BOUND.true
+    (omega (arith, c.last_property.ensures, c.if-last_property-property.false)) (sym c.piece_right.ensures ∙ not-false _ c.if-not-piece_right.false-raw) c.if-bound-gt-MAX_BOUND.true
 
 pub returns : goal.returns
 returns c =
     gate_none _ _ _ _ _ c.check-checked.ensures c.if-checked-ne0.false
-    (omega (arith, c.last_property.ensures, c.if-last_property-property.false)) (sym c.piece_right.ensures ∙ not-false _ c.if-not-piece_right.false) c.if-bound-gt-MAX_BOUND.false
+    (omega (arith, c.last_property.ensures, c.if-last_property-property.false)) (sym c.piece_right.ensures ∙ not-false _ c.if-not-piece_right.false-raw) c.if-bound-gt-MAX_BOUND.false

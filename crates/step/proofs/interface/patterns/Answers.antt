@@ -12,11 +12,11 @@ loop-i-init c = (omega arith, copying_start _ _ _)
 pub loop-i-preserved : goal.loop-i-preserved
 loop-i-preserved c = (
   omega arith,
-  copying_mapped max_variables wrap 0 (pos 0) c.args.t1 c.loop-i.i c.loop-i.out _ (omega arith) (omega (arith, c.UNRESOLVED.well-formed.0.1.0.1)) (loaded _ (record {
+  copying_mapped max_variables wrap 0 (pos 0) c.args.values c.loop-i.i c.loop-i.out _ (omega arith) (omega (arith, c.well_formed.0.1.0.1)) (loaded _ (record {
     sfits = c.pattern-arg-1.given;
   }) _ c.pattern.ensures) c.loop-i.invariant.1,
 )
 
 pub returns : goal.returns
 returns c =
-    copied_all max_variables _ 0 (map wrap c.args.t1) _ (omega arith) (length-map c.args.t1 wrap ∙ c.UNRESOLVED.well-formed.0.1.0.1) c.loop-i.invariant.1
+    copied_all max_variables _ 0 (map wrap c.args.values) _ (omega arith) (length-map c.args.values wrap ∙ c.well_formed.0.1.0.1) c.loop-i.invariant.1

@@ -22,16 +22,15 @@ slice_bounds-move_chosen-start c =
     omega (arith, c.slot_count-n.ensures, c.requires.0.size, c.pair-1.given)
 
 pub move_chosen-requires : goal.move_chosen-requires
-move_chosen-requires c =
-    (
-      record {
-        indexed = c.requires.0.indexed;
-        size = part_long _ c.keep_state.new.0 (kept_long _ c.args.pair.now c.requires.0.size c.args.keep _ c.slot_count-n.ensures.0 _
-            c.keep_state.ensures) _ c.slot_count-n.ensures.0;
-      },
-      c.requires.1,
-      c.requires.2,
-    )
+move_chosen-requires c = (
+  record {
+    indexed = c.requires.0.indexed;
+    size = part_long _ c.keep_state.new.pair (kept_long _ c.args.pair.now c.requires.0.size c.args.keep _ c.slot_count-n.ensures.0 _
+        c.keep_state.ensures) _ c.slot_count-n.ensures.0;
+  },
+  c.requires.1,
+  c.requires.2,
+)
 
 pub shape_of-pair : goal.shape_of-pair
 shape_of-pair c = omega (arith, c.pair-2-1.given, c.pair-1.given)

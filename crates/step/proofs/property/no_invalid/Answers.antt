@@ -1,8 +1,9 @@
-use Rattle.std.proofs.Common.{◌≡◌, ℕ, ◌+◌, ◌-◌, ap₂, ⊎_elim, arith}
+use Rattle.std.proofs.Common.{◌≡◌, ℕ, ◌+◌, ◌-◌, ap₂, arith}
 use Rattle.design.specs.Check.{cell_count}
 use Rattle.step.proofs.Cells.{sizes}
 use Rattle.step.proofs.Scanning.{Scanning, scanning_start, scan_fields, scan_found, scan_normal, scan_invalid, scanning_end}
 use Rattle.step.proofs.property.no_invalid.Goals as goal
+use Rattle.step.proofs.property.no_invalid.Goals.{then-file-p-ne0+else-status_and_event, else-file-p-ne0}
 
 pub trailer_word-count-requires : goal.trailer_word-count-requires
 trailer_word-count-requires c = omega (arith, sizes _ _ _ _ c.requires)
@@ -107,11 +108,12 @@ overflow_add-i c =
 
 pub loop-i-preserved : goal.loop-i-preserved
 loop-i-preserved c =
-    let q = ap₂ (λ (x y : ℕ). c.loop-i.p + 8 + x + y) c.wide.ensures.0 c.word.ensures.0
-    in (
+    let q = ap₂ (λ (x y : ℕ). c.loop-i.p + 8 + x + y) c.wide.ensures.0 c.word.ensures.0 in (
       c.loop-i.invariant.0,
-      ⊎_elim (λ w. scan_invalid _ _ _ _ c.requires _ _ c.loop-i.invariant.1 (omega
-          arith) w.0.taken _ w.1.ensures w.2.left _ q) (λ w. scan_normal _ _ _ _ c.requires _ _ c.loop-i.invariant.1 (omega arith) w.left _ q) c.if-file-p-ne0.branch,
+      elim c.if-file-p-ne0.branch [
+        | then-file-p-ne0+else-status_and_event w ↦ scan_invalid _ _ _ _ c.requires _ _ c.loop-i.invariant.1 (omega arith) w.if-file-p-ne0.true _ w.status_and_event.ensures w.if-status_and_event.false _ q
+        | else-file-p-ne0 w ↦ scan_normal _ _ _ _ c.requires _ _ c.loop-i.invariant.1 (omega arith) w.if-file-p-ne0.false _ q
+      ],
     )
 
 pub returns : goal.returns

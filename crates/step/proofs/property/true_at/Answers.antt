@@ -10,12 +10,11 @@ slot_count-n-requires c =
     let s = sized _ c.requires.0.indexed.accepted _ c.requires.0.indexed.shaped in (s.0, s.1)
 
 pub property_true-requires : goal.property_true-requires
-property_true-requires c =
-    (
-      record { indexed = c.requires.0.indexed; size = part_long _ c.args.pair.now c.requires.0.size _ c.slot_count-n.ensures.0 },
-      c.requires.1,
-      c.if-property-le-LAST_STATE_PROPERTY.true,
-    )
+property_true-requires c = (
+  record { indexed = c.requires.0.indexed; size = part_long _ c.args.pair.now c.requires.0.size _ c.slot_count-n.ensures.0 },
+  c.requires.1,
+  c.if-property-le-LAST_STATE_PROPERTY.true,
+)
 
 pub returns-then-property-le-LAST_STATE_PROPERTY : goal.returns-then-property-le-LAST_STATE_PROPERTY
 returns-then-property-le-LAST_STATE_PROPERTY c =

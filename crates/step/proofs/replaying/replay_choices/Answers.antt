@@ -14,16 +14,15 @@ pub bounds-choices-i : goal.bounds-choices-i
 bounds-choices-i c = c.loop-i-test.true
 
 pub step_pair-tested-requires : goal.step_pair-tested-requires
-step_pair-tested-requires c =
-    (
-      pair_same _ _ _ _ _ c.loop-i.invariant.size c.requires.ready,
-      c.requires.movers,
-      omega (
-        arith,
-        c.wide.ensures.0,
-        c.requires.named c.loop-i.i c.loop-i-test.true,
-      ),
-    )
+step_pair-tested-requires c = (
+  pair_same _ _ _ _ _ c.loop-i.invariant.size c.requires.ready,
+  c.requires.movers,
+  omega (
+    arith,
+    c.wide.ensures.0,
+    c.requires.named c.loop-i.i c.loop-i-test.true,
+  ),
+)
 
 pub count_if-read-requires : goal.count_if-read-requires
 count_if-read-requires c =
