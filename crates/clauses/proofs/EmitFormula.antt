@@ -158,8 +158,8 @@ module _ (d : Design) (p : Property) (k : ℕ) where
   last_is (suc j) l = sym (ap (λ (t : Bool). cond t (frame_part d p k j) (last_clause d p k ∷ [])) (lt-leb j k (let q : k < j = omega arith in q)))
 
 module _ (file piece : List ℕ) (s : FrameSizes) (p k i : ℕ) {xs ys : List ℤ} {cur c : ℕ} (d : Design) (ok : check file ≡ Checked.accepted d) (es : s ≡ frame_sizes d (property_of file piece d p)) where
-  pub first_part : i ≡ 0 → ((d : Design) (w : Parts file d) (q : Property) → Puts (words (first_part d q)) xs ys cur c) → Puts (words (part d (property_of file piece d p) k i)) xs ys cur c
-  first_part e f = puts_same (ap words (first_is d (property_of file piece d p) k i e)) (f d (whole file d ok).parts (property_of file piece d p))
+  pub first_part_lem : i ≡ 0 → ((d : Design) (w : Parts file d) (q : Property) → Puts (words (first_part d q)) xs ys cur c) → Puts (words (part d (property_of file piece d p) k i)) xs ys cur c
+  first_part_lem e f = puts_same (ap words (first_is d (property_of file piece d p) k i e)) (f d (whole file d ok).parts (property_of file piece d p))
 
   pub frame_part_lem : (i ≡ 0 → ⊥) → i ≤ k + 1 → ((d : Design) → check file ≡ Checked.accepted d → s ≡ frame_sizes d (property_of file piece d p) → Puts (words (frame_part d (property_of file piece d p) k (i - 1))) xs ys cur c) → Puts (words (part d (property_of file piece d p) k i)) xs ys cur c
   frame_part_lem z l f = puts_same (ap words (frame_is d (property_of file piece d p) k i z l)) (f d ok es)

@@ -102,9 +102,9 @@ module _ (d : Design) (wf : WellFormed d) (p : Property) (ok : PropertyOk d p) (
   pub satisfies_frames : (ρ : Assignment) → satisfies ρ (formula d p k) ≡ true → satisfies ρ (frames_from d p k 0) ≡ true
   satisfies_frames ρ s = (parts_to ρ s).frames
 
-  parts_from : (ρ : Assignment) → Parts ρ → satisfies ρ (formula d p k) ≡ true
+  parts_from_lem : (ρ : Assignment) → Parts ρ → satisfies ρ (formula d p k) ≡ true
   unfolding first_part
-  parts_from ρ r =
+  parts_from_lem ρ r =
       let A = initial_units (state_at d (frame d p 0)) (start d) in
       let L = last_clause d p k ∷ [] in
       ap (satisfies ρ) (formula_is d p k)
@@ -177,7 +177,7 @@ module _ (d : Design) (wf : WellFormed d) (p : Property) (ok : PropertyOk d p) (
       let ch : choices_from d p ρ k 0 ≡ cs = rw e at told.choice in
       let fs : satisfies ρ (frames_from d p k 0) ≡ true = rw e at told.sat in (
         ρ,
-        parts_from ρ (record {
+        parts_from_lem ρ (record {
           one = one;
           begin = told.state;
           frames = fs;

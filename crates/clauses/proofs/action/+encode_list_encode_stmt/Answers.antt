@@ -17,15 +17,14 @@ encode_list-loop-left-init t c =
     (listing_start c.args.file.now c.args.shape _ _ _ _ _ _ c.wide-left.ensures.0 c.requires.1 c.requires.2, refl)
 
 pub encode_list-encode_stmt-r-requires : goal.encode_list-encode_stmt-r-requires
-encode_list-encode_stmt-r-requires t c =
-    (
-      omega (arith, c.requires.0, c.loop-left.invariant.0.ahead, list_here c.args.file.now c.args.shape c.requires.2),
-      (
-        slotted_again c.requires.0 (c.requires.1 ∙ sym c.loop-left.invariant.0.size),
-        c.loop-left.invariant.0.size,
-        listing_here c.args.file.now c.args.shape c.loop-left.invariant.0 c.loop-left-test.true,
-      ),
-    )
+encode_list-encode_stmt-r-requires t c = (
+  omega (arith, c.requires.0, c.loop-left.invariant.0.ahead, list_here c.args.file.now c.args.shape c.requires.2),
+  (
+    slotted_again c.requires.0 (c.requires.1 ∙ sym c.loop-left.invariant.0.size),
+    c.loop-left.invariant.0.size,
+    listing_here c.args.file.now c.args.shape c.loop-left.invariant.0 c.loop-left-test.true,
+  ),
+)
 
 pub encode_list-loop-left-preserved : goal.encode_list-loop-left-preserved
 encode_list-loop-left-preserved t c = (
@@ -49,19 +48,17 @@ encode_stmt-overflow_add-at t c =
     omega (arith, stmt_here c.args.file.now c.args.shape c.requires.2)
 
 pub encode_stmt-encode_assign-requires : goal.encode_stmt-encode_assign-requires
-encode_stmt-encode_assign-requires t c =
-    (
-      c.requires.0,
-      c.requires.1,
-      stmt_assign_here c.args.file.now c.args.shape c.requires.2 c.if-op-eq32.true,
-    )
+encode_stmt-encode_assign-requires t c = (
+  c.requires.0,
+  c.requires.1,
+  stmt_assign_here c.args.file.now c.args.shape c.requires.2 c.if-op-eq32.true,
+)
 
 pub encode_stmt-returns-then-op-eq32 : goal.encode_stmt-returns-then-op-eq32
-encode_stmt-returns-then-op-eq32 t c =
-    (
-      stmt_assign_node c.args.file.now c.args.shape c.args.state.now _ c.if-op-eq32.true c.encode_assign.ensures.0,
-      c.encode_assign.ensures.1,
-    )
+encode_stmt-returns-then-op-eq32 t c = (
+  stmt_assign_node c.args.file.now c.args.shape c.args.state.now _ c.if-op-eq32.true c.encode_assign.ensures.0,
+  c.encode_assign.ensures.1,
+)
 
 pub encode_stmt-overflow_sub-last : goal.encode_stmt-overflow_sub-last
 encode_stmt-overflow_sub-last t c = omega (arith, bits_some c.requires.0)

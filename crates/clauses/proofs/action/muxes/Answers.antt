@@ -52,9 +52,8 @@ loop-i-preserved c = (
 )
 
 pub returns : goal.returns
-returns c =
-    (
-      (λ file e. muxing_end c.args.shape.bits _ c.args.state.now c.args.other.now (omega (arith, c.requires.0, c.requires.1))
-          (omega (arith, c.requires.0, c.requires.2)) _ _ _ _ c.loop-i-test.false c.loop-i.invariant.0 file c.args.shape e),
-      c.loop-i.invariant.0.size ∙ c.requires.1,
-    )
+returns c = (
+  (λ file e. muxing_end c.args.shape.bits _ c.args.state.now c.args.other.now (omega (arith, c.requires.0, c.requires.1))
+      (omega (arith, c.requires.0, c.requires.2)) _ _ _ _ c.loop-i-test.false c.loop-i.invariant.0 file c.args.shape e),
+  c.loop-i.invariant.0.size ∙ c.requires.1,
+)

@@ -12,11 +12,10 @@ pub loop-left-init : goal.loop-left-init
 loop-left-init c = walking_start _ _ _ _ _ _ c.trailer_word-left.ensures.0 c.no_gates-sum.ensures c.trailer_word.ensures.0
 
 pub size_cell-x-requires : goal.size_cell-x-requires
-size_cell-x-requires c =
-    (
-      c.requires,
-      cell_here _ _ _ c.requires (λ i. omega (arith, c.shared_slice_known-1.given i)) _ _ _ c.loop-left-test.true c.loop-left.invariant,
-    )
+size_cell-x-requires c = (
+  c.requires,
+  cell_here _ _ _ c.requires (λ i. omega (arith, c.shared_slice_known-1.given i)) _ _ _ c.loop-left-test.true c.loop-left.invariant,
+)
 
 pub join-sum-requires : goal.join-sum-requires
 join-sum-requires c =

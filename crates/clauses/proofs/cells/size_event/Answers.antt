@@ -44,24 +44,23 @@ overflow_add-at-2 c =
     omega (arith, event_inside _ _ _ c.requires.0 _ _ c.requires.1 c.requires.2, sizes c.requires.0.shaped)
 
 pub size_bool-requires : goal.size_bool-requires
-size_bool-requires c =
-    (
-      (c.args.file.now, max_depth, false, event_reads _ _ _ c.requires.0 _ _ c.requires.1 c.requires.2 _ c.wide.ensures.0),
-      omega (
-        arith,
-        c.wide.ensures.0,
-        event_inside _ _ _
-            c.requires.0 _ _ c.requires.1 c.requires.2,
-        sizes c.requires.0.shaped,
-      ),
-      omega (
-        arith,
-        c.wide.ensures.0,
-        event_inside _ _ _
-            c.requires.0 _ _ c.requires.1 c.requires.2,
-        sizes c.requires.0.shaped,
-      ),
-    )
+size_bool-requires c = (
+  (c.args.file.now, max_depth, false, event_reads _ _ _ c.requires.0 _ _ c.requires.1 c.requires.2 _ c.wide.ensures.0),
+  omega (
+    arith,
+    c.wide.ensures.0,
+    event_inside _ _ _
+        c.requires.0 _ _ c.requires.1 c.requires.2,
+    sizes c.requires.0.shaped,
+  ),
+  omega (
+    arith,
+    c.wide.ensures.0,
+    event_inside _ _ _
+        c.requires.0 _ _ c.requires.1 c.requires.2,
+    sizes c.requires.0.shaped,
+  ),
+)
 
 pub returns : goal.returns
 returns c =

@@ -11,28 +11,27 @@ pub size_guard-guard-requires : goal.size_guard-guard-requires
 size_guard-guard-requires c = ((_, c.requires.0), c.requires.1)
 
 pub size_list-action-requires : goal.size_list-action-requires
-size_list-action-requires c =
-    (
-      action_reads _ _ _ c.requires.0 _ c.requires.1 _ _ (ap (λ (i : ℕ). c.args.p + 8 + i) c.wide.ensures.0) (ap₂ (λ (i j : ℕ).
-          c.args.p + 8 + i + j) c.wide.ensures.0 c.word.ensures.0),
-      (
-        omega (
-          arith,
-          c.wide.ensures.0,
-          c.word.ensures.0,
-          (normal_fields _ _ _ c.requires.0 _ c.requires.1).past,
-        ),
-        omega (
-          arith,
-          c.wide.ensures.0,
-          c.word.ensures.0,
-          (normal_fields _ _ _ c.requires.0 _ c.requires.1).past,
-          sizes c.requires.0.shaped,
-        ),
-        kinds c.requires.0.shaped,
-        c.requires.0.shaped.bits.few,
-      ),
-    )
+size_list-action-requires c = record {
+  at_value = action_reads _ _ _ c.requires.0 _ c.requires.1 _ _ (ap (λ (i : ℕ). c.args.p + 8 + i) c.wide.ensures.0) (ap₂ (λ (i j : ℕ).
+      c.args.p + 8 + i + j) c.wide.ensures.0 c.word.ensures.0);
+  end_in_bounds = (
+    omega (
+      arith,
+      c.wide.ensures.0,
+      c.word.ensures.0,
+      (normal_fields _ _ _ c.requires.0 _ c.requires.1).past,
+    ),
+    omega (
+      arith,
+      c.wide.ensures.0,
+      c.word.ensures.0,
+      (normal_fields _ _ _ c.requires.0 _ c.requires.1).past,
+      sizes c.requires.0.shaped,
+    ),
+    kinds c.requires.0.shaped,
+    c.requires.0.shaped.bits.few,
+  );
+}
 
 pub join-requires-2 : goal.join-requires-2
 join-requires-2 c =

@@ -11,14 +11,13 @@ size_event-x-requires c =
     )
 
 pub returns : goal.returns
-returns c =
-    (
-      record {
-        ands = omega (arith, c.size_event-x.ensures.0.ands);
-        wides = omega (
-          arith,
-          c.size_event-x.ensures.0.wides,
-        );
-      },
-      place_gates _ _ _ c.requires.0 _ _ _ c.wide-m.ensures.0 c.wide-e.ensures.0 _ _ c.size_event-x.ensures.1 refl refl,
-    )
+returns c = (
+  record {
+    ands = omega (arith, c.size_event-x.ensures.0.ands);
+    wides = omega (
+      arith,
+      c.size_event-x.ensures.0.wides,
+    );
+  },
+  place_gates _ _ _ c.requires.0 _ _ _ c.wide-m.ensures.0 c.wide-e.ensures.0 _ _ c.size_event-x.ensures.1 refl refl,
+)

@@ -1,5 +1,5 @@
 use Rattle.std.proofs.Common.{◌≡◌, ◌-◌, length, refl, arith, rules}
-use Rattle.clauses.specs.Circuit.{xor!, xors!}
+use Rattle.clauses.specs.Circuit.{xor!, xors! }
 use Rattle.clauses.proofs.EmitCircuits.{Rowing, rowing_start, rowing_on, rowing_all, xors_row}
 use Rattle.clauses.proofs.circuit.xors.Goals as goal
 

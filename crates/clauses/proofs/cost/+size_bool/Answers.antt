@@ -1,9 +1,10 @@
-use Rattle.std.proofs.Common.{ℕ, ◌-◌, ◌<◌, true, ◌∙◌, inl, inr, ⊎_elim, arith}
+use Rattle.std.proofs.Common.{ℕ, ◌-◌, ◌<◌, true, ◌∙◌, inl, inr, arith}
 use Rattle.step.proofs.Values.{bool_live, bool_unknown, not_first, logic_first, compare_first}
 use Rattle.clauses.proofs.EmitReads.{above}
 use Rattle.clauses.proofs.TextGates.{int_few, bool_few}
 use Rattle.clauses.proofs.GateCounts.{bool_next, bool_slot, bool_name, bool_negated, bool_then, bool_joined, compare_then, equal_joined, less_joined}
 use Rattle.clauses.proofs.cost.+size_bool.Goals as goal
+use Rattle.clauses.proofs.cost.+size_bool.Goals.{in_default-via-then-op-lt16, in_default-via-else-op-lt16+else-op-lt18+else-op-lt21+else-op-lt23}
 
 pub bounds-text-at : goal.bounds-text-at
 bounds-text-at t c = omega (arith, (bool_live _ _ _ _ _ c.requires.0.3).inside)
@@ -112,5 +113,7 @@ returns-else-op-eq21 t c =
 
 pub returns-in_default : goal.returns-in_default
 returns-in_default t c =
-    absurd (⊎_elim (λ w. bool_unknown _ _ _ _ _ c.requires.0.3 (inl (omega (arith, w.taken)))) (λ w. bool_unknown _ _ _ _ _ c.requires.0.3 (inr (above _ _
-    c.in_default-1.rest.1 (omega (arith, w.3.left))))) c.in_default.branch)
+    absurd (elim c.in_default.branch [
+      | in_default-via-then-op-lt16 w ↦ bool_unknown _ _ _ _ _ c.requires.0.3 (inl (omega arith))
+      | in_default-via-else-op-lt16+else-op-lt18+else-op-lt21+else-op-lt23 w ↦ bool_unknown _ _ _ _ _ c.requires.0.3 (inr (omega arith))
+    ])

@@ -1,9 +1,10 @@
-use Rattle.std.proofs.Common.{ℕ, ◌-◌, ◌<◌, true, false, ◌∙◌, inl, inr, ⊎_elim, arith}
+use Rattle.std.proofs.Common.{ℕ, ◌-◌, ◌<◌, true, false, ◌∙◌, inl, inr, arith}
 use Rattle.step.proofs.Values.{int_live, int_unknown, int_first}
 use Rattle.clauses.proofs.TextGates.{int_few}
 use Rattle.clauses.proofs.EmitReads.{above}
 use Rattle.clauses.proofs.GateCounts.{int_next, int_then, int_number, int_name, int_joined, product_inside, product_operand, product_joined}
 use Rattle.clauses.proofs.cost.+size_int.Goals as goal
+use Rattle.clauses.proofs.cost.+size_int.Goals.{in_default-via-then-op-lt1, in_default-via-else-op-lt1+else-op-lt4+else-op-lt6+else-op-lt8}
 
 pub bounds-text-at : goal.bounds-text-at
 bounds-text-at t c = omega (arith, (int_live _ _ _ _ _ c.requires.0.3).inside)
@@ -84,4 +85,7 @@ returns-in-6-to-7 t c = λ file depth later h. c.no_gates-in-6-to-7.ensures ∙ 
 
 pub returns-in_default : goal.returns-in_default
 returns-in_default t c =
-    absurd (⊎_elim (λ w. int_unknown _ _ _ _ _ c.requires.0.3 (inl (omega (arith, w.taken)))) (λ w. int_unknown _ _ _ _ _ c.requires.0.3 (inr (above _ 8 c.in_default-1.rest.1 w.3.left))) c.in_default.branch)
+    absurd (elim c.in_default.branch [
+      | in_default-via-then-op-lt1 w ↦ int_unknown _ _ _ _ _ c.requires.0.3 (inl (omega arith))
+      | in_default-via-else-op-lt1+else-op-lt4+else-op-lt6+else-op-lt8 w ↦ int_unknown _ _ _ _ _ c.requires.0.3 (inr (omega arith))
+    ])

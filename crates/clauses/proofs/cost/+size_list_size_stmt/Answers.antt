@@ -1,4 +1,4 @@
-use Rattle.std.proofs.Common.{ℕ, ◌-◌, ◌<◌, false, ap, inl, inr, ⊎_elim, arith}
+use Rattle.std.proofs.Common.{ℕ, ◌-◌, ◌<◌, false, ap, inl, inr, arith}
 use Rattle.design.specs.Limits.{max_depth}
 use Rattle.design.specs.Check.{names_of}
 use Rattle.clauses.specs.declared.cost.GatesAt.{GatesAt}
@@ -6,6 +6,7 @@ use Rattle.step.proofs.Runs.{stmt_unknown, list_live, stmt_live, seq_first, assi
 use Rattle.clauses.proofs.TextGates.{bool_few, statement_few, list_few}
 use Rattle.clauses.proofs.ActionCounts.{Counting, counting_start, counting_on, counting_few, counting_end, stated_assign, if_first, first_on, if_second, second_on, if_joined}
 use Rattle.clauses.proofs.cost.+size_list_size_stmt.Goals as goal
+use Rattle.clauses.proofs.cost.+size_list_size_stmt.Goals.{size_stmt-in_default-via-then-op-lt32, size_stmt-in_default-via-else-op-lt32+else-op-lt34}
 
 pub size_list-bounds-file-at : goal.size_list-bounds-file-at
 size_list-bounds-file-at t c = omega (arith, list_live _ _ _ _ _ c.requires.at_value)
@@ -51,7 +52,10 @@ size_stmt-overflow_add-at t c = omega (arith, stmt_live _ _ _ _ _ c.requires.at_
 
 pub size_stmt-size_assign-requires : goal.size_stmt-size_assign-requires
 size_stmt-size_assign-requires t c =
-    (assign_live _ _ _ _ _ c.requires.at_value c.if-op-eq32.true, (omega arith, omega arith, omega arith))
+    record {
+      at_value = assign_live _ _ _ _ _ c.requires.at_value c.if-op-eq32.true;
+      end_in_bounds = (omega arith, omega arith, omega arith);
+    }
 
 pub size_stmt-returns-then-op-eq32 : goal.size_stmt-returns-then-op-eq32
 size_stmt-returns-then-op-eq32 t c =
@@ -122,5 +126,7 @@ size_stmt-returns-else-op-eq32 t c =
 
 pub size_stmt-returns-in_default : goal.size_stmt-returns-in_default
 size_stmt-returns-in_default t c =
-    absurd (⊎_elim (λ w. stmt_unknown _ _ _ _ _ c.requires.at_value (inl w.taken)) (λ w. stmt_unknown _ _ _ _ _ c.requires.at_value (inr w.1.left))
-    c.in_default.branch)
+    absurd (elim c.in_default.branch [
+      | size_stmt-in_default-via-then-op-lt32 w ↦ stmt_unknown _ _ _ _ _ c.requires.at_value (inl (omega arith))
+      | size_stmt-in_default-via-else-op-lt32+else-op-lt34 w ↦ stmt_unknown _ _ _ _ _ c.requires.at_value (inr (omega arith))
+    ])

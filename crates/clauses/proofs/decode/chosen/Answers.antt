@@ -20,8 +20,7 @@ returns-then-not-rest_zero c = (
 )
 
 pub returns : goal.returns
-returns c =
-    (
-      chosen_one c.args.flags.now _ c.first_nonzero-i.ensures.0 c.if-flags-i.false c.if-flags-i-ne1.false (sym c.rest_zero.ensures ∙ not-false _ c.if-not-rest_zero.false-raw),
-      c.first_nonzero-i.ensures.1,
-    )
+returns c = (
+  chosen_one c.args.flags.now _ c.first_nonzero-i.ensures.0 c.if-flags-i.false c.if-flags-i-ne1.false (sym c.rest_zero.ensures ∙ not-false _ c.if-not-rest_zero.false-raw),
+  c.first_nonzero-i.ensures.1,
+)

@@ -21,12 +21,11 @@ shape-shape-requires c =
     c.requires.0.accepted
 
 pub put_part-requires : goal.put_part-requires
-put_part-requires c =
-    (
-      formula_ready _ c.requires.0 (λ i. omega (arith, c.shared_slice_known-1.given i)) c.index_events.ensures c.index_cells.ensures c.shape-shape.ensures,
-      c.requires.0.right,
-      c.requires.1,
-    )
+put_part-requires c = (
+  formula_ready _ c.requires.0 (λ i. omega (arith, c.shared_slice_known-1.given i)) c.index_events.ensures c.index_cells.ensures c.shape-shape.ensures,
+  c.requires.0.right,
+  c.requires.1,
+)
 
 pub returns : goal.returns
 returns c =

@@ -1,7 +1,7 @@
 use Rattle.std.proofs.Common.{Bool, get_or, arith, rules}
 use Rattle.step.proofs.Values.{compare_of}
 use Rattle.clauses.specs.Circuit.{Bits, WithMark}
-use Rattle.clauses.specs.Builders.{beside!, compare!}
+use Rattle.clauses.specs.Builders.{beside!, compare! }
 use Rattle.clauses.specs.FlatState.{read_slots, layout_of}
 use Rattle.clauses.specs.Encoders.{ints_at, bools_at, int_gates, bool_gates}
 use Rattle.clauses.proofs.EmitExpressions.{bool_byte, compare_pair, first_here, second_here, pair_node, compare_tree}

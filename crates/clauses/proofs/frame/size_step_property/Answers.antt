@@ -22,18 +22,17 @@ pub constraint-stands-requires : goal.constraint-stands-requires
 constraint-stands-requires c = tail c.requires
 
 pub size_bool-requires : goal.size_bool-requires
-size_bool-requires c =
-    (
-      (
-        c.args.file.now,
-        max_depth,
-        true,
-        constraint_reads c.requires (sym c.has_constraint.ensures ∙ not-false _ c.if-not-has_constraint.false-raw) _ _
-            c.constraint-stands.ensures.0 c.constraint-stands.ensures.1,
-      ),
-      omega (arith, c.constraint-stands.ensures.1),
-      omega (arith, c.constraint-stands.ensures.1, (sizes c.requires).1),
-    )
+size_bool-requires c = (
+  (
+    c.args.file.now,
+    max_depth,
+    true,
+    constraint_reads c.requires (sym c.has_constraint.ensures ∙ not-false _ c.if-not-has_constraint.false-raw) _ _
+        c.constraint-stands.ensures.0 c.constraint-stands.ensures.1,
+  ),
+  omega (arith, c.constraint-stands.ensures.1),
+  omega (arith, c.constraint-stands.ensures.1, (sizes c.requires).1),
+)
 
 pub ends_unmarked-requires-2 : goal.ends_unmarked-requires-2
 ends_unmarked-requires-2 c =

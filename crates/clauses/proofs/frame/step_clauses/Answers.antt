@@ -3,15 +3,14 @@ use Rattle.clauses.proofs.FrameNumbers.{ties_small}
 use Rattle.clauses.proofs.frame.step_clauses.Goals as goal
 
 pub returns : goal.returns
-returns c =
-    (
-      omega (arith, c.pairs.ensures.0, c.times.ensures.0),
-      omega (
-        arith,
-        c.pairs.ensures.1,
-        c.times.ensures.0,
-        ties_small _
-            c.requires,
-        c.requires.gates,
-      ),
-    )
+returns c = (
+  omega (arith, c.pairs.ensures.0, c.times.ensures.0),
+  omega (
+    arith,
+    c.pairs.ensures.1,
+    c.times.ensures.0,
+    ties_small _
+        c.requires,
+    c.requires.gates,
+  ),
+)

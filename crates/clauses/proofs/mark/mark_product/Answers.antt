@@ -1,7 +1,7 @@
 use Rattle.std.proofs.Common.{refl, rules}
 use Rattle.clauses.proofs.EmitMarks.{mark_none, mark_some, product_passes_lem}
 use Rattle.clauses.specs.Writing.{from_codes}
-use Rattle.clauses.specs.Expression.{product_passes!}
+use Rattle.clauses.specs.Expression.{product_passes! }
 use Rattle.clauses.proofs.mark.mark_product.Goals as goal
 
 pub returns-then-not-pen : goal.returns-then-not-pen

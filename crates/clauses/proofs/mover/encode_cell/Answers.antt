@@ -40,13 +40,12 @@ overflow_add-at-2 c =
     omega (arith, (normal_fields c.requires.0 c.args.p c.requires.2).past, sizes c.requires.0.shaped, c.wide.ensures.0)
 
 pub encode_list-a-requires : goal.encode_list-a-requires
-encode_list-a-requires c =
-    (
-      slotted c.requires.0.shaped _ c.requires.1,
-      c.requires.1,
-      action_here c.requires.0 c.args.p c.requires.2 _ (ap (λ (k :
-          ℕ). c.args.p + 8 + k) c.wide.ensures.0),
-    )
+encode_list-a-requires c = (
+  slotted c.requires.0.shaped _ c.requires.1,
+  c.requires.1,
+  action_here c.requires.0 c.args.p c.requires.2 _ (ap (λ (k :
+      ℕ). c.args.p + 8 + k) c.wide.ensures.0),
+)
 
 pub offset-requires : goal.offset-requires
 offset-requires c =

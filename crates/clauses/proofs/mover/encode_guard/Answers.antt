@@ -25,12 +25,11 @@ overflow_add-p-2 c =
     omega (arith, (normal_fields c.requires.0.1 c.args.p c.requires.2).header, sizes c.requires.0.1.shaped)
 
 pub encode_test-requires : goal.encode_test-requires
-encode_test-requires c =
-    (
-      false,
-      slotted c.requires.0.1.shaped _ c.requires.1,
-      guard_here c.requires.0.1 c.args.p c.requires.2 c.wide-n.result c.wide-n.ensures.0 c.if-n-eq0.false,
-    )
+encode_test-requires c = (
+  false,
+  slotted c.requires.0.1.shaped _ c.requires.1,
+  guard_here c.requires.0.1 c.args.p c.requires.2 c.wide-n.result c.wide-n.ensures.0 c.if-n-eq0.false,
+)
 
 pub returns : goal.returns
 returns c =

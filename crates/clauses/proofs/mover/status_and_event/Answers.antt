@@ -11,16 +11,15 @@ pub bounds-file-p : goal.bounds-file-p
 bounds-file-p c = omega (arith, c.requires.2.header, sizes c.requires.0.shaped)
 
 pub load_status-x-requires : goal.load_status-x-requires
-load_status-x-requires c =
-    (
-      slotted c.requires.0.shaped _ c.requires.1,
-      (omega (
-        arith,
-        c.wide-m.ensures.0,
-        c.requires.2.matrix,
-        c.requires.0.shaped.counts.matrices,
-      )),
-    )
+load_status-x-requires c = (
+  slotted c.requires.0.shaped _ c.requires.1,
+  (omega (
+    arith,
+    c.wide-m.ensures.0,
+    c.requires.2.matrix,
+    c.requires.0.shaped.counts.matrices,
+  )),
+)
 
 pub overflow_add-p : goal.overflow_add-p
 overflow_add-p c =
@@ -66,12 +65,11 @@ overflow_add-at-2 c =
     omega (arith, event_inside c.requires.0 c.requires.2 c.wide-m.ensures.0 c.wide-e.ensures.0, sizes c.requires.0.shaped)
 
 pub encode_test-v-requires : goal.encode_test-v-requires
-encode_test-v-requires c =
-    (
-      false,
-      slotted c.requires.0.shaped _ c.requires.1,
-      event_here c.requires.0 c.requires.2 c.wide-m.ensures.0 c.wide-e.ensures.0 _ refl,
-    )
+encode_test-v-requires c = (
+  false,
+  slotted c.requires.0.shaped _ c.requires.1,
+  event_here c.requires.0 c.requires.2 c.wide-m.ensures.0 c.wide-e.ensures.0 _ refl,
+)
 
 pub returns : goal.returns
 returns c =

@@ -24,12 +24,11 @@ overflow_cast-cells c =
     omega (arith, place_small c.requires.0.shaped c.requires.2 c.loop-i.i c.if-i-shape.true)
 
 pub encode_cell-t-requires : goal.encode_cell-t-requires
-encode_cell-t-requires c =
-    (
-      c.requires.0,
-      c.requires.1,
-      cell_here c.requires.0.shaped c.requires.2 c.loop-i.i c.if-i-shape.true,
-    )
+encode_cell-t-requires c = (
+  c.requires.0,
+  c.requires.1,
+  cell_here c.requires.0.shaped c.requires.2 c.loop-i.i c.if-i-shape.true,
+)
 
 pub offset_bounds-firsts-i : goal.offset_bounds-firsts-i
 offset_bounds-firsts-i c =
@@ -57,13 +56,12 @@ external-v-requires c =
     (kinds c.requires.0.shaped, omega (arith, c.loop-i-test.true, c.if-i-shape.false, c.requires.0.shaped.externals))
 
 pub encode_external-t-requires : goal.encode_external-t-requires
-encode_external-t-requires c =
-    (
-      c.requires.0.shaped,
-      c.requires.1,
-      c.external-v.ensures.1,
-      raised_kind c.requires.0.shaped c.requires.2 c.loop-i.i _ c.if-i-shape.false c.loop-i-test.true c.external-v.ensures.0,
-    )
+encode_external-t-requires c = (
+  c.requires.0.shaped,
+  c.requires.1,
+  c.external-v.ensures.1,
+  raised_kind c.requires.0.shaped c.requires.2 c.loop-i.i _ c.if-i-shape.false c.loop-i-test.true c.external-v.ensures.0,
+)
 
 pub offset_bounds-firsts-i-else-i-shape : goal.offset_bounds-firsts-i-else-i-shape
 offset_bounds-firsts-i-else-i-shape c =
@@ -90,8 +88,7 @@ pub shape_of-buf : goal.shape_of-buf
 shape_of-buf c = c.loop-i.invariant.1
 
 pub returns : goal.returns
-returns c =
-    (
-      moving_end c.args.file.now c.args.shape c.args.bits.now _ c.loop-i-test.false (mover_total c.requires.0.shaped c.requires.2) c.loop-i.invariant.0,
-      c.loop-i.invariant.0.size,
-    )
+returns c = (
+  moving_end c.args.file.now c.args.shape c.args.bits.now _ c.loop-i-test.false (mover_total c.requires.0.shaped c.requires.2) c.loop-i.invariant.0,
+  c.loop-i.invariant.0.size,
+)

@@ -29,11 +29,10 @@ encode_property-x-requires c = (
 )
 
 pub put_step-requires : goal.put_step-requires
-put_step-requires c =
-    (
-      c.requires.0,
-      start_low c.requires.0.small _ _ _ c.requires.2 refl c.frame_start-v.ensures,
-    )
+put_step-requires c = (
+  c.requires.0,
+  start_low c.requires.0.small _ _ _ c.requires.2 refl c.frame_start-v.ensures,
+)
 
 pub returns-then-j-k : goal.returns-then-j-k
 returns-then-j-k c =

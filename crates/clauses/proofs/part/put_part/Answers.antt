@@ -1,12 +1,12 @@
 use Rattle.std.proofs.Common.{arith, rules}
-use Rattle.clauses.proofs.EmitFormula.{first_part, frame_part_lem, last_part}
+use Rattle.clauses.proofs.EmitFormula.{first_part_lem, frame_part_lem, last_part}
 use Rattle.clauses.proofs.part.put_part.Goals as goal
 
 pub put_first-requires : goal.put_first-requires
 put_first-requires c = c.requires.0.ready.shaped
 
 pub returns-then-i-eq0 : goal.returns-then-i-eq0
-returns-then-i-eq0 c = λ d ok es. first_part _ _ _ _ _ _ d ok es c.if-i-eq0.true c.put_first.ensures
+returns-then-i-eq0 c = λ d ok es. first_part_lem _ _ _ _ _ _ d ok es c.if-i-eq0.true c.put_first.ensures
 
 pub put_last-requires : goal.put_last-requires
 put_last-requires c =

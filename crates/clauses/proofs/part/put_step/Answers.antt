@@ -15,12 +15,11 @@ encode_step_property-x-requires c =
     c.requires.0.ready.shaped
 
 pub put_all_ties-requires : goal.put_all_ties-requires
-put_all_ties-requires c =
-    (
-      omega (arith, c.requires.0.small.sizes.movers),
-      omega (arith, c.requires.0.small.sizes.bits),
-      c.encode_step-g.ensures.1,
-    )
+put_all_ties-requires c = (
+  omega (arith, c.requires.0.small.sizes.movers),
+  omega (arith, c.requires.0.small.sizes.bits),
+  c.encode_step-g.ensures.1,
+)
 
 pub shape_of-buf : goal.shape_of-buf
 shape_of-buf c =

@@ -16,16 +16,15 @@ loop-i-init c =
     (scanning_start c.args.file.now c.args.shape c.args.bits.now _ _ _ _ _ c.trailer_word-p.ensures.0 code_yes, refl)
 
 pub encode_link-t-requires : goal.encode_link-t-requires
-encode_link-t-requires c =
-    (
-      c.requires.0,
-      c.requires.1,
-      (cell_in c.requires.0.shaped _ _ (omega (
-        arith,
-        c.loop-i-test.true,
-        c.trailer_word-count.ensures,
-      )) c.loop-i.invariant.0.place),
-    )
+encode_link-t-requires c = (
+  c.requires.0,
+  c.requires.1,
+  (cell_in c.requires.0.shaped _ _ (omega (
+    arith,
+    c.loop-i-test.true,
+    c.trailer_word-count.ensures,
+  )) c.loop-i.invariant.0.place),
+)
 
 pub overflow_add-p : goal.overflow_add-p
 overflow_add-p c =

@@ -1,6 +1,6 @@
 use Rattle.std.proofs.Common.{ap, rules}
 use Rattle.clauses.specs.Literal.{Literal}
-use Rattle.clauses.specs.Circuit.{and!}
+use Rattle.clauses.specs.Circuit.{and! }
 use Rattle.clauses.specs.Writing.{from_code}
 use Rattle.clauses.proofs.EmitBuilds.{emits_same}
 use Rattle.clauses.proofs.property.unmarked.Goals as goal
