@@ -62,10 +62,10 @@ is_unset_lem unset e = refl
 is_unset_lem (is true) e = absurd (omega arith)
 is_unset_lem (is false) e = absurd (omega arith)
 
-is_false : (x : Value) (r : ℕ) → r ≡ value_code x → (r ≡ 1 → ⊥) → (r ≡ 2 → ⊥) → x ≡ is false
-is_false unset r e h k = absurd (k e)
-is_false (is true) r e h k = absurd (h e)
-is_false (is false) r e h k = refl
+is_false_lem : (x : Value) (r : ℕ) → r ≡ value_code x → (r ≡ 1 → ⊥) → (r ≡ 2 → ⊥) → x ≡ is false
+is_false_lem unset r e h k = absurd (k e)
+is_false_lem (is true) r e h k = absurd (h e)
+is_false_lem (is false) r e h k = refl
 
 -- what the literals up to an unset position come to; 0: there was none
 abbrev pub partly : List ℤ → ℕ → Scan
@@ -110,7 +110,7 @@ module _ {ws : List ℤ} {vs : List ℕ} {i₀ i spot : ℕ} (h : Inner ws vs i�
         record {
           passing = passing_next_lem ws i₀ i h.passing literal;
           behind = omega (arith, h.behind);
-          joined = rw (add-one i) (apart (is false) (is_false (literal_value (value_at vs) (literal_of_word (get_or ws i (pos 0)))) x value k l));
+          joined = rw (add-one i) (apart (is false) (is_false_lem (literal_value (value_at vs) (literal_of_word (get_or ws i (pos 0)))) x value k l));
         }
 
     pub inner_unset : x ≡ 2 → spot ≤ 0 → Inner ws vs i₀ (i + 1) (i + 1)

@@ -13,23 +13,17 @@ returns-then-n-gt-MAX_VARIABLE c =
 pub returns-in-At : goal.returns-in-At
 returns-in-At c =
     let the-args = c.args in
-    let the-if1 = c.if-n-gt-MAX_VARIABLE in
-    let the-bad-word = c.bad_word in
-    solve_word the-args.n the-args.words.now the-args.values.now the-args.trail.now the-args.budget the-if1.false (sym c.in-At.is ∙ the-bad-word.ensures)
+    solve_word the-args.n the-args.words.now the-args.values.now the-args.trail.now the-args.budget c.if-n-gt-MAX_VARIABLE.false (sym c.in-At.is ∙ c.bad_word.ensures)
 
 pub returns-then-values-k : goal.returns-then-values-k
 returns-then-values-k c =
     let the-args = c.args in
-    let the-if1 = c.if-n-gt-MAX_VARIABLE in
-    let the-bad-word = c.bad_word in
-    solve_values the-args.n the-args.words.now the-args.values.now the-args.trail.now the-args.budget the-if1.false (sym c.in_default.is ∙ the-bad-word.ensures) c.if-values-k.true
+    solve_values the-args.n the-args.words.now the-args.values.now the-args.trail.now the-args.budget c.if-n-gt-MAX_VARIABLE.false (sym c.in_default.is ∙ c.bad_word.ensures) c.if-values-k.true
 
 pub returns-then-trail-k : goal.returns-then-trail-k
 returns-then-trail-k c =
     let the-args = c.args in
-    let the-if1 = c.if-n-gt-MAX_VARIABLE in
-    let the-bad-word = c.bad_word in
-    solve_trail the-args.n the-args.words.now the-args.values.now the-args.trail.now the-args.budget the-if1.false (sym c.in_default.is ∙ the-bad-word.ensures) c.if-values-k.false c.if-trail-k.true
+    solve_trail the-args.n the-args.words.now the-args.values.now the-args.trail.now the-args.budget c.if-n-gt-MAX_VARIABLE.false (sym c.in_default.is ∙ c.bad_word.ensures) c.if-values-k.false c.if-trail-k.true
 
 pub slice_bounds-search-end-2 : goal.slice_bounds-search-end-2
 slice_bounds-search-end-2 c =
@@ -44,19 +38,9 @@ slice_bounds-search-end-4 c =
 pub search-requires : goal.search-requires
 search-requires c =
     let the-args = c.args in
-    let the-if1 = c.if-n-gt-MAX_VARIABLE in
-    let the-enum-told = c.enum_told-1 in
-    let the-bad-word = c.bad_word in
-    let the-if2 = c.if-values-k in
-    solve_fresh the-args.n the-args.words.now the-args.values.now the-args.trail.now the-args.budget the-if1.false (sym the-enum-told.given.1 ∙ the-bad-word.ensures) the-if2.false c.if-trail-k.false
+    solve_fresh the-args.n the-args.words.now the-args.values.now the-args.trail.now the-args.budget c.if-n-gt-MAX_VARIABLE.false (sym c.in_default.is ∙ c.bad_word.ensures) c.if-values-k.false c.if-trail-k.false
 
 pub returns : goal.returns
 returns c =
     let the-args = c.args in
-    let the-if1 = c.if-n-gt-MAX_VARIABLE in
-    let the-enum-told = c.enum_told-1 in
-    let the-bad-word = c.bad_word in
-    let the-if2 = c.if-values-k in
-    let the-if3 = c.if-trail-k in
-    let the-search = c.search in
-    solve_done the-args.n the-args.words.now the-args.values.now the-args.trail.now the-args.budget the-if1.false (sym the-enum-told.given.1 ∙ the-bad-word.ensures) the-if2.false the-if3.false the-search.ensures
+    solve_done the-args.n the-args.words.now the-args.values.now the-args.trail.now the-args.budget c.if-n-gt-MAX_VARIABLE.false (sym c.in_default.is ∙ c.bad_word.ensures) c.if-values-k.false c.if-trail-k.false c.search.ensures

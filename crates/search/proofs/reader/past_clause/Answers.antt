@@ -16,14 +16,12 @@ ends-requires c = inside_low c.args.words.now c.loop-i.i c.loop-i.invariant.ends
 pub overflow_add-i : goal.overflow_add-i
 overflow_add-i c =
     let the-args = c.args in
-    let the-loop = c.loop-i in
-    let l = inside_low the-args.words.now the-loop.i the-loop.invariant.ends in omega arith
+    let l = inside_low the-args.words.now c.loop-i.i c.loop-i.invariant.ends in omega arith
 
 pub loop-i-smaller : goal.loop-i-smaller
 loop-i-smaller c =
     let the-args = c.args in
-    let the-loop = c.loop-i in
-    let l = inside_low the-args.words.now the-loop.i the-loop.invariant.ends in omega arith
+    let l = inside_low the-args.words.now c.loop-i.i c.loop-i.invariant.ends in omega arith
 
 pub loop-i-preserved : goal.loop-i-preserved
 loop-i-preserved c = passing_next_lem _ _ _ c.loop-i.invariant (sym c.ends.ensures ∙ not-true _ c.loop-i-test.true-raw)
@@ -31,8 +29,7 @@ loop-i-preserved c = passing_next_lem _ _ _ c.loop-i.invariant (sym c.ends.ensur
 pub overflow_add-result : goal.overflow_add-result
 overflow_add-result c =
     let the-args = c.args in
-    let the-loop = c.loop-i in
-    let l = inside_low the-args.words.now the-loop.i the-loop.invariant.ends in omega arith
+    let l = inside_low the-args.words.now c.loop-i.i c.loop-i.invariant.ends in omega arith
 
 pub returns : goal.returns
 returns c = passing_end _ _ _ c.loop-i.invariant (sym c.ends.ensures ∙ not-false _ c.loop-i-test.false-raw)

@@ -11,7 +11,7 @@ deny-requires c =
 
 pub returns-then-deny : goal.returns-then-deny
 returns-then-deny c =
-    follows_both c.requires.0 c.requires.1 c.requires.2 c.fill8.ensures c.deny.new.values c.deny.auto.1.0 c.deny.result c.deny.ensures c.if-deny.true
+    follows_both c.requires.0 c.requires.1 c.requires.2 c.fill8.ensures c.deny.new.values c.deny.auto.values c.deny.result c.deny.ensures c.if-deny.true
 
 pub slice_bounds-reaches-end : goal.slice_bounds-reaches-end
 slice_bounds-reaches-end c =
@@ -19,11 +19,11 @@ slice_bounds-reaches-end c =
 
 pub reaches-requires : goal.reaches-requires
 reaches-requires c =
-    reaches_ready c.requires.0 c.requires.1 c.requires.2 c.fill8.ensures c.deny.new.values c.deny.auto.1.0
+    reaches_ready c.requires.0 c.requires.1 c.requires.2 c.fill8.ensures c.deny.new.values c.deny.auto.values
     c.deny.result c.deny.ensures
 
 pub returns : goal.returns
 returns c =
-    follows_reached c.requires.0 c.requires.1 c.requires.2 c.fill8.ensures c.deny.new.values c.deny.auto.1.0
+    follows_reached c.requires.0 c.requires.1 c.requires.2 c.fill8.ensures c.deny.new.values c.deny.auto.values
     c.deny.result c.deny.ensures c.if-deny.false c.reaches.result
     c.reaches.ensures

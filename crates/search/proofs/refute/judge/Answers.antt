@@ -7,4 +7,4 @@ use Rattle.search.proofs.refute.judge.Goals as goal
 
 pub returns : goal.returns
 returns c =
-    (c.read-found.ensures, c.fill8.ensures ∙ ap (λ (k : ℕ). replicate k 0) c.read-found.auto.1.1.0)
+    (c.read-found.ensures, c.fill8.ensures ∙ ap (λ (k : ℕ). replicate k 0) c.read-found.auto.values)

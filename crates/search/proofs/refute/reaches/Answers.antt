@@ -10,11 +10,10 @@ pub loop-var-init : goal.loop-var-init
 loop-var-init c = (settling_start, starts_first c.requires)
 
 pub scan_round-requires : goal.scan_round-requires
-scan_round-requires c =
-    (
-      subst (λ (k : ℕ). Two k c.args.list.now c.args.earlier.now) (sym c.loop-var.invariant.0.wide) c.requires,
-      c.loop-var.invariant.1,
-    )
+scan_round-requires c = (
+  subst (λ (k : ℕ). Two k c.args.list.now c.args.earlier.now) (sym c.loop-var.invariant.0.wide) c.requires,
+  c.loop-var.invariant.1,
+)
 
 pub shape_of-values-in-Nothing : goal.shape_of-values-in-Nothing
 shape_of-values-in-Nothing c = c.loop-var.invariant.0.wide

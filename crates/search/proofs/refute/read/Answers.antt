@@ -12,15 +12,14 @@ pub loop-at-init : goal.loop-at-init
 loop-at-init c = (refl, judging_start c.requires)
 
 pub follows-requires : goal.follows-requires
-follows-requires c =
-    (
-      subst (λ (k : ℕ). Two k c.args.list.now c.args.refutation.now) (sym c.loop-at.invariant.0) c.requires,
-      c.loop-at.invariant.1.read,
-      c.loop-at-test.true,
-    )
+follows-requires c = (
+  subst (λ (k : ℕ). Two k c.args.list.now c.args.refutation.now) (sym c.loop-at.invariant.0) c.requires,
+  c.loop-at.invariant.1.read,
+  c.loop-at-test.true,
+)
 
 pub shape_of-values-then-not-follows : goal.shape_of-values-then-not-follows
-shape_of-values-then-not-follows c = c.follows.auto.1.1.1.0 ∙ c.loop-at.invariant.0
+shape_of-values-then-not-follows c = c.follows.auto.values ∙ c.loop-at.invariant.0
 
 pub returns-then-not-follows : goal.returns-then-not-follows
 returns-then-not-follows c =
@@ -31,7 +30,7 @@ ends-requires c = c.loop-at-test.true
 
 pub shape_of-values-then-ends : goal.shape_of-values-then-ends
 shape_of-values-then-ends c =
-    c.follows.auto.1.1.1.0 ∙ c.loop-at.invariant.0
+    c.follows.auto.values ∙ c.loop-at.invariant.0
 
 pub returns-then-ends : goal.returns-then-ends
 returns-then-ends c =
@@ -46,11 +45,10 @@ loop-at-smaller c =
     omega (arith, c.after_clause-at.ensures.since, c.after_clause-at.ensures.low, c.loop-at-test.true)
 
 pub loop-at-preserved : goal.loop-at-preserved
-loop-at-preserved c =
-    (
-      c.follows.auto.1.1.1.0 ∙ c.loop-at.invariant.0,
-      judging_next c.loop-at.invariant.1 c.loop-at-test.true c.loop-at.invariant.0 c.follows.ensures c.if-not-follows.false-raw c.ends.ensures c.if-ends.false c.after_clause-at.result c.after_clause-at.ensures,
-    )
+loop-at-preserved c = (
+  c.follows.auto.values ∙ c.loop-at.invariant.0,
+  judging_next c.loop-at.invariant.1 c.loop-at-test.true c.loop-at.invariant.0 c.follows.ensures c.if-not-follows.false-raw c.ends.ensures c.if-ends.false c.after_clause-at.result c.after_clause-at.ensures,
+)
 
 pub shape_of-values : goal.shape_of-values
 shape_of-values c = c.loop-at.invariant.0

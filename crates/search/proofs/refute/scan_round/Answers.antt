@@ -4,6 +4,7 @@ use Rattle.search.specs.Memory.{value_at}
 use Rattle.search.proofs.Scanning.{some_found}
 use Rattle.search.proofs.Rounds.{starts_first, round_zero, round_some}
 use borrow.Author.Rules.{rules}
+use borrow.Enum.Refused.{opened}
 use Rattle.search.proofs.refute.scan_round.Goals as goal
 
 pub returns-then-from-eq0 : goal.returns-then-from-eq0
@@ -21,4 +22,4 @@ returns-in-Nothing c =
 pub returns : goal.returns
 returns c =
     round_some c.requires.0 (value_at c.args.values.now) c.args.from c.scan_two-found.result c.requires.1 (some_found
-    c.scan_two-found.result c.in_default.in_default-own.keys2) c.scan_two-found.ensures
+    c.scan_two-found.result (opened c.in_default.in_default-own.keys2)) c.scan_two-found.ensures

@@ -8,6 +8,7 @@ use Rattle.search.proofs.Reading.{starts_zero}
 use Rattle.search.proofs.Scanning.{some_found}
 use Rattle.search.proofs.Rounds.{two_second, two_first, two_on}
 use borrow.Author.Rules.{rules}
+use borrow.Enum.Refused.{opened}
 use Rattle.search.proofs.refute.scan_two.Goals as goal
 
 pub scan_after-requires : goal.scan_after-requires
@@ -42,4 +43,4 @@ returns-in-Nothing c =
 
 pub returns : goal.returns
 returns c =
-    two_first c.requires.0 (value_at c.args.values.now) c.args.from c.scan_from-found.result (some_found c.scan_from-found.result c.in_default.in_default-own.keys2) c.scan_from-found.ensures
+    two_first c.requires.0 (value_at c.args.values.now) c.args.from c.scan_from-found.result (some_found c.scan_from-found.result (opened c.in_default.in_default-own.keys2)) c.scan_from-found.ensures

@@ -17,49 +17,33 @@ turn-requires c = ready_here c.loop-set.invariant
 
 pub loop-set-smaller-in-Goes : goal.loop-set-smaller-in-Goes
 loop-set-smaller-in-Goes c =
-    let the-loop = c.loop-set in
-    let the-turn = c.turn in
-    (again_goes the-loop.invariant the-turn.result the-turn.new.1.0 the-turn.new.1.1.0 the-turn.ensures c.in-Goes.is).less
+    (again_goes c.loop-set.invariant c.turn.result c.turn.new.values c.turn.new.trail c.turn.ensures c.in-Goes.is).less
 
 pub loop-set-preserved-in-Goes : goal.loop-set-preserved-in-Goes
 loop-set-preserved-in-Goes c =
-    let the-loop = c.loop-set in
-    let the-turn = c.turn in
-    (again_goes the-loop.invariant the-turn.result the-turn.new.1.0 the-turn.new.1.1.0 the-turn.ensures c.in-Goes.is).searching
+    (again_goes c.loop-set.invariant c.turn.result c.turn.new.values c.turn.new.trail c.turn.ensures c.in-Goes.is).searching
 
 pub returns-then-tries-budget : goal.returns-then-tries-budget
 returns-then-tries-budget c =
-    let the-loop = c.loop-set in
-    let the-turn = c.turn in
-    ends_spent the-loop.invariant the-turn.result the-turn.new.1.0 the-turn.new.1.1.0 the-turn.ensures c.in-Tries.is c.if-tries-budget.true
+    ends_spent c.loop-set.invariant c.turn.result c.turn.new.values c.turn.new.trail c.turn.ensures c.in-Tries.is c.if-tries-budget.true
 
 pub latest-low-requires : goal.latest-low-requires
 latest-low-requires c =
-    let the-loop = c.loop-set in
-    let the-turn = c.turn in
-    let l = latest_try the-loop.invariant the-turn.result the-turn.new.1.0 the-turn.new.1.1.0 the-turn.ensures c.in-Tries.is in
+    let l = latest_try c.loop-set.invariant c.turn.result c.turn.new.values c.turn.new.trail c.turn.ensures c.in-Tries.is in
     (l.some, l.room)
 
 pub loop-set-smaller : goal.loop-set-smaller
 loop-set-smaller c =
-    let the-loop = c.loop-set in
-    let the-turn = c.turn in
-    (again_tries the-loop.invariant the-turn.result the-turn.new.1.0 the-turn.new.1.1.0 the-turn.ensures c.in-Tries.is c.latest-low.ensures c.if-tries-budget.false).less
+    (again_tries c.loop-set.invariant c.turn.result c.turn.new.values c.turn.new.trail c.turn.ensures c.in-Tries.is c.latest-low.ensures c.if-tries-budget.false).less
 
 pub loop-set-preserved : goal.loop-set-preserved
 loop-set-preserved c =
-    let the-loop = c.loop-set in
-    let the-turn = c.turn in
-    (again_tries the-loop.invariant the-turn.result the-turn.new.1.0 the-turn.new.1.1.0 the-turn.ensures c.in-Tries.is c.latest-low.ensures c.if-tries-budget.false).searching
+    (again_tries c.loop-set.invariant c.turn.result c.turn.new.values c.turn.new.trail c.turn.ensures c.in-Tries.is c.latest-low.ensures c.if-tries-budget.false).searching
 
 pub returns-in-Sat : goal.returns-in-Sat
 returns-in-Sat c =
-    let the-loop = c.loop-set in
-    let the-turn = c.turn in
-    ends_sat the-loop.invariant the-turn.result the-turn.new.1.0 the-turn.new.1.1.0 the-turn.ensures c.in-Sat.is
+    ends_sat c.loop-set.invariant c.turn.result c.turn.new.values c.turn.new.trail c.turn.ensures c.in-Sat.is
 
 pub returns-in-Unsat : goal.returns-in-Unsat
 returns-in-Unsat c =
-    let the-loop = c.loop-set in
-    let the-turn = c.turn in
-    ends_unsat the-loop.invariant the-turn.result the-turn.new.1.0 the-turn.new.1.1.0 the-turn.ensures c.in-Unsat.is
+    ends_unsat c.loop-set.invariant c.turn.result c.turn.new.values c.turn.new.trail c.turn.ensures c.in-Unsat.is

@@ -8,56 +8,34 @@ use Rattle.search.proofs.run.turn.Goals as goal
 pub returns-then-r-eq0 : goal.returns-then-r-eq0
 returns-then-r-eq0 c =
     let the-pre = c.requires in
-    let the-scan = c.scan in
-    let the-enum-told = c.enum_told-1 in
-    let the-undo = c.undo-r in
-    step_unsat the-pre the-scan.result the-scan.ensures the-enum-told.given.1 the-undo.result the-undo.new.0 the-undo.new.1.0 the-undo.ensures c.if-r-eq0.true
+    step_unsat the-pre c.scan.result c.scan.ensures c.in-Conflict.is c.undo-r.result c.undo-r.new.values c.undo-r.new.trail c.undo-r.ensures c.if-r-eq0.true
 
 pub assign-requires : goal.assign-requires
 assign-requires c =
     let the-pre = c.requires in
-    let the-scan = c.scan in
-    let the-var = c.var-1 in
-    (unit_settable the-pre the-scan.result the-scan.ensures the-var.given.1, omega arith)
+    (unit_settable the-pre c.scan.result c.scan.ensures c.in-Unit.is, omega arith)
 
 pub assign-requires-in-At : goal.assign-requires-in-At
 assign-requires-in-At c =
     let the-pre = c.requires in
-    let the-scan = c.scan in
-    let the-enum-told2 = c.enum_told-in-Nothing-1 in
-    let the-v = c.v-1 in
-    let the-lowest = c.lowest in
-    (branch_settable the-pre the-scan.result the-scan.ensures the-enum-told2.given.1 (sym the-v.given.1 ∙ the-lowest.ensures), omega arith)
+    (branch_settable the-pre c.scan.result c.scan.ensures c.in-Nothing.is (sym c.in-At.is ∙ c.lowest.ensures), omega arith)
 
 pub returns-else-r-eq0 : goal.returns-else-r-eq0
 returns-else-r-eq0 c =
     let the-pre = c.requires in
-    let the-scan = c.scan in
-    let the-enum-told = c.enum_told-1 in
-    let the-undo = c.undo-r in
-    step_undo the-pre the-scan.result the-scan.ensures the-enum-told.given.1 the-undo.result the-undo.new.0 the-undo.new.1.0 the-undo.ensures c.if-r-eq0.false
+    step_undo the-pre c.scan.result c.scan.ensures c.in-Conflict.is c.undo-r.result c.undo-r.new.values c.undo-r.new.trail c.undo-r.ensures c.if-r-eq0.false
 
 pub returns-in-Unit : goal.returns-in-Unit
 returns-in-Unit c =
     let the-pre = c.requires in
-    let the-scan = c.scan in
-    let the-var = c.var-1 in
-    let the-assign = c.assign in
-    step_unit the-pre the-scan.result the-scan.ensures the-var.given.1 the-assign.ensures
+    step_unit the-pre c.scan.result c.scan.ensures c.in-Unit.is c.assign.ensures
 
 pub returns-in-At : goal.returns-in-At
 returns-in-At c =
     let the-pre = c.requires in
-    let the-scan = c.scan in
-    let the-enum-told2 = c.enum_told-in-Nothing-1 in
-    let the-v = c.v-1 in
-    let the-lowest = c.lowest in
-    let the-assign2 = c.assign-in-At in
-    step_branch the-pre the-scan.result the-scan.ensures the-enum-told2.given.1 (sym the-v.given.1 ∙ the-lowest.ensures) the-assign2.ensures
+    step_branch the-pre c.scan.result c.scan.ensures c.in-Nothing.is (sym c.in-At.is ∙ c.lowest.ensures) c.assign-in-At.ensures
 
 pub returns-in-Nowhere : goal.returns-in-Nowhere
 returns-in-Nowhere c =
     let the-pre = c.requires in
-    let the-scan = c.scan in
-    let the-enum-told2 = c.enum_told-in-Nothing-1 in
-    step_sat the-pre the-scan.result the-scan.ensures the-enum-told2.given.1 (sym c.in-Nowhere.is ∙ c.lowest.ensures)
+    step_sat the-pre c.scan.result c.scan.ensures c.in-Nothing.is (sym c.in-Nowhere.is ∙ c.lowest.ensures)

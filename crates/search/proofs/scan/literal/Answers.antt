@@ -14,11 +14,10 @@ overflow_sub-x c =
 pub bounds-values-v : goal.bounds-values-v
 bounds-values-v c =
     let the-args = c.args in
-    let the-variable = c.variable-v in
     let the-pre = c.requires in
-    let l = literal_low (get_or the-args.words.now the-args.at (pos 0)) the-variable.result the-pre.goes the-variable.ensures in
+    let l = literal_low (get_or the-args.words.now the-args.at (pos 0)) c.variable-v.result the-pre.goes c.variable-v.ensures in
     let h = the-pre.high in
-    let e = the-variable.ensures in
+    let e = c.variable-v.ensures in
     omega arith
 
 pub returns-then-x-gt1 : goal.returns-then-x-gt1
@@ -29,11 +28,9 @@ returns-then-x-gt1 c =
 pub returns-then-sign-x : goal.returns-then-sign-x
 returns-then-sign-x c =
     let the-args = c.args in
-    let the-variable = c.variable-v in
-    literal_true_lem the-args.values.now (get_or the-args.words.now the-args.at (pos 0)) _ _ the-variable.ensures c.sign.ensures c.if-sign-x.true
+    literal_true_lem the-args.values.now (get_or the-args.words.now the-args.at (pos 0)) _ _ c.variable-v.ensures c.sign.ensures c.if-sign-x.true
 
 pub returns-else-sign-x : goal.returns-else-sign-x
 returns-else-sign-x c =
     let the-args = c.args in
-    let the-variable = c.variable-v in
-    literal_false the-args.values.now (get_or the-args.words.now the-args.at (pos 0)) _ _ the-variable.ensures c.sign.ensures c.if-x-gt1.false c.if-sign-x.false
+    literal_false the-args.values.now (get_or the-args.words.now the-args.at (pos 0)) _ _ c.variable-v.ensures c.sign.ensures c.if-x-gt1.false c.if-sign-x.false

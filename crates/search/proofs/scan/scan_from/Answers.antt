@@ -1,11 +1,11 @@
 -- `search::scan::scan_from` meets its contract.
 use mathlib.Core.Path.{sym, subst}
-use mathlib.Core.Logic.{⊎_elim}
 use Prim.Native.Nat.{◌+◌, ◌-◌}
 use native.Mathlib.Omega.{arith}
 use lib.ListN.{length}
 use Rattle.search.proofs.Scanning.{Inner, inner_low, inner_false, inner_unset, inner_true, inner_second, inner_named, Outer, outer_start, outer_end, outer_clause, outer_next, outer_conflict, outer_unit}
 use Rattle.search.proofs.scan.scan_from.Goals as goal
+use Rattle.search.proofs.scan.scan_from.Goals.{then-x-eq2+else-spot-gt0, else-x-eq2}
 
 pub clauses-init : goal.clauses-init
 clauses-init c = outer_start c.requires.1
@@ -24,101 +24,67 @@ literal-x-requires c =
 
 pub after_clause-i-requires : goal.after_clause-i-requires
 after_clause-i-requires c =
-    let the-loop = c.loop-found in
-    the-loop.invariant.passing.ends
+    c.loop-found.invariant.passing.ends
 
 pub clauses-smaller-then-x-eq1 : goal.clauses-smaller-then-x-eq1
 clauses-smaller-then-x-eq1 c =
-    let the-loop = c.loop-found in
-    omega (arith, c.after_clause-i.ensures.since, c.after_clause-i.ensures.low, the-loop.invariant.passing.since)
+    omega (arith, c.after_clause-i.ensures.since, c.after_clause-i.ensures.low, c.loop-found.invariant.passing.since)
 
 pub clauses-preserved-then-x-eq1 : goal.clauses-preserved-then-x-eq1
 clauses-preserved-then-x-eq1 c =
-    let the-clauses = c.clauses in
-    let the-clauses-test = c.clauses-test in
-    let the-loop = c.loop-found in
-    let the-ends = c.ends in
-    let the-if1 = c.loop-found-test in
-    outer_next the-clauses.invariant the-clauses-test.true (inner_true the-loop.invariant the-ends.ensures the-if1.true c.literal-x.ensures c.if-x-eq1.true) the-loop.invariant c.after_clause-i.ensures
+    outer_next c.clauses.invariant c.clauses-test.true (inner_true c.loop-found.invariant c.ends.ensures c.loop-found-test.true-raw c.literal-x.ensures c.if-x-eq1.true) c.loop-found.invariant c.after_clause-i.ensures
 
 pub after_clause-i-requires-then-spot-gt0 : goal.after_clause-i-requires-then-spot-gt0
 after_clause-i-requires-then-spot-gt0 c =
-    let the-loop = c.loop-found in
-    the-loop.invariant.passing.ends
+    c.loop-found.invariant.passing.ends
 
 pub clauses-smaller : goal.clauses-smaller
 clauses-smaller c =
-    let the-loop = c.loop-found in
-    omega (arith, c.after_clause-i-then-spot-gt0.ensures.since, c.after_clause-i-then-spot-gt0.ensures.low, the-loop.invariant.passing.since)
+    omega (arith, c.after_clause-i-then-spot-gt0.ensures.since, c.after_clause-i-then-spot-gt0.ensures.low, c.loop-found.invariant.passing.since)
 
 pub clauses-preserved : goal.clauses-preserved
 clauses-preserved c =
-    let the-clauses = c.clauses in
-    let the-clauses-test = c.clauses-test in
-    let the-loop = c.loop-found in
-    let the-ends = c.ends in
-    let the-if1 = c.loop-found-test in
-    let the-literal = c.literal-x in
-    outer_next the-clauses.invariant the-clauses-test.true (inner_second the-loop.invariant the-ends.ensures the-if1.true the-literal.ensures c.if-x-eq2.true c.if-spot-gt0.true) the-loop.invariant c.after_clause-i-then-spot-gt0.ensures
+    outer_next c.clauses.invariant c.clauses-test.true (inner_second c.loop-found.invariant c.ends.ensures c.loop-found-test.true-raw c.literal-x.ensures c.if-x-eq2.true c.if-spot-gt0.true) c.loop-found.invariant c.after_clause-i-then-spot-gt0.ensures
 
 pub overflow_add-spot : goal.overflow_add-spot
 overflow_add-spot c =
-    let the-loop = c.loop-found in
-    let l = inner_low the-loop.invariant in omega arith
+    let l = inner_low c.loop-found.invariant in omega arith
 
 pub overflow_add-i : goal.overflow_add-i
 overflow_add-i c =
-    let the-loop = c.loop-found in
-    let l = inner_low the-loop.invariant in omega arith
+    let l = inner_low c.loop-found.invariant in omega arith
 
 pub loop-found-smaller : goal.loop-found-smaller
 loop-found-smaller c =
-    let the-loop = c.loop-found in
-    let l = inner_low the-loop.invariant in omega arith
+    let l = inner_low c.loop-found.invariant in omega arith
 
 pub loop-found-preserved : goal.loop-found-preserved
 loop-found-preserved c =
     let the-args = c.args in
-    let the-clauses = c.clauses in
-    let the-loop = c.loop-found in
-    let the-ends = c.ends in
-    let the-if1 = c.loop-found-test in
-    let the-literal = c.literal-x in
-    ⊎_elim
-    (λ s. subst (Inner the-args.words.now the-args.values.now the-clauses.i (the-loop.i + 1)) (sym s.2) (inner_unset the-loop.invariant the-ends.ensures the-if1.true the-literal.ensures s.0.taken s.1.left))
-    (λ s. subst (Inner the-args.words.now the-args.values.now the-clauses.i (the-loop.i + 1)) (sym s.1) (inner_false the-loop.invariant the-ends.ensures the-if1.true the-literal.ensures c.if-x-eq1.false s.0.left))
-    c.if-x-eq2.branch
+    elim c.if-x-eq2.branch [
+      | then-x-eq2+else-spot-gt0 w ↦ subst (Inner the-args.words.now the-args.values.now c.clauses.i (c.loop-found.i + 1)) (sym w.spot-is) (inner_unset c.loop-found.invariant c.ends.ensures c.loop-found-test.true-raw c.literal-x.ensures w.if-x-eq2.true w.if-spot-gt0.false)
+      | else-x-eq2 w ↦ subst (Inner the-args.words.now the-args.values.now c.clauses.i (c.loop-found.i + 1)) (sym w.spot-is) (inner_false c.loop-found.invariant c.ends.ensures c.loop-found-test.true-raw c.literal-x.ensures c.if-x-eq1.false w.if-x-eq2.false)
+    ]
 
 pub variable-requires : goal.variable-requires
 variable-requires c =
-    let the-loop = c.loop-found in
-    let l = inner_low the-loop.invariant in let b = the-loop.invariant.behind in omega arith
+    let l = inner_low c.loop-found.invariant in let b = c.loop-found.invariant.behind in omega arith
 
 pub sign-requires : goal.sign-requires
 sign-requires c =
-    let the-loop = c.loop-found in
-    let l = inner_low the-loop.invariant in let b = the-loop.invariant.behind in omega arith
+    let l = inner_low c.loop-found.invariant in let b = c.loop-found.invariant.behind in omega arith
 
 pub overflow_add-found : goal.overflow_add-found
 overflow_add-found c =
-    let the-loop = c.loop-found in
-    let l = inner_low the-loop.invariant in omega arith
+    let l = inner_low c.loop-found.invariant in omega arith
 
 pub returns-after-clauses : goal.returns-after-clauses
 returns-after-clauses c = outer_end c.clauses.invariant c.clauses-test.false
 
 pub returns-then-spot-eq0 : goal.returns-then-spot-eq0
 returns-then-spot-eq0 c =
-    let the-clauses = c.clauses in
-    let the-clauses-test = c.clauses-test in
-    let the-loop = c.loop-found in
-    outer_conflict the-clauses.invariant the-clauses-test.true the-loop.invariant c.ends.ensures c.loop-found-test.false-raw c.if-spot-eq0.true
+    outer_conflict c.clauses.invariant c.clauses-test.true c.loop-found.invariant c.ends.ensures c.loop-found-test.false-raw c.if-spot-eq0.true
 
 pub returns-else-spot-eq0 : goal.returns-else-spot-eq0
 returns-else-spot-eq0 c =
-    let the-clauses = c.clauses in
-    let the-clauses-test = c.clauses-test in
-    let the-loop = c.loop-found in
-    let the-ends = c.ends in
-    let the-if1 = c.loop-found-test in
-    outer_unit the-clauses.invariant the-clauses-test.true the-loop.invariant the-ends.ensures the-if1.false c.if-spot-eq0.false c.variable.ensures c.sign.ensures
+    outer_unit c.clauses.invariant c.clauses-test.true c.loop-found.invariant c.ends.ensures c.loop-found-test.false-raw c.if-spot-eq0.false c.variable.ensures c.sign.ensures

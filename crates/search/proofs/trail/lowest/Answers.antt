@@ -10,13 +10,11 @@ loop-i-init c = seeks_start _ _ c.requires
 
 pub returns-then-values-i-gt1 : goal.returns-then-values-i-gt1
 returns-then-values-i-gt1 c =
-    let the-loop = c.loop-i in
-    seeks_here _ _ the-loop.invariant c.loop-i-test.true c.if-values-i-gt1.true
+    seeks_here _ _ c.loop-i.invariant c.loop-i-test.true c.if-values-i-gt1.true
 
 pub loop-i-preserved : goal.loop-i-preserved
 loop-i-preserved c =
-    let the-loop = c.loop-i in
-    seeks_next _ _ the-loop.invariant c.loop-i-test.true c.if-values-i-gt1.false
+    seeks_next _ _ c.loop-i.invariant c.loop-i-test.true c.if-values-i-gt1.false
 
 pub returns : goal.returns
 returns c = seeks_none _ _ c.loop-i.invariant c.loop-i-test.false

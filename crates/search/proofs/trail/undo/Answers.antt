@@ -14,13 +14,11 @@ overflow_cast-v c = omega (arith, c.slice_known-1.given (c.loop-k.k - 1))
 
 pub overflow_sub-values : goal.overflow_sub-values
 overflow_sub-values c =
-    let the-loop = c.loop-k in
-    let m = named _ _ _ _ c.loop-k-test.true the-loop.invariant.shaped in omega arith
+    let m = named _ _ _ _ c.loop-k-test.true c.loop-k.invariant.shaped in omega arith
 
 pub bounds-values-v : goal.bounds-values-v
 bounds-values-v c =
-    let the-loop = c.loop-k in
-    let m = named _ _ _ _ c.loop-k-test.true the-loop.invariant.shaped in omega arith
+    let m = named _ _ _ _ c.loop-k-test.true c.loop-k.invariant.shaped in omega arith
 
 pub shape_of-values-then-e-eq1 : goal.shape_of-values-then-e-eq1
 shape_of-values-then-e-eq1 c = simp length-set (omega arith)
@@ -30,23 +28,19 @@ shape_of-trail-then-e-eq1 c = simp length-set (omega arith)
 
 pub returns-then-e-eq1 : goal.returns-then-e-eq1
 returns-then-e-eq1 c =
-    let the-loop = c.loop-k in
-    undo_flip' _ _ _ _ _ c.loop-k-test.true the-loop.invariant c.if-e-eq1.true
+    undo_flip' _ _ _ _ _ c.loop-k-test.true c.loop-k.invariant c.if-e-eq1.true
 
 pub overflow_sub-values-in-loop-k : goal.overflow_sub-values-in-loop-k
 overflow_sub-values-in-loop-k c =
-    let the-loop = c.loop-k in
-    let m = named _ _ _ _ c.loop-k-test.true the-loop.invariant.shaped in omega arith
+    let m = named _ _ _ _ c.loop-k-test.true c.loop-k.invariant.shaped in omega arith
 
 pub bounds-values-v-in-loop-k : goal.bounds-values-v-in-loop-k
 bounds-values-v-in-loop-k c =
-    let the-loop = c.loop-k in
-    let m = named _ _ _ _ c.loop-k-test.true the-loop.invariant.shaped in omega arith
+    let m = named _ _ _ _ c.loop-k-test.true c.loop-k.invariant.shaped in omega arith
 
 pub loop-k-preserved : goal.loop-k-preserved
 loop-k-preserved c =
-    let the-loop = c.loop-k in
-    undo_pop' _ _ _ _ _ c.loop-k-test.true the-loop.invariant c.if-e-eq1.false
+    undo_pop' _ _ _ _ _ c.loop-k-test.true c.loop-k.invariant c.if-e-eq1.false
 
 pub returns : goal.returns
 returns c = undo_none _ _ _ _ _ c.loop-k.invariant c.loop-k-test.false

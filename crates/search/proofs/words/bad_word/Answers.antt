@@ -18,30 +18,24 @@ variable-requires c = c.loop-i-test.true
 
 pub returns-then-variable-n : goal.returns-then-variable-n
 returns-then-variable-n c =
-    let the-loop = c.loop-i in
-    reads_bad _ _ _ _ the-loop.invariant c.loop-i-test.true (omega arith)
+    reads_bad _ _ _ _ c.loop-i.invariant c.loop-i-test.true (omega arith)
 
 pub ends-begun-requires : goal.ends-begun-requires
 ends-begun-requires c = c.loop-i-test.true
 
 pub loop-i-preserved : goal.loop-i-preserved
 loop-i-preserved c =
-    let the-loop = c.loop-i in
     let the-args = c.args in
-    let the-loop-test = c.loop-i-test in
-    let d = the-loop in
-    subst (λ b. Reads the-args.n the-args.words.now (d.i + 1) (not b)) (sym c.ends-begun.ensures) (reads_next _ _ _ _ d.invariant the-loop-test.true (omega arith))
+    subst (λ b. Reads the-args.n the-args.words.now (c.loop-i.i + 1) (not b)) (sym c.ends-begun.ensures) (reads_next _ _ _ _ c.loop-i.invariant c.loop-i-test.true (omega arith))
 
 pub returns-then-begun : goal.returns-then-begun
 returns-then-begun c =
-    let the-loop = c.loop-i in
     let the-args = c.args in
-    subst (λ b. declared_spot (cond b (at the-loop.i) none) ≡ declared_spot (bad_word the-args.n 0 false the-args.words.now)) c.if-begun.true
-    (reads_all _ _ _ _ the-loop.invariant c.loop-i-test.false)
+    subst (λ b. declared_spot (cond b (at c.loop-i.i) none) ≡ declared_spot (bad_word the-args.n 0 false the-args.words.now)) c.if-begun.true
+    (reads_all _ _ _ _ c.loop-i.invariant c.loop-i-test.false)
 
 pub returns-else-begun : goal.returns-else-begun
 returns-else-begun c =
-    let the-loop = c.loop-i in
     let the-args = c.args in
-    subst (λ b. declared_spot (cond b (at the-loop.i) none) ≡ declared_spot (bad_word the-args.n 0 false the-args.words.now)) c.if-begun.false
-    (reads_all _ _ _ _ the-loop.invariant c.loop-i-test.false)
+    subst (λ b. declared_spot (cond b (at c.loop-i.i) none) ≡ declared_spot (bad_word the-args.n 0 false the-args.words.now)) c.if-begun.false
+    (reads_all _ _ _ _ c.loop-i.invariant c.loop-i-test.false)

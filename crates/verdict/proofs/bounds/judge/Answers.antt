@@ -26,11 +26,11 @@ write_formula-f-requires c =
 
 pub slice_bounds-search-end : goal.slice_bounds-search-end
 slice_bounds-search-end c =
-    words_in_lem c.loop-values.invariant (c.write_formula-f.ensures c.loop-values.invariant.ready.design c.loop-values.invariant.ready.accepted) c.write_formula-f.auto.1.1.1.1.0
+    words_in_lem c.loop-values.invariant (c.write_formula-f.ensures c.loop-values.invariant.ready.design c.loop-values.invariant.ready.accepted) c.write_formula-f.auto.clauses
 
 pub slice_bounds-search-end-in-loop-values : goal.slice_bounds-search-end-in-loop-values
 slice_bounds-search-end-in-loop-values c =
-    sym (length-take-le _ _ (words_in_lem c.loop-values.invariant (c.write_formula-f.ensures c.loop-values.invariant.ready.design c.loop-values.invariant.ready.accepted) c.write_formula-f.auto.1.1.1.1.0))
+    sym (length-take-le _ _ (words_in_lem c.loop-values.invariant (c.write_formula-f.ensures c.loop-values.invariant.ready.design c.loop-values.invariant.ready.accepted) c.write_formula-f.auto.clauses))
 
 pub slice_bounds-search-end-in-loop-values-2 : goal.slice_bounds-search-end-in-loop-values-2
 slice_bounds-search-end-in-loop-values-2 c =
@@ -78,7 +78,7 @@ shape_of-trail-in-Sat c =
 
 pub shape_of-choices-in-Sat : goal.shape_of-choices-in-Sat
 shape_of-choices-in-Sat c =
-    c.decode.auto.1.1.1.1.1.0 ∙ ap length c.loop-values.invariant.choices_kept
+    c.decode.auto.choices ∙ ap length c.loop-values.invariant.choices_kept
 
 pub returns-in-Sat : goal.returns-in-Sat
 returns-in-Sat c =

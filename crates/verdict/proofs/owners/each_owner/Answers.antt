@@ -22,9 +22,9 @@ bounds-answers-i c =
 pub loop-i-preserved : goal.loop-i-preserved
 loop-i-preserved c =
     so_far_next _ _ _ _ _ _ _ _ c.loop-i.invariant c.loop-i-test.true _ refl c.one_owner-r.ensures _ refl refl _ c.owner_words.ensures (record {
-      clauses = c.one_owner-r.auto.1.1.1.1.0;
-      values = c.one_owner-r.auto.1.1.1.1.1.0;
-      trail = c.one_owner-r.auto.1.1.1.1.1.1.0;
+      clauses = c.one_owner-r.auto.clauses;
+      values = c.one_owner-r.auto.values;
+      trail = c.one_owner-r.auto.trail;
     })
 
 pub shape_of-clauses : goal.shape_of-clauses
