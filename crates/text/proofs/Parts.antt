@@ -185,17 +185,17 @@ module _ (file : List ℕ) (p k : ℕ) where
     fit : (i : ℕ) → i < k + 3 → fits d i ≡ true
     fit i l = none_refused (part_words d i) (fits d i) (ap is_refused (sym (part_in i l)) ∙ h i l)
 
-    none_over : (m j : ℕ) → j + m ≤ k + 3 → none_over d (property_of file no_piece d p) k m j ≡ true
+    none_over_lem : (m j : ℕ) → j + m ≤ k + 3 → none_over d (property_of file no_piece d p) k m j ≡ true
     unfolding none_over
-    none_over zero j l = refl
-    none_over (suc m) j l = ap₂ (λ (a b : Bool). a && b) (fit j (omega arith)) (none_over m (suc j) (omega arith))
+    none_over_lem zero j l = refl
+    none_over_lem (suc m) j l = ap₂ (λ (a b : Bool). a && b) (fit j (omega arith)) (none_over_lem m (suc j) (omega arith))
 
     part_is : (i : ℕ) → i < k + 3 → words_to_write file no_piece p k i max_words ≡ answer (part_words d i)
     part_is i l = part_in i l ∙ rw (fit i l)
 
     all_is : words_to_print file p k ≡ answer (words (formula d (property_of file no_piece d p) k))
     unfolding words_to_print
-    all_is = admit_in file no_piece p k _ d e low (no_piece_right file p) few numbers ∙ rw (none_over (k + 3) 0 (omega arith))
+    all_is = admit_in file no_piece p k _ d e low (no_piece_right file p) few numbers ∙ rw (none_over_lem (k + 3) 0 (omega arith))
 
     parts_joined : (m i : ℕ) → i + m ≤ k + 3 → words_text (words (parts_from d (property_of file no_piece d p) k m i)) ≡ joined (part_text file p k) m i
     unfolding words_text parts_from joined part_text

@@ -6,6 +6,7 @@ use native.Mathlib.Omega.{arith}
 use native.Mathlib.Numerals.{add-one}
 use native.Mathlib.Decide.{dec_le}
 use denote.Ref.{Bor}
+use denote.MutBor.{MutBor}
 use lib.IntN.{pos}
 use lib.ListN.{length, get_or, take, drop, set, replicate, length-map, length-set, length-replicate, replicate-append-replicate, get_or-map}
 use lib.Seq.{drop-append-add, drop-drop, drop-cons, drop_at, take-suc, set_at, get_or_at, map-set_same, length-take-le}
@@ -99,7 +100,7 @@ owner_at (p ∷ pieces) (x ∷ budgets) (y ∷ choices) zero a b c = (omega arit
 owner_at (p ∷ pieces) (x ∷ budgets) (y ∷ choices) (suc i) a b c = let r = owner_at pieces budgets choices i (omega arith) (omega arith) (omega arith) in (omega (arith, r.0), r.1)
 
 module _
-    (file : List ℕ) (k count : ℕ) (pieces : List (Bor (List ℕ))) (budgets : List ℕ) (lent : Buffers) (choices₀ : List (Bor (List ℕ))) (answers₀ : List (List ℕ))
+    (file : List ℕ) (k count : ℕ) (pieces : List (Bor (List ℕ))) (budgets : List ℕ) (lent : Buffers) (choices₀ : List (MutBor (List ℕ))) (answers₀ : List (List ℕ))
   where
     abbrev lists : List (List ℕ)
     lists = map (λ x. x.now) choices₀
@@ -108,7 +109,7 @@ module _
     os = owners_of (map (λ x. x.now) pieces) budgets lists
 
     -- i owners were asked
-    pub record SoFar (i : ℕ) (buffers : Buffers) (choices : List (Bor (List ℕ))) (answers : List (List ℕ)) : Type 0 where
+    pub record SoFar (i : ℕ) (buffers : Buffers) (choices : List (MutBor (List ℕ))) (answers : List (List ℕ)) : Type 0 where
       pub low : i ≤ count
       pub counted : Counted count pieces budgets choices₀ answers₀
       pub lengths : SameLengths buffers lent
@@ -122,10 +123,10 @@ module _
     unfolding each_owner
     so_far_start c = record { low = omega arith; counted = c; lengths = record { clauses = refl; values = refl; trail = refl }; choices_long = refl; answers_long = refl; done = λ d e. refl }
 
-    module _ {i : ℕ} {buffers : Buffers} {choices : List (Bor (List ℕ))} {answers : List (List ℕ)} (t : SoFar i buffers choices answers) (more : i < count) (z : Bor (List ℕ)) (empty : z.now ≡ []) where
+    module _ {i : ℕ} {buffers : Buffers} {choices : List (MutBor (List ℕ))} {answers : List (List ℕ)} (t : SoFar i buffers choices answers) (more : i < count) (z : Bor (List ℕ)) (empty : z.now ≡ []) (y : MutBor (List ℕ)) (vacant : y.now ≡ []) where
       -- the next owner, as the code has it
       abbrev here : Owner
-      here = record { piece = (get_or pieces i z).now; budget = get_or budgets i 0; choices = (get_or choices i z).now }
+      here = record { piece = (get_or pieces i z).now; budget = get_or budgets i 0; choices = (get_or choices i y).now }
 
       in_pieces : i < length (map (λ x. x.now) pieces)
       in_pieces = omega (arith, more, t.counted.has_pieces, length-map pieces (λ x. x.now))
@@ -160,10 +161,13 @@ module _
         read : (l : List (Bor (List ℕ))) → (get_or l i z).now ≡ get_or (map (λ x. x.now) l) i []
         read l = sym (get_or-map (λ x. x.now) l i z) ∙ ap (get_or (map (λ x. x.now) l) i) empty
 
+        lent_now : (l : List (MutBor (List ℕ))) → (get_or l i y).now ≡ get_or (map (λ x. x.now) l) i []
+        lent_now l = sym (get_or-map (λ x. x.now) l i y) ∙ ap (get_or (map (λ x. x.now) l) i) vacant
+
         is_here : here ≡ get_or os i nobody
         is_here =
             let p = read pieces in
-            let c = read choices ∙ kept_choices in
+            let c = lent_now choices ∙ kept_choices in
             (λ j. record { piece = p j; budget = get_or budgets i 0; choices = c j }) ∙ sym at_i.1
 
         -- VERDICT says of it what it says with the buffers as they were lent
@@ -191,28 +195,28 @@ module _
               ∙ buffers_twice (used_by_any file d k lent (take i os)) (used_for file d k (get_or os i nobody) (told (get_or os i nobody))) lent
               ∙ ap (λ (u : Used). buffers_left u lent) (used_more file d k lent (take i os) (get_or os i nobody) ∙ ap (used_by_any file d k lent) (sym one_more))
 
-          choices_next : (x : Bor (List ℕ)) → x.now ≡ m.choices → map (λ x. x.now) (set choices i x) ≡ map chosen (take (suc i) os) ++ drop (length (take (suc i) os)) lists
+          choices_next : (x : MutBor (List ℕ)) → x.now ≡ m.choices → map (λ x. x.now) (set choices i x) ≡ map chosen (take (suc i) os) ++ drop (length (take (suc i) os)) lists
           unfolding each_owner
           choices_next x left =
-              let same : x.now ≡ chosen (get_or os i nobody) = left ∙ ap (λ (y : Exit). y.memory.choices) came ∙ alike.choices ∙ ap chosen is_here in
+              let same : x.now ≡ chosen (get_or os i nobody) = left ∙ ap (λ (e : Exit). e.memory.choices) came ∙ alike.choices ∙ ap chosen is_here in
               map_set (λ x. x.now) choices i x
-              ∙ ap (λ (y : OwnersExit). set y.choices i x.now) (t.done d e)
+              ∙ ap (λ (e : OwnersExit). set e.choices i x.now) (t.done d e)
               ∙ ap (λ (j : ℕ). set (map chosen (take i os) ++ drop j lists) i x.now) so_many
               ∙ more_written chosen (take i os) (get_or os i nobody) i lists x.now [] so_many in_lists same
               ∙ ap (λ (l : List Owner). map chosen l ++ drop (suc i) lists) (sym one_more)
               ∙ ap (λ (j : ℕ). map chosen (take (suc i) os) ++ drop j lists) (sym so_many_more)
 
-          pointers_next : (x : Bor (List ℕ)) → x.ref_ptr ≡ (get_or choices i z).ref_ptr → map (λ x. x.ref_ptr) (set choices i x) ≡ map (λ x. x.ref_ptr) choices₀
+          pointers_next : (x : MutBor (List ℕ)) → x.ref_ptr ≡ (get_or choices i y).ref_ptr → map (λ x. x.ref_ptr) (set choices i x) ≡ map (λ x. x.ref_ptr) choices₀
           unfolding each_owner
-          pointers_next x at = map-set_same (λ x. x.ref_ptr) choices i x z at ∙ ap (λ (y : OwnersExit). y.pointers) (t.done d e)
+          pointers_next x at = map-set_same (λ x. x.ref_ptr) choices i x y at ∙ ap (λ (e : OwnersExit). e.pointers) (t.done d e)
 
           answers_next : (w : List ℕ) → w ≡ owner_words r → set answers i w ≡ map spoken (map told (take (suc i) os)) ++ drop (length (map told (take (suc i) os))) answers₀
           unfolding each_owner
           answers_next w says =
-              let same : w ≡ spoken (told (get_or os i nobody)) = says ∙ ap (λ (y : Exit). owner_words y.reply) came ∙ ap spoken (alike.answer ∙ ap told is_here) in
+              let same : w ≡ spoken (told (get_or os i nobody)) = says ∙ ap (λ (e : Exit). owner_words e.reply) came ∙ ap spoken (alike.answer ∙ ap told is_here) in
               let n₀ : length (map told (take i os)) ≡ i = length-map (take i os) told ∙ so_many in
               let n₁ : length (map told (take (suc i) os)) ≡ suc i = length-map (take (suc i) os) told ∙ so_many_more in
-              ap (λ (y : OwnersExit). set y.answers i w) (t.done d e)
+              ap (λ (e : OwnersExit). set e.answers i w) (t.done d e)
               ∙ ap (λ (j : ℕ). set (map spoken (map told (take i os)) ++ drop j answers₀) i w) n₀
               ∙ more_written spoken (map told (take i os)) (told (get_or os i nobody)) i answers₀ w [] n₀ (omega (arith, more, t.counted.has_answers)) same
               ∙ ap (λ (l : List (Answer Told)). map spoken l ++ drop (suc i) answers₀) (sym (map_snoc told (take i os) (get_or os i nobody)) ∙ ap (map told) (sym one_more))
@@ -220,7 +224,7 @@ module _
 
       -- one owner more was asked
       pub so_far_next : {r : Reply} {m : Memory} → ((d : Design) → check file ≡ Checked.accepted d → record { reply = r; memory = m } ≡ exit (one_owner file d k buffers here))
-          → (x : Bor (List ℕ)) → x.ref_ptr ≡ (get_or choices i z).ref_ptr → x.now ≡ m.choices → (w : List ℕ) → w ≡ owner_words r
+          → (x : MutBor (List ℕ)) → x.ref_ptr ≡ (get_or choices i y).ref_ptr → x.now ≡ m.choices → (w : List ℕ) → w ≡ owner_words r
           → SameLengths (record { clauses = m.clauses; values = m.values; trail = m.trail }) buffers
           → SoFar (i + 1) (record { clauses = m.clauses; values = m.values; trail = m.trail }) (set choices i x) (set answers i w)
       unfolding each_owner
@@ -238,7 +242,7 @@ module _
             λ j. record { refusal = record { number = 0; place = 0 }; buffers = bs j; choices = cs j; pointers = ps j; answers = ws j };
       })
 
-    pub so_far_end : {i : ℕ} {buffers : Buffers} {choices : List (Bor (List ℕ))} {answers : List (List ℕ)} → SoFar i buffers choices answers → count ≤ i → (d : Design) → check file ≡ Checked.accepted d
+    pub so_far_end : {i : ℕ} {buffers : Buffers} {choices : List (MutBor (List ℕ))} {answers : List (List ℕ)} → SoFar i buffers choices answers → count ≤ i → (d : Design) → check file ≡ Checked.accepted d
         → record { refusal = record { number = 0; place = 0 }; buffers = buffers; choices = map (λ x. x.now) choices; pointers = map (λ x. x.ref_ptr) choices; answers = answers }
         ≡ owners_exit (each_owner file k lent d (take count os) lists) (map (λ x. x.ref_ptr) choices₀) answers₀
     so_far_end {i} t l d e =

@@ -28,20 +28,18 @@ put_decimal-p-requires c =
     )
 
 pub loop-i-preserved : goal.loop-i-preserved
-loop-i-preserved c =
-    (
-      statuses_next c.args.n c.args.k c.args.slots.now c.requires.0 _ c.loop-i-test.true
-          c.loop-i.invariant.0 c.put_byte-m.ensures c.put_decimal-p.ensures.0,
-      omega arith,
-    )
+loop-i-preserved c = (
+  statuses_next c.args.n c.args.k c.args.slots.now c.requires.0 _ c.loop-i-test.true
+      c.loop-i.invariant.0 c.put_byte-m.ensures c.put_decimal-p.ensures.0,
+  omega arith,
+)
 
 pub shape_of-out : goal.shape_of-out
 shape_of-out c = c.loop-i.invariant.0.rest.size
 
 pub returns : goal.returns
-returns c =
-    (
-      statuses_end c.args.n c.args.k c.args.slots.now c.requires.0 c.loop-i.i (omega arith)
-          c.loop-i.invariant.0,
-      omega (arith, c.loop-i.invariant.0.near),
-    )
+returns c = (
+  statuses_end c.args.n c.args.k c.args.slots.now c.requires.0 c.loop-i.i (omega arith)
+      c.loop-i.invariant.0,
+  omega (arith, c.loop-i.invariant.0.near),
+)

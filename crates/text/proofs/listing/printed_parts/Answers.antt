@@ -19,11 +19,10 @@ returns-then-refuses c =
     (sym c.if-refuses.true ∙ c.refuses.ensures)
 
 pub loop-i-preserved : goal.loop-i-preserved
-loop-i-preserved c =
-    (
-      fine_on _ _ _ _ _ c.loop-i.invariant.0 c.loop-i-test.true (omega (arith, c.loop-i.invariant.1)) (sym c.if-refuses.false ∙ c.refuses.ensures),
-      omega (arith, c.loop-i.invariant.1),
-    )
+loop-i-preserved c = (
+  fine_on _ _ _ _ _ c.loop-i.invariant.0 c.loop-i-test.true (omega (arith, c.loop-i.invariant.1)) (sym c.if-refuses.false ∙ c.refuses.ensures),
+  omega (arith, c.loop-i.invariant.1),
+)
 
 pub shape_of-words : goal.shape_of-words
 shape_of-words c = c.loop-i.invariant.1

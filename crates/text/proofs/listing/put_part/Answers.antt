@@ -18,11 +18,10 @@ put_words-requires c =
     in omega (arith, t.room, t.size)
 
 pub returns-in-Refused : goal.returns-in-Refused
-returns-in-Refused c =
-    (
-      part_refused _ _ _ _ _ _ _ c.encode.ensures c.requires.0 _ _ c.in-Refused.is c.put_refusal.ensures.0,
-      omega (arith, c.put_refusal.ensures.1),
-    )
+returns-in-Refused c = (
+  part_refused _ _ _ _ _ _ _ c.encode.ensures c.requires.0 _ _ c.in-Refused.is c.put_refusal.ensures.0,
+  omega (arith, c.put_refusal.ensures.1),
+)
 
 pub returns-in-Encoded : goal.returns-in-Encoded
 returns-in-Encoded c =

@@ -5,11 +5,10 @@ use borrow.Author.Rules.{rules}
 use Rattle.text.proofs.listing.put_part_of.Goals as goal
 
 pub returns-then-input-lt2 : goal.returns-then-input-lt2
-returns-then-input-lt2 c =
-    (
-      input_refused c.args.input.now c.args.part c.if-input-lt2.true c.put_refusal.ensures.0,
-      omega (arith, c.put_refusal.ensures.1),
-    )
+returns-then-input-lt2 c = (
+  input_refused c.args.input.now c.args.part c.if-input-lt2.true c.put_refusal.ensures.0,
+  omega (arith, c.put_refusal.ensures.1),
+)
 
 pub returns : goal.returns
 returns c = (

@@ -11,19 +11,17 @@ pub loop-i-init : goal.loop-i-init
 loop-i-init c = printing_start _ _ _ _ _ _ _
 
 pub step_pair-tested-requires : goal.step_pair-tested-requires
-step_pair-tested-requires c =
-    (
-      pair_same _ _ _ _ _ c.loop-i.invariant.state c.requires.0,
-      c.requires.1,
-      omega (arith, c.wide-c.ensures.0, c.requires.3 c.loop-i.i c.loop-i-test.true),
-    )
+step_pair-tested-requires c = (
+  pair_same _ _ _ _ _ c.loop-i.invariant.state c.requires.0,
+  c.requires.1,
+  omega (arith, c.wide-c.ensures.0, c.requires.3 c.loop-i.i c.loop-i-test.true),
+)
 
 pub put_state-p-requires : goal.put_state-p-requires
-put_state-p-requires c =
-    (
-      pair_same _ _ _ _ _ (omega (arith, c.pair-1.given, c.loop-i.invariant.state)) c.requires.0,
-      omega (arith, c.loop-i.invariant.near, c.loop-i.invariant.size, c.requires.2, c.loop-i-test.true),
-    )
+put_state-p-requires c = (
+  pair_same _ _ _ _ _ (omega (arith, c.pair-1.given, c.loop-i.invariant.state)) c.requires.0,
+  omega (arith, c.loop-i.invariant.near, c.loop-i.invariant.size, c.requires.2, c.loop-i-test.true),
+)
 
 pub loop-i-preserved : goal.loop-i-preserved
 loop-i-preserved c =

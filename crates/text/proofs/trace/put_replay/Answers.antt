@@ -15,9 +15,8 @@ returns-then-input-start c = (
 )
 
 pub returns : goal.returns
-returns c =
-    (
-      text_whole c.args.input.now (2 + c.wide-start.result) c.design_end-end.result (omega (arith, c.wide-start.ensures.0))
-          (omega (arith, c.if-input-start.false)) c.design_end-end.ensures.2 c.put_trace.ensures.0,
-      c.put_trace.ensures.1,
-    )
+returns c = (
+  text_whole c.args.input.now (2 + c.wide-start.result) c.design_end-end.result (omega (arith, c.wide-start.ensures.0))
+      (omega (arith, c.if-input-start.false)) c.design_end-end.ensures.2 c.put_trace.ensures.0,
+  c.put_trace.ensures.1,
+)

@@ -28,20 +28,18 @@ put_state-a-requires c =
     (pair_same _ _ _ _ _ (omega (arith, c.pair-1.given)) c.requires.0, omega (arith, c.requires.2))
 
 pub put_next-requires : goal.put_next-requires
-put_next-requires c =
-    (
-      pair_same _ _ _ _ _ (omega (arith, c.pair-1.given)) c.requires.0,
-      c.requires.1,
-      omega (arith, c.requires.2, c.put_state-a.ensures.1, c.put_state-a.ensures.2),
-      c.requires.3,
-    )
+put_next-requires c = (
+  pair_same _ _ _ _ _ (omega (arith, c.pair-1.given)) c.requires.0,
+  c.requires.1,
+  omega (arith, c.requires.2, c.put_state-a.ensures.1, c.put_state-a.ensures.2),
+  c.requires.3,
+)
 
 pub returns : goal.returns
-returns c =
-    (
-      (λ d e. states_written d _ _ _
-          (put_second _ c.args.pair.now c.requires.0.size _ c.slot_count-n.ensures.0 _ ∙ c.load_start.ensures d e)
-          (c.put_state-a.ensures.0 d (whole _ d e).parts) (c.put_next.ensures.0 d e)),
-      omega (arith, c.put_state-a.ensures.1, c.put_next.ensures.1),
-      omega (arith, c.put_state-a.ensures.2, c.put_next.ensures.2),
-    )
+returns c = (
+  (λ d e. states_written d _ _ _
+      (put_second _ c.args.pair.now c.requires.0.size _ c.slot_count-n.ensures.0 _ ∙ c.load_start.ensures d e)
+      (c.put_state-a.ensures.0 d (whole _ d e).parts) (c.put_next.ensures.0 d e)),
+  omega (arith, c.put_state-a.ensures.1, c.put_next.ensures.1),
+  omega (arith, c.put_state-a.ensures.2, c.put_next.ensures.2),
+)

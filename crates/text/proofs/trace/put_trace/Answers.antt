@@ -11,14 +11,13 @@ returns-then-refusal-ne0 c = (
 )
 
 pub put_run-a-requires : goal.put_run-a-requires
-put_run-a-requires c =
-    (
-      replayable _ _ _ _ c.replay-told.ensures c.if-refusal-ne0.false,
-      omega (
-        arith,
-        (replayable _ _ _ _ c.replay-told.ensures c.if-refusal-ne0.false).few,
-      ),
-    )
+put_run-a-requires c = (
+  replayable _ _ _ _ c.replay-told.ensures c.if-refusal-ne0.false,
+  omega (
+    arith,
+    (replayable _ _ _ _ c.replay-told.ensures c.if-refusal-ne0.false).few,
+  ),
+)
 
 pub put_result-requires : goal.put_result-requires
 put_result-requires c =
@@ -30,14 +29,13 @@ put_result-requires c =
     )
 
 pub returns : goal.returns
-returns c =
-    (
-      trace_done _ _ _ _ c.replay-told.ensures c.if-refusal-ne0.false c.put_run-a.ensures.0 c.put_result.ensures.0,
-      omega (
-        arith,
-        c.put_run-a.ensures.1,
-        c.put_result.ensures.1,
-        (replayable _ _ _ _ c.replay-told.ensures
-            c.if-refusal-ne0.false).few,
-      ),
-    )
+returns c = (
+  trace_done _ _ _ _ c.replay-told.ensures c.if-refusal-ne0.false c.put_run-a.ensures.0 c.put_result.ensures.0,
+  omega (
+    arith,
+    c.put_run-a.ensures.1,
+    c.put_result.ensures.1,
+    (replayable _ _ _ _ c.replay-told.ensures
+        c.if-refusal-ne0.false).few,
+  ),
+)

@@ -10,7 +10,7 @@ use Rattle.verdict.proofs.AtBound.{standing_start, bound_low, bound_numbers, bou
 use Rattle.verdict.proofs.bounds.judge.Given as goal
 
 abbrev pub invariant-loop-values : goal.invariant-loop-values
-invariant-loop-values l = AtBound l.file l.piece l.property l.bound l.budget (record { l.clauses = l.initial.clauses; l.values = l.initial.values; l.trail = l.initial.trail; l.choices = l.initial.choices }) l.i l.tries l.clauses l.values l.trail l.choices
+invariant-loop-values l = AtBound l.file l.piece l.property l.bound l.budget (record { clauses = l.initial.clauses; values = l.initial.values; trail = l.initial.trail; choices = l.initial.choices }) l.i l.tries l.clauses l.values l.trail l.choices
 
 abbrev pub decreases-loop-values : goal.decreases-loop-values
 decreases-loop-values l = l.bound - l.i
