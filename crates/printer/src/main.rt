@@ -3,8 +3,9 @@
 // Plain to read below: they are written in order. No contract can say what is written.
 #![tactic(auto)]
 
-use libc::{STDIN_FILENO, STDOUT_FILENO};
-use text::input::MAX_READ;
+use std::io;
+use std::io::Write;
+use text::input::{MAX_READ, read_full};
 use text::listing::{MAX_TEXT, MAX_WORDS, PartRange, parts_of, put_part_of};
 
 // Two bytes, and a design: what is past them is not read.
@@ -15,22 +16,23 @@ fn find_parts(input: &[u8]) -> PartRange {
     parts_of(input, &mut words)
 }
 
-fn print_part(input: &[u8], part: u64) {
+fn print_part(rt: &HostRuntime, input: &[u8], part: u64) -> io::Result<()> {
     let mut words = [0i32; MAX_WORDS];
     let mut out = [0u8; MAX_TEXT];
     let k = put_part_of(input, part, &mut words, &mut out);
-    io::write_all(STDOUT_FILENO, &out[..k]);
+    rt.stdout().write_all(&out[..k])
 }
 
-fn main() {
+fn main(rt: HostRuntime) -> io::Result<()> {
     let mut input = [0u8; MAX_INPUT];
-    let n = io::read_full(STDIN_FILENO, &mut input);
+    let n = read_full(&mut rt.stdin(), &mut input)?;
     let design = &input[..n];
     let parts = find_parts(design);
     let end = parts.end;
     let mut i = parts.first;
     while i < end {
-        print_part(design, i);
+        print_part(&rt, design, i)?;
         i = i + 1;
     }
+    Ok(())
 }

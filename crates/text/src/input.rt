@@ -1,8 +1,10 @@
 // The input of the programs: a design stands at its end.
-ghost use Rattle.std.specs.Prelude.{◌≡◌, ◌-◌, ◌≤◌, length, take, drop};
+ghost use Rattle.std.specs.Prelude.{◌≡◌, ◌-◌, ◌≤◌, length, take, drop, IfOk};
 ghost use Rattle.text.specs.Trace.{max_read};
 
 use design::limits::MAX_BYTES;
+use std::io;
+use std::io::Read;
 
 // Design bytes that are read: one more than a design may have, so that a longer one is refused.
 pub const MAX_READ: usize = MAX_BYTES + 1;
@@ -16,4 +18,19 @@ pub fn design_end(input: &[u8], start: usize) -> usize
         return start + MAX_READ;
     }
     input.len()
+}
+
+// Fills the buffer from the front, until it is full or the input ends: how many bytes stand in it.
+pub fn read_full<R: Read>(input: &mut R, buffer: &mut [u8]) -> io::Result<usize>
+    ensures { IfOk result (λ n. n ≤ length buffer.new) }
+{
+    let mut filled = 0;
+    while filled < buffer.len() {
+        let n = input.read(&mut buffer[filled..])?;
+        if n == 0 {
+            break;
+        }
+        filled += n;
+    }
+    Ok(filled)
 }
