@@ -10,7 +10,7 @@ use Rattle.design.specs.Check.{version, has_constraint, items_end, constraint_of
 use Rattle.design.specs.declared.shape.Shape.{Shape}
 use Rattle.design.specs.Sections.{Parts, Cells, CellRead, NormalRead, Standing, CellFields}
 use Rattle.design.specs.Places.{Indexed}
-use Rattle.design.proofs.Positions.{cell_reads, expressions_order, constraint_none}
+use Rattle.design.proofs.Positions.{cell_reads, constraint_none}
 use Rattle.design.proofs.Places.{Read as Tree, read, cell_fields}
 use Rattle.step.specs.Piece.{no_piece, piece_right}
 use Rattle.step.specs.Ready.{expression_text}

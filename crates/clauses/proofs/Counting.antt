@@ -5,7 +5,7 @@ use Rattle.design.specs.WellFormed.{WellFormed}
 use Rattle.step.specs.Property.{Property, PropertyOk}
 use Rattle.step.specs.OneStep.{breaks}
 use Rattle.step.specs.Breaking.{Breaking}
-use Rattle.clauses.specs.Meaning.{Assignment, satisfies}
+use Rattle.clauses.specs.Meaning.{Assignment}
 use Rattle.clauses.specs.Formula.{w, n, formula, choices}
 use Rattle.clauses.specs.Theorem.{assignment_of, Model, In, Distinct, Exactly}
 use Rattle.clauses.proofs.Definitions.{Same}

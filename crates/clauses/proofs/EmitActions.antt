@@ -1,6 +1,6 @@
 -- Gates of statements and lists of them, over the bytes. Assumes nothing.
-use Rattle.std.proofs.Common.{◌≡◌, ℕ, zero, suc, ◌+◌, ◌-◌, ◌*◌, ◌<◌, ◌≤◌, Bool, true, false, cond, eqb, ltb, List, [], ◌∷◌, length, get_or, set, ℤ, sym, refl, ap, ◌∙◌, subst, ap₂, sub-one, arith, ltb-true, lt-ltb, eq-eqb, ne_eqb}
-use Rattle.design.specs.Tree.{IntExpr, BoolExpr, Stmt, Stmts, assign, assign_b, if_else, done, then}
+use Rattle.std.proofs.Common.{◌≡◌, ℕ, zero, suc, ◌+◌, ◌-◌, ◌*◌, ◌<◌, ◌≤◌, Bool, true, false, eqb, ltb, List, [], ◌∷◌, length, get_or, set, ℤ, sym, refl, ap, ◌∙◌, subst, ap₂, sub-one, arith, ltb-true, lt-ltb, eq-eqb, ne_eqb}
+use Rattle.design.specs.Tree.{IntExpr, BoolExpr, Stmt, Stmts, assign, assign_b, if_else, done}
 use Rattle.design.specs.Limits.{max_depth, max_bits}
 use Rattle.design.specs.Reading.{got, bad, Reader, provided}
 use Rattle.design.specs.Expression.{Names, byte, int_expr, bool_expr}

@@ -1,7 +1,7 @@
 -- What stands at the cells of an accepted file, and the gates of cells and externals. Assumes nothing.
 use Rattle.std.proofs.Common.{◌≡◌, ℕ, zero, suc, ◌+◌, ◌*◌, ◌/◌, ◌%◌, ◌<◌, ◌≤◌, Bool, true, false, List, [], ◌∷◌, length, get_or, take, set, ℤ, sym, refl, ap, ◌∙◌, ap₂, arith, length-take-le}
 use Rattle.design.specs.Tree.{BoolExpr, constant_b, Cell, Design, cell, raise, truth}
-use Rattle.design.specs.Limits.{max_bytes, max_variables, max_matrices, max_depth, max_nest, max_bits, pair_bits, event_places}
+use Rattle.design.specs.Limits.{max_bytes, max_depth, max_nest, max_bits, pair_bits, event_places}
 use Rattle.design.specs.State.{Layout, status_slot, status_width}
 use Rattle.design.specs.Reading.{got}
 use Rattle.design.specs.Expression.{bool_expr}

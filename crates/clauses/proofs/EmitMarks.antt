@@ -1,9 +1,9 @@
 -- The mark behind an operator: its gates, and the operands whose product stays inside. Assumes nothing.
-use Rattle.std.proofs.Common.{◌≡◌, ℕ, zero, suc, ◌+◌, ◌-◌, ◌/◌, ◌%◌, ◌<◌, ◌≤◌, Bool, true, false, cond, not, ltb, List, ℤ, pos, negsuc, neg_ℤ, sym, refl, ap, ◌∙◌, subst, ap₂, div-le_self, arith, le-ltb, lt-ltb}
+use Rattle.std.proofs.Common.{◌≡◌, ℕ, zero, suc, ◌+◌, ◌-◌, ◌/◌, ◌%◌, ◌<◌, ◌≤◌, Bool, true, false, cond, not, List, ℤ, pos, negsuc, neg_ℤ, sym, refl, ap, ◌∙◌, subst, ap₂, div-le_self, arith, le-ltb, lt-ltb}
 use borrow.Author.Tests.{not-true, not-false}
 use Rattle.step.specs.Pattern.{signed, wrap}
 use Rattle.clauses.specs.Literal.{Literal}
-use Rattle.clauses.specs.Circuit.{Build, ◌>>=◌, xor!, or!, Bits, Summed, less!, mark! }
+use Rattle.clauses.specs.Circuit.{Build, xor!, or!, Bits, Summed, less!, mark! }
 use Rattle.clauses.specs.Expression.{constant_bits, sum_passes!, least_operand, largest_operand, product_passes! }
 use Rattle.clauses.specs.Writing.{from_code, Emits}
 use Rattle.clauses.specs.Builders.{beside! }

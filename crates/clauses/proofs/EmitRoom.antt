@@ -1,5 +1,5 @@
 -- Room for the clauses of a frame, and gates that were written as clauses that were put. Assumes nothing.
-use Rattle.std.proofs.Common.{◌≡◌, ℕ, suc, ◌+◌, ◌≤◌, List, [], ◌∷◌, ◌++◌, length, ℤ, sym, ap, ◌∙◌, subst, ap₂, arith}
+use Rattle.std.proofs.Common.{◌≡◌, ℕ, suc, ◌+◌, ◌≤◌, List, ◌∷◌, ◌++◌, length, ℤ, sym, ap, ◌∙◌, subst, ap₂, arith}
 use Rattle.design.specs.Tree.{Design, movers}
 use Rattle.design.specs.State.{Layout, layout}
 use Rattle.design.specs.WellFormed.{WellFormed}

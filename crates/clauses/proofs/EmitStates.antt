@@ -9,7 +9,7 @@ use Rattle.clauses.specs.Expression.{Slots, with_mark}
 use Rattle.clauses.specs.Action.{mux_bits!, muxes! }
 use Rattle.clauses.specs.Formula.{total}
 use Rattle.clauses.specs.Writing.{from_code, from_codes, Emits}
-use Rattle.clauses.specs.FlatState.{layout_of, widths_from, widths_of, widths_in, cut, slots_of, over, Slotted}
+use Rattle.clauses.specs.FlatState.{layout_of, widths_from, widths_in, cut, slots_of, over, Slotted}
 use Rattle.clauses.proofs.EmitWords.{append-nil}
 use Rattle.clauses.proofs.EmitLists.{codes_append, codes_length, codes_take, codes_drop, take_all, take_none}
 use Rattle.clauses.proofs.EmitBuilds.{emits_same, emits_result, emits_map}

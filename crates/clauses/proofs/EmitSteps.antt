@@ -31,7 +31,7 @@ use Rattle.clauses.specs.Writing.{from_code, Emits}
 use Rattle.clauses.specs.Builders.{link! }
 use Rattle.clauses.specs.FlatState.{slots_of, read_slots, layout_of}
 use Rattle.clauses.specs.Ready.{ShapedFile, result_from}
-use Rattle.clauses.specs.Encoders.{Writes, Gives, BoolHere, TestEncoded}
+use Rattle.clauses.specs.Encoders.{Gives, BoolHere, TestEncoded}
 use Rattle.clauses.specs.declared.gate.Cursor.{Cursor}
 use Rattle.clauses.specs.declared.gate.Out.{Out}
 use Rattle.clauses.proofs.EmitWords.{append-nil}

@@ -6,14 +6,11 @@ use Rattle.design.specs.Check.{Checked, check}
 use Rattle.design.specs.WellFormed.{WellFormed}
 use Rattle.design.proofs.WellFormed.{well_formed}
 use Rattle.step.specs.Property.{Property, property_of, PropertyOk}
-use Rattle.step.specs.OneStep.{breaks}
 use Rattle.step.specs.Breaking.{Breaking, Breakable}
 use Rattle.step.proofs.Properties.{property_ok}
 use Rattle.clauses.specs.Meaning.{Assignment, satisfies, Satisfiable}
-use Rattle.clauses.specs.Words.{words}
 use Rattle.clauses.specs.Formula.{w, n, formula, choices}
 use Rattle.clauses.specs.Theorem.{Theorem}
-use Rattle.clauses.specs.Decode.{decode}
 use Rattle.clauses.proofs.Models.{decodes_long, decodes_movers, decodes_breaks, decodes_once, is_decoded}
 use Rattle.clauses.proofs.Within.{formula_within, words_back}
 use Rattle.clauses.proofs.Decoding.{decode_chooses}

@@ -1,7 +1,7 @@
 -- The circuits of expressions over a state in literals. "Operands come before their operator, left to right."
 -- A condition is that of an if. The sums, differences and products of statements and conditions mark (document 02, R-5), those of guards, events and properties do not: `marks` says which, and `m` is the
 -- mark so far.
-use Rattle.std.specs.Prelude.{ℕ, zero, suc, ◌/◌, ◌%◌, Bool, true, false, cond, List, [], ◌∷◌, ℤ, pos, negsuc, neg_ℤ, nat_lt, slice_index_or, slice_set}
+use Rattle.std.specs.Prelude.{ℕ, zero, suc, ◌/◌, ◌%◌, Bool, false, cond, List, [], ◌∷◌, ℤ, pos, negsuc, neg_ℤ, nat_lt, slice_index_or, slice_set}
 use Rattle.design.specs.Tree.{IntExpr, BoolExpr, constant, variable, status, sum, difference, product, constant_b, variable_b, not_b, and_b, or_b, equal, less, truth}
 use Rattle.design.specs.State.{Layout, status_slot}
 use Rattle.clauses.specs.Literal.{Literal, negate, false_literal, literal_of}

@@ -1,5 +1,5 @@
 -- What the code that counts gates is given, and what it answers, of what the definitions say.
-use Rattle.std.specs.Prelude.{◌≡◌, ℕ, zero, suc, ◌+◌, ◌*◌, ◌≤◌, Bool, true, false, cond, List, [], ◌∷◌, length, nat_le, nat_lt}
+use Rattle.std.specs.Prelude.{◌≡◌, ℕ, zero, suc, ◌+◌, ◌*◌, ◌≤◌, Bool, true, false, cond, List, [], ◌∷◌, nat_le, nat_lt}
 use Rattle.design.specs.Tree.{Stmt, Stmts, Design, cell}
 use Rattle.design.specs.Reading.{Read, got, bad}
 use Rattle.design.specs.DesignFile.{Entry, normal, invalid, c_matrix, c_event}

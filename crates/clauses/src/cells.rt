@@ -1,7 +1,7 @@
 // The gates of cells, over the bytes of an accepted file. `events` is the table of events; `p` is where a cell stands.
 ghost use Rattle.std.specs.Prelude.{◌≡◌, ℕ, ◌<◌, false, List};
 ghost use Rattle.design.specs.Tree.{Design, cell};
-ghost use Rattle.design.specs.DesignFile.{c_past, events as eventCount};
+ghost use Rattle.design.specs.DesignFile.{c_past, events as event_count};
 ghost use Rattle.design.specs.Check.{matrices_offset, event_in};
 ghost use Rattle.design.specs.Sections.{Parts, CellFields, NormalCell};
 ghost use Rattle.clauses.specs.Cost.{bool_cost, mover_cost};
@@ -23,7 +23,7 @@ pub fn size_event(
     m: usize,
     e: usize,
 ) -> GatesAt
-    requires { Ready file.now events.now shape × (m < shape.matrices) × (e < eventCount file.now (matrices_offset file.now) m) }
+    requires { Ready file.now events.now shape × (m < shape.matrices) × (e < event_count file.now (matrices_offset file.now) m) }
     ensures { FewGates text_gates result × ((d : Design) (parts : Parts file.now d) → HasGates result (bool_cost false (event_in parts.rows m e))) }
 {
     let at = events[EVENT_ROW * m + e] as usize;

@@ -2,7 +2,7 @@
 ghost use Rattle.std.specs.Prelude.{◌≡◌, map};
 ghost use Rattle.design.specs.Tree.{truth};
 ghost use Rattle.clauses.specs.Literal.{negate as negated, false_literal, literal_of};
-ghost use Rattle.clauses.specs.Circuit.{shift as shifted, addend as addendOf, negate_top, sum!, difference!, product!, less!, xors!, chain!, equal! };
+ghost use Rattle.clauses.specs.Circuit.{shift as shifted, addend as addend_of, negate_top, sum!, difference!, product!, less!, xors!, chain!, equal! };
 ghost use Rattle.clauses.specs.Expression.{constant_bits};
 ghost use Rattle.clauses.specs.Writing.{from_code, from_codes, Emits};
 ghost use Rattle.clauses.specs.Builders.{sum_bit! };
@@ -110,7 +110,7 @@ pub fn shift(x: [u32; 16]) -> [u32; 16]
 
 // The operand where a bit of the constant is 1, else all false (3).
 pub fn addend(bit: u16, x: [u32; 16]) -> [u32; 16]
-    ensures { from_codes result ≡ addendOf (truth bit) (from_codes x) }
+    ensures { from_codes result ≡ addend_of (truth bit) (from_codes x) }
 {
     if bit == 0 {
         return [3u32; 16];

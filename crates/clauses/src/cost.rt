@@ -8,7 +8,7 @@ ghost use Rattle.design.specs.Action.{assignment, statement, list};
 ghost use Rattle.design.specs.Check.{names_of};
 ghost use Rattle.step.specs.Accepted.{is_read};
 ghost use Rattle.clauses.specs.Cost.{add_costs, sum_cost, product_cost, sum_mark_cost, product_mark_cost, int_cost, bool_cost};
-ghost use Rattle.clauses.specs.FrameSizes.{no_gates, gates_at, both, more as moreOf, both_with, more_with, FewGates, stmt_gates, list_gates};
+ghost use Rattle.clauses.specs.FrameSizes.{no_gates, gates_at, both, more as more_of, both_with, more_with, FewGates, stmt_gates, list_gates};
 ghost use Rattle.clauses.specs.Limits.{text_gates};
 
 use design::bytes::wide;
@@ -66,7 +66,7 @@ pub fn join(a: GatesAt, b: GatesAt, ands: u64, wides: u64) -> GatesAt
 // So many gates more.
 pub fn more(a: GatesAt, ands: u64, wides: u64) -> GatesAt
     requires { (a.ands + ands < 18446744073709551616) × (a.wides + wides < 18446744073709551616) }
-    ensures { result ≡ moreOf a ands wides }
+    ensures { result ≡ more_of a ands wides }
 {
     GatesAt {
         ands: a.ands + ands,

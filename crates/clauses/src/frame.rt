@@ -10,7 +10,7 @@ ghost use Rattle.step.specs.Piece.{piece_right};
 ghost use Rattle.step.specs.Property.{property_of};
 ghost use Rattle.clauses.specs.Limits.{most_gates, frame_limit, most_variables, count_limit, size_limit};
 ghost use Rattle.clauses.specs.Cost.{pair_count, property_cost, step_property_cost};
-ghost use Rattle.clauses.specs.FrameSizes.{more as moreOf, HasGates, FewGates, frame_sizes, SmallFrame, frame_length, step_clauses_of, step_words_of, part_words_of, variables_of, formula_sizes};
+ghost use Rattle.clauses.specs.FrameSizes.{more as more_of, HasGates, FewGates, frame_sizes, SmallFrame, frame_length, step_clauses_of, step_words_of, part_words_of, variables_of, formula_sizes};
 ghost use Rattle.clauses.specs.Ready.{ShapedFile, Ready};
 
 use super::cells::size_cells;
@@ -53,7 +53,7 @@ pub struct FormulaSizes {
 // A property ends in an and with the mark's negation.
 pub fn ends_unmarked(property: GatesAt) -> GatesAt
     requires { FewGates most_gates property }
-    ensures { result ≡ moreOf property 1 0 }
+    ensures { result ≡ more_of property 1 0 }
 {
     more(property, 1, 0)
 }

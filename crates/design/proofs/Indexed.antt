@@ -1,6 +1,6 @@
 -- Facts about an accepted file with its table of events and its shape, for every layer that walks it. Assumes nothing.
 use mathlib.Core.Path.{◌≡◌, refl, sym, ap, ap₂, subst, ◌∙◌}
-use mathlib.Core.Bool.{Bool, true, false}
+use mathlib.Core.Bool.{Bool, true}
 use mathlib.Core.List.{List}
 use Prim.Native.Nat.{ℕ, zero, suc, ◌+◌, ◌*◌, ◌<◌, ◌≤◌}
 use native.Mathlib.Omega.{arith}
@@ -12,8 +12,8 @@ use Rattle.design.specs.Reading.{got}
 use Rattle.design.specs.Expression.{Names, with_later, bool_expr}
 use Rattle.design.specs.Action.{list}
 use Rattle.design.specs.DesignFile.{item, guard, normal, events, c_matrix, c_event, c_guard, c_middle, c_past}
-use Rattle.design.specs.Check.{check, accepted, names_in, names_of, names, version, has_constraint, items_end, constraint_offset, variable_count, matrix_count, matrices_offset, invariant_offset, event_in}
-use Rattle.design.specs.Places.{Accepted, Shaped, MoversIndexed, Indexed, externals_from, past_events, events_start, event_place}
+use Rattle.design.specs.Check.{check, accepted, names_in, names_of, names, version, has_constraint, items_end, constraint_offset, variable_count, matrix_count, matrices_offset, event_in}
+use Rattle.design.specs.Places.{Accepted, Shaped, MoversIndexed, Indexed, externals_from, past_events, events_start}
 use Rattle.design.specs.Answers.{walked}
 use Rattle.design.specs.Sections.{Parts, EventRead, NormalRead, CellFields, NormalCell}
 use Rattle.design.specs.declared.shape.Shape.{Shape}

@@ -13,7 +13,7 @@ use Rattle.clauses.specs.Meaning.{Within}
 use Rattle.clauses.specs.Words.{clauses_of}
 use Rattle.search.specs.Search.{Value, unset, Settings, Values, value_of, Scan, all_false, unit, some_true, several, scan, is_false, conflict, nothing, or_else, first_unit, forced, is_unset}
 use Rattle.search.specs.AnyOrder.{IsUnit, Quiet, Settles, done, more}
-use Rattle.search.specs.Memory.{closed, Starts, value_of_byte, value_at, literal_from, bit, UnitFound, Finds, Agrees, Two, StartsAfter, StartsTwo, clauses_from, both_of, Reaches}
+use Rattle.search.specs.Memory.{Starts, value_of_byte, value_at, literal_from, bit, UnitFound, Finds, Agrees, Two, StartsAfter, StartsTwo, clauses_from, both_of, Reaches}
 use Rattle.search.proofs.Scans.{Free, unit_free}
 use Rattle.search.proofs.Reading.{starts_zero, within_words}
 use Rattle.search.proofs.Scanning.{Skipped, AllSkipped, skipped_quiet, conflict_after, unit_after, Some, found_after}

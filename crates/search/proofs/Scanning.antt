@@ -14,7 +14,7 @@ use types.Run.{OneOf, miss}
 use denote.Enum.Declared.{tag_of}
 use Rattle.clauses.specs.Literal.{Literal, Clause}
 use Rattle.clauses.specs.Words.{is_end, literal_of_word, clauses_of}
-use Rattle.search.specs.Search.{Value, unset, is, Values, literal_value, Scan, all_false, unit, some_true, several, scan_one, join, scan, is_false, conflict, nothing, found, or_else, first_unit}
+use Rattle.search.specs.Search.{Value, unset, is, Values, literal_value, Scan, all_false, unit, some_true, several, scan_one, join, scan, is_false, conflict, nothing, or_else, first_unit}
 use Rattle.search.specs.AnyOrder.{IsUnit, Quiet}
 use Rattle.search.specs.Memory.{AllIn, first_clause, has_end, rest_words, Past, Starts, sign_of, Named, value_at, value_code, literal_from, UnitFound, Finds}
 use Rattle.search.proofs.Reading.{inside_low, inside_next, inside_end, Passing, passing_start, passing_next_lem, Clause₁, a_clause, starts_past}

@@ -12,11 +12,10 @@ use borrow.Author.Tests.{lt-ltb, le-ltb}
 use types.Run.{OneOf, miss}
 use denote.Enum.Declared.{tag_of}
 use Rattle.clauses.specs.Words.{clauses_of}
-use Rattle.search.specs.Search.{unset, Place, none, at, up_to, Answer, SAT, UNSAT, SPENT, solved}
+use Rattle.search.specs.Search.{Place, none, at, up_to, Answer, SAT, UNSAT, SPENT, solved}
 use Rattle.search.specs.Answers.{declared_answer, declared_spot}
 use Rattle.search.specs.Solve.{bad_word, values_left, After, refuses, leaves, at_place, solve}
 use Rattle.search.specs.Memory.{Fresh, AllUnset, outcome, Kept, Ran, Leaves}
-use Rattle.search.proofs.Signed.{wide}
 use Rattle.search.proofs.BadWords.{good_words}
 use Rattle.search.specs.declared.words.Spot.TheVariants.{Nowhere, At}
 use Rattle.search.specs.declared.Answered.{Answered}

@@ -2,7 +2,7 @@
 #![tactic(auto)]
 
 ghost use Rattle.std.specs.Prelude.{◌≡◌, length};
-ghost use Rattle.search.specs.Solve.{solve as solveOf};
+ghost use Rattle.search.specs.Solve.{solve as solve_of};
 ghost use Rattle.search.specs.Memory.{Fresh, outcome, Leaves};
 
 pub mod words; // words of a clause list
@@ -59,7 +59,7 @@ pub fn search(words: &[i32], values: &mut [u8], trail: &mut [u32], budget: u64) 
 
 // SOLVE: n variables, the clauses as words, memory for values and the trail, and the budget.
 pub fn solve(n: u64, words: &[i32], values: &mut [u8], trail: &mut [u32], budget: u64) -> Reply
-    ensures { record { reply = result; values = values.new; trail = trail.new } ≡ solveOf n words.now values.old trail.old budget }
+    ensures { record { reply = result; values = values.new; trail = trail.new } ≡ solve_of n words.now values.old trail.old budget }
 {
     if n > MAX_VARIABLE {
         return Reply::Refused {

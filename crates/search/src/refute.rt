@@ -1,7 +1,7 @@
 // REFUTE: whether every clause of a refutation follows from a clause list and the clauses before it, up to an empty one.
 ghost use Rattle.std.specs.Prelude.{◌≡◌, true, ◌+◌, ◌^◌, ◌<◌, length, drop, replicate};
 ghost use Rattle.clauses.specs.Words.{clauses_of};
-ghost use Rattle.search.specs.Refutation.{judged, refute as refuteOf};
+ghost use Rattle.search.specs.Refutation.{judged, refute as refute_of};
 ghost use Rattle.search.specs.Memory.{AllIn, has_end, first_clause, Starts, value_at, AllUnset, Finds, Denied, Two, StartsAfter, StartsTwo, clauses_from, both_of, ReadTo, Reaches, follows_at};
 
 use super::MAX_VARIABLE;
@@ -157,7 +157,7 @@ pub fn judge(list: &[i32], refutation: &[i32], values: &mut [u8]) -> Judged
 
 // REFUTE: n variables, the clauses and the refutation as words, and memory for values.
 pub fn refute(n: u64, list: &[i32], refutation: &[i32], values: &mut [u8]) -> Reply
-    ensures { record { reply = result; values = values.new } ≡ refuteOf n list.now refutation.now values.old }
+    ensures { record { reply = result; values = values.new } ≡ refute_of n list.now refutation.now values.old }
 {
     if n > MAX_VARIABLE {
         return Reply::Refused {

@@ -1,5 +1,5 @@
 -- The loops that look for the first wrong entry. Assumes nothing.
-use Rattle.std.proofs.Common.{◌≡◌, ℕ, suc, ◌+◌, ◌<◌, ◌≤◌, Bool, true, false, ltb, List, [], ◌∷◌, map, length, get_or, drop, sym, ap, ◌∙◌, add-one, arith, drop-cons, le-ltb, lt-ltb}
+use Rattle.std.proofs.Common.{◌≡◌, ℕ, suc, ◌+◌, ◌<◌, ◌≤◌, Bool, true, false, ltb, List, ◌∷◌, map, length, get_or, drop, sym, ap, ◌∙◌, add-one, arith, drop-cons, le-ltb, lt-ltb}
 use lib.ListN.{length-map, get_or-map}
 use lib.Seq.{drop-length}
 use Rattle.step.specs.Interface.{first_wrong}

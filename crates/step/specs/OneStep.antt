@@ -1,5 +1,5 @@
 -- What one step does, what a list of choices does, and what it breaks (document 01, "One step").
-use Rattle.std.specs.Prelude.{ℕ, zero, suc, Bool, true, cond, not, ◌&&◌, ◌||◌, List, [], ◌∷◌, ◌++◌, length, take, set, ◌==◌, nat_le, slice_index, slice_set}
+use Rattle.std.specs.Prelude.{ℕ, zero, suc, Bool, true, cond, not, ◌&&◌, ◌||◌, List, [], ◌∷◌, ◌++◌, length, take, ◌==◌, nat_le, slice_index, slice_set}
 use Rattle.std.proofs.Math.Option.{Option, none, some}
 use Rattle.std.proofs.Math.ListN.{get_elem?}
 use Rattle.design.specs.Tree.{BoolExpr, Stmt, Stmts, assign, assign_b, if_else, done, then, InvalidCell, Design, Mover, cell, raise, movers, truth, bit}

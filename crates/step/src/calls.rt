@@ -10,7 +10,7 @@ ghost use Rattle.design.specs.Places.{Accepted, Shaped, MoversIndexed};
 ghost use Rattle.design.specs.Sections.{Parts};
 ghost use Rattle.step.specs.Piece.{no_piece};
 ghost use Rattle.step.specs.Property.{property_of};
-ghost use Rattle.step.specs.OneStep.{holds as holdsIn};
+ghost use Rattle.step.specs.OneStep.{holds as holds_in};
 ghost use Rattle.step.specs.Operations.{started, START, next, stepped, STEP, held, HOLDS};
 ghost use Rattle.step.specs.Entries.{slots_entered};
 ghost use Rattle.step.specs.Ready.{ReadyState};
@@ -174,7 +174,7 @@ pub fn holds_slots(
     slots: &mut [u16],
 ) -> bool
     requires { ReadyState file.now events.now shape slots.old × (property ≤ last_state_property) }
-    ensures { (d : Design) (parts : Parts file.now d) → result ≡ holdsIn d (property_of file.now no_piece d property) (slots_entered shape entries) }
+    ensures { (d : Design) (parts : Parts file.now d) → result ≡ holds_in d (property_of file.now no_piece d property) (slots_entered shape entries) }
 {
     load_entries(shape, entries, slots);
     property_true(file, b"", events, shape, property, slots)
@@ -183,7 +183,7 @@ pub fn holds_slots(
 // Whether the property is true in the state that right entries give.
 pub fn holds_right(file: &[u8], shape: Shape, property: u64, entries: Entries) -> bool
     requires { Accepted file.now × Shaped file.now shape × (property ≤ last_state_property) }
-    ensures { (d : Design) (parts : Parts file.now d) → result ≡ holdsIn d (property_of file.now no_piece d property) (slots_entered shape entries) }
+    ensures { (d : Design) (parts : Parts file.now d) → result ≡ holds_in d (property_of file.now no_piece d property) (slots_entered shape entries) }
 {
     let mut events = [0u16; EVENT_PLACES];
     index_events(file, &mut events);

@@ -1,7 +1,7 @@
 // Movers: a normal cell or an external, enabled or idle. `events` is the table of events; `p` is where a cell stands.
 ghost use Rattle.std.specs.Prelude.{◌≡◌, ℕ, ◌+◌, ◌<◌, List, ◌++◌, length, drop};
 ghost use Rattle.design.specs.Tree.{Design, cell, raise};
-ghost use Rattle.design.specs.DesignFile.{c_matrix, c_status, c_event, events as eventCount};
+ghost use Rattle.design.specs.DesignFile.{c_matrix, c_status, c_event, events as event_count};
 ghost use Rattle.design.specs.Check.{matrices_offset, check, accepted, event_in};
 ghost use Rattle.design.specs.Places.{MoversIndexed};
 ghost use Rattle.design.specs.State.{Layout, layout_of, slot_count};
@@ -34,7 +34,7 @@ pub fn event_true(
     e: usize,
     slots: &[u16],
 ) -> bool
-    requires { ReadyState file.now events.now shape slots.now × (m < shape.matrices) × (e < eventCount file.now (matrices_offset file.now) m) }
+    requires { ReadyState file.now events.now shape slots.now × (m < shape.matrices) × (e < event_count file.now (matrices_offset file.now) m) }
     ensures { (d : Design) (parts : Parts file.now d) → result ≡ eval_bool (layout_of shape) slots.now (event_in parts.rows m e) }
 {
     let at = events[EVENT_ROW * m + e] as usize;

@@ -12,7 +12,7 @@ use lib.ListN.{length, get_or, take, drop, set, replicate, length-map, length-se
 use lib.Seq.{drop-append-add, drop-drop, drop-cons, drop_at, take-suc, set_at, get_or_at, map-set_same, length-take-le}
 use Rattle.design.specs.Tree.{Design}
 use Rattle.design.specs.Check.{Checked, check}
-use Rattle.design.specs.Answer.{Answer, answer}
+use Rattle.design.specs.Answer.{Answer}
 use Rattle.verdict.specs.Verdict.{Told, Memory}
 use Rattle.verdict.specs.Owners.{Owner, Buffers, alone, Used, none, longer, used_for, used_by_any, zeroed, buffers_left, owners_of, each_owner}
 use Rattle.verdict.specs.Isolation.{SameLengths}

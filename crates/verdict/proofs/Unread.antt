@@ -10,7 +10,7 @@ use lib.ListN.{length, take, drop, length-append, length-drop}
 use lib.Seq.{take-append-le, drop-append-le}
 use Rattle.design.specs.Tree.{Design}
 use Rattle.design.specs.Check.{Checked, check}
-use Rattle.design.specs.Answer.{Answer, refused, answer, need, of_checked, on_design}
+use Rattle.design.specs.Answer.{Answer, answer, need, of_checked, on_design}
 use Rattle.step.specs.Gate.{gate}
 use Rattle.step.specs.Limits.{last_property, max_bound}
 use Rattle.step.specs.Piece.{piece_right}

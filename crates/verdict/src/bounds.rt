@@ -1,6 +1,6 @@
 // The bounds one after the other.
 ghost use Rattle.std.specs.Prelude.{◌≡◌};
-ghost use Rattle.verdict.specs.Verdict.{verdict as verdictOf};
+ghost use Rattle.verdict.specs.Verdict.{verdict as verdict_of};
 ghost use Rattle.verdict.specs.Answers.{exit};
 ghost use Rattle.verdict.specs.Loop.{ReadyMemory};
 
@@ -26,7 +26,7 @@ pub fn judge<'a>(
       reply = Reply.Done result;
       memory = record { clauses = clauses.exit.now; values = values.new; trail = trail.new; choices = choices.new };
     }
-        ≡ exit (verdictOf file.now piece.now property bound budget
+        ≡ exit (verdict_of file.now piece.now property bound budget
         (record { clauses = clauses.entry.now; values = values.old; trail = trail.old; choices = choices.old })) }
 {
     let mut i: u64 = 0;

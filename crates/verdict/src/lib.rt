@@ -6,7 +6,7 @@ mod bounds;
 pub mod owners;
 
 ghost use Rattle.std.specs.Prelude.{◌≡◌};
-ghost use Rattle.verdict.specs.Verdict.{verdict as verdictOf};
+ghost use Rattle.verdict.specs.Verdict.{verdict as verdict_of};
 ghost use Rattle.verdict.specs.Answers.{exit};
 
 use answer::Reply;
@@ -31,7 +31,7 @@ pub fn verdict<'a>(
     choices: &mut [u8],
 ) -> Reply
     ensures { record { reply = result; memory = record { clauses = clauses.exit.now; values = values.new; trail = trail.new; choices = choices.new } }
-        ≡ exit (verdictOf file.now piece.now property bound budget
+        ≡ exit (verdict_of file.now piece.now property bound budget
         (record { clauses = clauses.entry.now; values = values.old; trail = trail.old; choices = choices.old })) }
 {
     match size(file, piece, property, bound) {

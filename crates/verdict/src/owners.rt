@@ -3,7 +3,7 @@ ghost use Rattle.std.specs.Prelude.{◌≡◌, map, take};
 ghost use Rattle.design.specs.Check.{Checked, check};
 ghost use Rattle.design.specs.Tree.{Design};
 ghost use Rattle.verdict.specs.Answers.{exit, owners_exit};
-ghost use Rattle.verdict.specs.Owners.{owners_of, each_owner, owners as allOwners};
+ghost use Rattle.verdict.specs.Owners.{owners_of, each_owner, owners as all_owners};
 ghost use Rattle.verdict.specs.OwnersLoop.{last_bound, Clearable, Cleared, one_owner, Counted};
 
 use super::answer::{ANSWER_WORDS, Reply, Verdict, owner_words};
@@ -127,7 +127,7 @@ pub fn owners<'a>(
       pointers = map (λ x. x.ref_ptr) choices.new;
       answers = answers.new;
     }
-        ≡ owners_exit (allOwners file.now bound (record { clauses = clauses.entry.now; values = values.old; trail = trail.old })
+        ≡ owners_exit (all_owners file.now bound (record { clauses = clauses.entry.now; values = values.old; trail = trail.old })
         count (map (λ x. x.now) pieces.now) budgets.now (map (λ x. x.now) choices.old)) (map (λ x. x.ref_ptr) choices.old) answers.old }
 {
     let checked = design::check(file);

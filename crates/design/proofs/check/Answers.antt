@@ -2,7 +2,6 @@
 use native.Mathlib.Omega.{arith}
 use mathlib.Core.Path.{◌∙◌}
 use lib.ListN.{length}
-use borrow.Author.Tests.{not-true, not-false}
 use Rattle.design.proofs.File.{length_low, tail_room, tail_fits, whole_length, whole_tail, whole_version, whole_counts, whole_stopped, whole_movers, whole_accepted}
 use Rattle.design.proofs.check.Goals as goal
 

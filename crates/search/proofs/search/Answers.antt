@@ -1,7 +1,6 @@
 -- `search::search` meets its contract.
 use mathlib.Core.Path.{◌∙◌}
 use lib.ListN.{length}
-use borrow.Author.Rules.{rules}
 use Rattle.search.proofs.Solving.{fresh_after, search_sat, search_else}
 use borrow.Enum.Refused.{opened}
 use Rattle.search.proofs.search.Goals as goal

@@ -1,7 +1,6 @@
 -- `search::solve` meets its contract.
 use mathlib.Core.Path.{sym, ◌∙◌}
 use lib.Seq.{length-take-le}
-use borrow.Author.Rules.{rules}
 use Rattle.search.proofs.Solving.{solve_large, solve_word, solve_values, solve_trail, solve_fresh, solve_done}
 use Rattle.search.proofs.solve.Goals as goal
 

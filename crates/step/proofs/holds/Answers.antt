@@ -1,4 +1,4 @@
-use Rattle.std.proofs.Common.{sym, ap, ◌∙◌, rules}
+use Rattle.std.proofs.Common.{sym, ap, ◌∙◌}
 use Rattle.design.specs.declared.Refusal.{Refusal}
 use Rattle.step.proofs.States.{holds_refused}
 use Rattle.step.proofs.holds.Goals as goal

@@ -1,4 +1,4 @@
-use Rattle.std.proofs.Common.{◌∙◌, rules}
+use Rattle.std.proofs.Common.{◌∙◌}
 use Rattle.step.proofs.Gates.{gate_passed}
 use Rattle.step.proofs.Answering.{replay_refused}
 use Rattle.step.proofs.replay.Goals as goal

@@ -2,7 +2,6 @@ use mathlib.Core.Path.{sym, ◌∙◌}
 use native.Mathlib.Omega.{arith}
 use Rattle.verdict.proofs.Calls.{short_clauses, short_values, short_trail, short_choices, ready}
 use Rattle.verdict.proofs.Sized.{sized_refusal, full_size}
-use borrow.Author.Rules.{rules}
 use Rattle.verdict.proofs.verdict.Goals as goal
 
 pub returns-then-clauses-m : goal.returns-then-clauses-m

@@ -1,7 +1,5 @@
-use Rattle.std.proofs.Common.{◌≡◌, ℕ, ◌+◌, ◌-◌, ◌*◌, ◌<◌, false, length, get_or, set, sym, refl, ◌∙◌, arith, length-set, rules}
-use Rattle.clauses.proofs.EmitSlots.{bits_some, mark_read}
-use Rattle.clauses.proofs.EmitStates.{slotted_again, mark_over}
-use Rattle.clauses.proofs.EmitActions.{Listing, list_here, listing_start, listing_here, listing_on, listing_end, stmt_here, stmt_assign_here, stmt_assign_node, if_test_here, if_first_here, if_first_on, if_second_here, if_second_on, if_node}
+use Rattle.std.proofs.Common.{◌≡◌, ◌+◌, ◌-◌, ◌*◌, length}
+use Rattle.clauses.proofs.EmitActions.{Listing}
 use Rattle.clauses.proofs.action.+encode_list_encode_stmt.Given as goal
 
 abbrev pub decreases-encode_list : goal.decreases-encode_list

@@ -1,6 +1,5 @@
-use Rattle.std.proofs.Common.{◌≡◌, ◌-◌, length, refl, ◌∙◌, arith}
-use Rattle.clauses.specs.Writing.{from_code}
-use Rattle.clauses.proofs.EmitStates.{Muxing, muxing_start, muxing_on, muxing_end}
+use Rattle.std.proofs.Common.{refl, ◌∙◌, arith}
+use Rattle.clauses.proofs.EmitStates.{muxing_start, muxing_on, muxing_end}
 use Rattle.clauses.proofs.action.muxes.Goals as goal
 
 pub loop-i-init : goal.loop-i-init

@@ -1,6 +1,6 @@
-use Rattle.std.proofs.Common.{◌≡◌, ◌-◌, length, refl, ◌∙◌, arith}
+use Rattle.std.proofs.Common.{◌≡◌, ◌-◌, length}
 use Rattle.clauses.specs.Writing.{from_code}
-use Rattle.clauses.proofs.EmitStates.{Muxing, muxing_start, muxing_on, muxing_end}
+use Rattle.clauses.proofs.EmitStates.{Muxing}
 use Rattle.clauses.proofs.action.muxes.Given as goal
 
 abbrev pub invariant-loop-i : goal.invariant-loop-i

@@ -1,5 +1,5 @@
-use Rattle.std.proofs.Common.{◌≡◌, ◌-◌, length, ◌∙◌, arith, rules}
-use Rattle.clauses.proofs.EmitStates.{Storing, storing_start, storing_on, storing_end}
+use Rattle.std.proofs.Common.{◌≡◌, length, ◌∙◌, arith, rules}
+use Rattle.clauses.proofs.EmitStates.{storing_start, storing_on, storing_end}
 use Rattle.clauses.proofs.action.store_word.Goals as goal
 
 pub loop-i-init : goal.loop-i-init

@@ -1,5 +1,5 @@
-use Rattle.std.proofs.Common.{◌≡◌, ◌-◌, length, ◌∙◌, arith, rules}
-use Rattle.clauses.proofs.EmitStates.{Storing, storing_start, storing_on, storing_end}
+use Rattle.std.proofs.Common.{◌-◌}
+use Rattle.clauses.proofs.EmitStates.{Storing}
 use Rattle.clauses.proofs.action.store_word.Given as goal
 
 abbrev pub invariant-loop-i : goal.invariant-loop-i

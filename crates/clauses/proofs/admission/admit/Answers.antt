@@ -1,4 +1,4 @@
-use Rattle.std.proofs.Common.{arith, rules}
+use Rattle.std.proofs.Common.{arith}
 use Rattle.step.proofs.Gates.{gate_passed}
 use Rattle.clauses.proofs.Admissions.{admission_refuses, admission_19, admission_sizes_lem}
 use Rattle.clauses.proofs.admission.admit.Goals as goal

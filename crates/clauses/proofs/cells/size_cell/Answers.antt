@@ -1,4 +1,4 @@
-use Rattle.std.proofs.Common.{ℕ, ◌+◌, ◌∙◌, ap₂, arith, rules}
+use Rattle.std.proofs.Common.{ℕ, ◌+◌, ◌∙◌, ap₂, arith}
 use Rattle.clauses.proofs.CellCounts.{none_gates, more_gates, here_fields, here_normal, normal_passed, invalid_passed, normal_counted, invalid_counted}
 use Rattle.clauses.proofs.cells.size_cell.Goals as goal
 

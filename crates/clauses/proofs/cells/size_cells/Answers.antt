@@ -1,5 +1,5 @@
-use Rattle.std.proofs.Common.{refl, arith}
-use Rattle.clauses.proofs.CellCounts.{sizes, Walking, walking_start, cell_here, sum_few, walking_on, all_counted}
+use Rattle.std.proofs.Common.{arith}
+use Rattle.clauses.proofs.CellCounts.{sizes, walking_start, cell_here, sum_few, walking_on, all_counted}
 use Rattle.clauses.proofs.cells.size_cells.Goals as goal
 
 pub trailer_word-left-requires : goal.trailer_word-left-requires

@@ -1,5 +1,4 @@
-use Rattle.std.proofs.Common.{refl, arith}
-use Rattle.clauses.proofs.CellCounts.{sizes, Walking, walking_start, cell_here, sum_few, walking_on, all_counted}
+use Rattle.clauses.proofs.CellCounts.{Walking}
 use Rattle.clauses.proofs.cells.size_cells.Given as goal
 
 abbrev pub invariant-loop-left : goal.invariant-loop-left

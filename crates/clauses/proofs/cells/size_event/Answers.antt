@@ -1,4 +1,4 @@
-use Rattle.std.proofs.Common.{false, arith, rules}
+use Rattle.std.proofs.Common.{false, arith}
 use Rattle.design.specs.Limits.{max_depth}
 use Rattle.clauses.proofs.CellCounts.{sizes, event_slot, event_inside, event_reads, event_gates}
 use Rattle.clauses.proofs.cells.size_event.Goals as goal

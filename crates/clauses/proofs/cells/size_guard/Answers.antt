@@ -1,4 +1,4 @@
-use Rattle.std.proofs.Common.{false, arith, rules}
+use Rattle.std.proofs.Common.{false, arith}
 use Rattle.design.specs.Limits.{max_depth}
 use Rattle.clauses.proofs.TextGates.{bool_few}
 use Rattle.clauses.proofs.CellCounts.{sizes, few_gates, none_gates, guard_none, guard_inside, guard_reads, guard_gates}

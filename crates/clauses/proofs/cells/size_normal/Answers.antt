@@ -1,4 +1,4 @@
-use Rattle.std.proofs.Common.{ℕ, ◌+◌, ap, ap₂, arith, rules}
+use Rattle.std.proofs.Common.{ℕ, ◌+◌, ap, ap₂, arith}
 use Rattle.clauses.specs.declared.cost.GatesAt.{GatesAt}
 use Rattle.clauses.proofs.TextGates.{list_few}
 use Rattle.clauses.proofs.CellCounts.{sizes, kinds, normal_fields, action_reads, normal_gates}

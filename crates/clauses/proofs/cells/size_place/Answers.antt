@@ -1,4 +1,4 @@
-use Rattle.std.proofs.Common.{refl, arith, rules}
+use Rattle.std.proofs.Common.{refl, arith}
 use Rattle.clauses.proofs.CellCounts.{place_range, place_gates}
 use Rattle.clauses.proofs.cells.size_place.Goals as goal
 

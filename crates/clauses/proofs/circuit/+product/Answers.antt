@@ -1,4 +1,4 @@
-use Rattle.std.proofs.Common.{ℕ, ◌<◌, arith, rules}
+use Rattle.std.proofs.Common.{arith}
 use Rattle.clauses.proofs.EmitWords.{code_no}
 use Rattle.clauses.proofs.EmitCircuits.{product_done, product_on}
 use Rattle.clauses.proofs.circuit.+product.Goals as goal

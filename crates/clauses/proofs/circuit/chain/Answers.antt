@@ -1,6 +1,5 @@
-use Rattle.std.proofs.Common.{◌≡◌, ◌-◌, length, refl, arith, rules}
-use Rattle.clauses.specs.Writing.{from_code}
-use Rattle.clauses.proofs.EmitCircuits.{Chaining, chaining_start, chaining_on, chaining_end}
+use Rattle.std.proofs.Common.{◌≡◌, length, refl, arith, rules}
+use Rattle.clauses.proofs.EmitCircuits.{chaining_start, chaining_on, chaining_end}
 use Rattle.clauses.proofs.circuit.chain.Goals as goal
 
 pub loop-i-init : goal.loop-i-init

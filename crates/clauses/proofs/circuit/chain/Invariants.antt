@@ -1,6 +1,6 @@
-use Rattle.std.proofs.Common.{◌≡◌, ◌-◌, length, refl, arith, rules}
+use Rattle.std.proofs.Common.{◌≡◌, ◌-◌, length}
 use Rattle.clauses.specs.Writing.{from_code}
-use Rattle.clauses.proofs.EmitCircuits.{Chaining, chaining_start, chaining_on, chaining_end}
+use Rattle.clauses.proofs.EmitCircuits.{Chaining}
 use Rattle.clauses.proofs.circuit.chain.Given as goal
 
 abbrev pub invariant-loop-i : goal.invariant-loop-i

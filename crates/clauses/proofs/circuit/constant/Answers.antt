@@ -1,5 +1,5 @@
-use Rattle.std.proofs.Common.{◌-◌, refl, arith}
-use Rattle.clauses.proofs.EmitSlots.{Counting, counting_start, counting_on, counting_end}
+use Rattle.std.proofs.Common.{refl}
+use Rattle.clauses.proofs.EmitSlots.{counting_start, counting_on, counting_end}
 use Rattle.clauses.proofs.circuit.constant.Goals as goal
 
 pub loop-i-init : goal.loop-i-init

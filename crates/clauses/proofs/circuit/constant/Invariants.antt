@@ -1,5 +1,5 @@
-use Rattle.std.proofs.Common.{◌-◌, refl, arith}
-use Rattle.clauses.proofs.EmitSlots.{Counting, counting_start, counting_on, counting_end}
+use Rattle.std.proofs.Common.{◌-◌}
+use Rattle.clauses.proofs.EmitSlots.{Counting}
 use Rattle.clauses.proofs.circuit.constant.Given as goal
 
 abbrev pub invariant-loop-i : goal.invariant-loop-i

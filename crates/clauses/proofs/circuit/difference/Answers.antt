@@ -1,6 +1,5 @@
 use Rattle.clauses.proofs.EmitWords.{code_yes}
 use Rattle.clauses.proofs.EmitCircuits.{difference_emits}
-use Rattle.std.proofs.Common.{rules}
 use Rattle.clauses.proofs.circuit.difference.Goals as goal
 
 pub returns : goal.returns

@@ -1,5 +1,4 @@
 use Rattle.clauses.proofs.EmitCircuits.{less_emits}
-use Rattle.std.proofs.Common.{rules}
 use Rattle.clauses.proofs.circuit.less.Goals as goal
 
 pub returns : goal.returns

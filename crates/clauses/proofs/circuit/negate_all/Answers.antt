@@ -1,5 +1,5 @@
-use Rattle.std.proofs.Common.{◌≡◌, ◌-◌, length, refl, arith, rules}
-use Rattle.clauses.proofs.EmitCircuits.{Negating, negating_start, negating_on, negating_end}
+use Rattle.std.proofs.Common.{◌≡◌, length, refl, rules}
+use Rattle.clauses.proofs.EmitCircuits.{negating_start, negating_on, negating_end}
 use Rattle.clauses.proofs.circuit.negate_all.Goals as goal
 
 pub loop-i-init : goal.loop-i-init

@@ -1,5 +1,5 @@
-use Rattle.std.proofs.Common.{◌≡◌, ◌-◌, length, refl, arith, rules}
-use Rattle.clauses.proofs.EmitCircuits.{Negating, negating_start, negating_on, negating_end}
+use Rattle.std.proofs.Common.{◌-◌}
+use Rattle.clauses.proofs.EmitCircuits.{Negating}
 use Rattle.clauses.proofs.circuit.negate_all.Given as goal
 
 abbrev pub invariant-loop-i : goal.invariant-loop-i

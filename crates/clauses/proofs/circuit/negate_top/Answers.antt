@@ -1,4 +1,4 @@
-use Rattle.std.proofs.Common.{◌≡◌, ◌-◌, length, rules}
+use Rattle.std.proofs.Common.{◌≡◌, length, rules}
 use Rattle.clauses.proofs.EmitCircuits.{negate_top_lem}
 use Rattle.clauses.proofs.circuit.negate_top.Goals as goal
 

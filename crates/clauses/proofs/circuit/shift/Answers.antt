@@ -1,5 +1,5 @@
-use Rattle.std.proofs.Common.{◌≡◌, ◌-◌, length, arith, rules}
-use Rattle.clauses.proofs.EmitCircuits.{Shifting, shifting_start, shifting_on, shifting_end}
+use Rattle.std.proofs.Common.{◌≡◌, length, rules}
+use Rattle.clauses.proofs.EmitCircuits.{shifting_start, shifting_on, shifting_end}
 use Rattle.clauses.proofs.circuit.shift.Goals as goal
 
 pub loop-i-init : goal.loop-i-init

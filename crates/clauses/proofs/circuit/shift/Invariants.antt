@@ -1,5 +1,5 @@
-use Rattle.std.proofs.Common.{◌≡◌, ◌-◌, length, arith, rules}
-use Rattle.clauses.proofs.EmitCircuits.{Shifting, shifting_start, shifting_on, shifting_end}
+use Rattle.std.proofs.Common.{◌-◌}
+use Rattle.clauses.proofs.EmitCircuits.{Shifting}
 use Rattle.clauses.proofs.circuit.shift.Given as goal
 
 abbrev pub invariant-loop-i : goal.invariant-loop-i

@@ -1,6 +1,5 @@
-use Rattle.std.proofs.Common.{◌≡◌, ◌-◌, length, refl, arith, rules}
-use Rattle.clauses.specs.Writing.{from_code}
-use Rattle.clauses.proofs.EmitCircuits.{Summing, summing_start, summing_on, summing_end}
+use Rattle.std.proofs.Common.{◌≡◌, length, refl, arith, rules}
+use Rattle.clauses.proofs.EmitCircuits.{summing_start, summing_on, summing_end}
 use Rattle.clauses.proofs.circuit.sum.Goals as goal
 
 pub loop-i-init : goal.loop-i-init

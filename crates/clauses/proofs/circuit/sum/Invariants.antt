@@ -1,6 +1,6 @@
-use Rattle.std.proofs.Common.{◌≡◌, ◌-◌, length, refl, arith, rules}
+use Rattle.std.proofs.Common.{◌≡◌, ◌-◌, length}
 use Rattle.clauses.specs.Writing.{from_code}
-use Rattle.clauses.proofs.EmitCircuits.{Summing, summing_start, summing_on, summing_end}
+use Rattle.clauses.proofs.EmitCircuits.{Summing}
 use Rattle.clauses.proofs.circuit.sum.Given as goal
 
 abbrev pub invariant-loop-i : goal.invariant-loop-i

@@ -1,5 +1,4 @@
 use Rattle.clauses.proofs.EmitCircuits.{bit_emits}
-use Rattle.std.proofs.Common.{rules}
 use Rattle.clauses.proofs.circuit.sum_bit.Goals as goal
 
 pub returns : goal.returns

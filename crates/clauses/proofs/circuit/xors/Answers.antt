@@ -1,6 +1,6 @@
-use Rattle.std.proofs.Common.{◌≡◌, ◌-◌, length, refl, arith, rules}
+use Rattle.std.proofs.Common.{◌≡◌, length, refl, arith, rules}
 use Rattle.clauses.specs.Circuit.{xor!, xors! }
-use Rattle.clauses.proofs.EmitCircuits.{Rowing, rowing_start, rowing_on, rowing_all, xors_row}
+use Rattle.clauses.proofs.EmitCircuits.{rowing_start, rowing_on, rowing_all, xors_row}
 use Rattle.clauses.proofs.circuit.xors.Goals as goal
 
 pub loop-i-init : goal.loop-i-init

@@ -1,6 +1,6 @@
-use Rattle.std.proofs.Common.{◌≡◌, ◌-◌, length, refl, arith, rules}
-use Rattle.clauses.specs.Circuit.{xor!, xors! }
-use Rattle.clauses.proofs.EmitCircuits.{Rowing, rowing_start, rowing_on, rowing_all, xors_row}
+use Rattle.std.proofs.Common.{◌≡◌, ◌-◌, length}
+use Rattle.clauses.specs.Circuit.{xors! }
+use Rattle.clauses.proofs.EmitCircuits.{Rowing}
 use Rattle.clauses.proofs.circuit.xors.Given as goal
 
 abbrev pub invariant-loop-i : goal.invariant-loop-i

@@ -1,10 +1,9 @@
-use Rattle.std.proofs.Common.{◌≡◌, ◌+◌, ◌-◌, ◌≤◌, [], ◌∷◌, length, refl, ap, ◌∙◌, ap₂, arith}
-use Rattle.clauses.specs.Writing.{variable_limit}
+use Rattle.std.proofs.Common.{[], ◌∷◌, refl, ap, ◌∙◌, ap₂, arith}
 use Rattle.clauses.specs.Literal.{Literal, positive, negate}
 use Rattle.clauses.specs.Words.{clause_words, words}
 use Rattle.clauses.specs.Circuit.{Bits}
 use Rattle.clauses.specs.Formula.{against}
-use Rattle.clauses.proofs.EmitClauses.{Putting, putting_start, putting_on, putting_end, clause_puts}
+use Rattle.clauses.proofs.EmitClauses.{putting_start, putting_on, putting_end, clause_puts}
 use Rattle.clauses.proofs.clause.put_against.Goals as goal
 
 pub loop-i-init : goal.loop-i-init

@@ -1,10 +1,10 @@
-use Rattle.std.proofs.Common.{◌≡◌, ◌+◌, ◌-◌, ◌≤◌, [], ◌∷◌, length, refl, ap, ◌∙◌, ap₂, arith}
+use Rattle.std.proofs.Common.{◌≡◌, ◌+◌, ◌-◌, ◌≤◌, length}
 use Rattle.clauses.specs.Writing.{variable_limit}
-use Rattle.clauses.specs.Literal.{Literal, positive, negate}
-use Rattle.clauses.specs.Words.{clause_words, words}
+use Rattle.clauses.specs.Literal.{positive}
+use Rattle.clauses.specs.Words.{words}
 use Rattle.clauses.specs.Circuit.{Bits}
 use Rattle.clauses.specs.Formula.{against}
-use Rattle.clauses.proofs.EmitClauses.{Putting, putting_start, putting_on, putting_end, clause_puts}
+use Rattle.clauses.proofs.EmitClauses.{Putting}
 use Rattle.clauses.proofs.clause.put_against.Given as goal
 
 abbrev pub invariant-loop-i : goal.invariant-loop-i

@@ -1,5 +1,5 @@
-use Rattle.std.proofs.Common.{◌≡◌, ◌-◌, length, refl, arith}
-use Rattle.clauses.proofs.EmitFrames.{Tied, tied_start, tied_on, tied_end}
+use Rattle.std.proofs.Common.{refl, arith}
+use Rattle.clauses.proofs.EmitFrames.{tied_start, tied_on, tied_end}
 use Rattle.clauses.proofs.clause.put_all_ties.Goals as goal
 
 pub loop-i-init : goal.loop-i-init

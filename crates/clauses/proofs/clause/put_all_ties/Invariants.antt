@@ -1,5 +1,5 @@
-use Rattle.std.proofs.Common.{◌≡◌, ◌-◌, length, refl, arith}
-use Rattle.clauses.proofs.EmitFrames.{Tied, tied_start, tied_on, tied_end}
+use Rattle.std.proofs.Common.{◌≡◌, ◌-◌, length}
+use Rattle.clauses.proofs.EmitFrames.{Tied}
 use Rattle.clauses.proofs.clause.put_all_ties.Given as goal
 
 abbrev pub invariant-loop-i : goal.invariant-loop-i

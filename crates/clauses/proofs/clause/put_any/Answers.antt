@@ -1,7 +1,7 @@
-use Rattle.std.proofs.Common.{◌≡◌, ◌-◌, [], ◌∷◌, length, refl, arith}
+use Rattle.std.proofs.Common.{[], ◌∷◌, refl, arith}
 use Rattle.clauses.specs.Literal.{positive}
 use Rattle.clauses.specs.Words.{word_of, clause_words}
-use Rattle.clauses.proofs.EmitClauses.{Putting, putting_start, putting_on, any_end, literal_puts}
+use Rattle.clauses.proofs.EmitClauses.{putting_start, putting_on, any_end, literal_puts}
 use Rattle.clauses.proofs.clause.put_any.Goals as goal
 
 pub loop-i-init : goal.loop-i-init

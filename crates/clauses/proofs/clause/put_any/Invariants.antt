@@ -1,7 +1,6 @@
-use Rattle.std.proofs.Common.{◌≡◌, ◌-◌, [], ◌∷◌, length, refl, arith}
-use Rattle.clauses.specs.Literal.{positive}
-use Rattle.clauses.specs.Words.{word_of, clause_words}
-use Rattle.clauses.proofs.EmitClauses.{Putting, putting_start, putting_on, any_end, literal_puts}
+use Rattle.std.proofs.Common.{◌≡◌, ◌-◌, length}
+use Rattle.clauses.specs.Words.{clause_words}
+use Rattle.clauses.proofs.EmitClauses.{Putting}
 use Rattle.clauses.proofs.clause.put_any.Given as goal
 
 abbrev pub invariant-loop-i : goal.invariant-loop-i

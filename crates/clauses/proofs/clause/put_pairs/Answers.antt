@@ -1,5 +1,5 @@
-use Rattle.std.proofs.Common.{◌≡◌, ◌-◌, [], length, refl, arith}
-use Rattle.clauses.proofs.EmitClauses.{Pairing, pairing_start, pairing_on, pairing_end}
+use Rattle.std.proofs.Common.{refl, arith}
+use Rattle.clauses.proofs.EmitClauses.{pairing_start, pairing_on, pairing_end}
 use Rattle.clauses.proofs.clause.put_pairs.Goals as goal
 
 pub loop-left-init : goal.loop-left-init

@@ -1,5 +1,5 @@
-use Rattle.std.proofs.Common.{◌≡◌, ◌-◌, [], length, refl, arith}
-use Rattle.clauses.proofs.EmitClauses.{Pairing, pairing_start, pairing_on, pairing_end}
+use Rattle.std.proofs.Common.{◌≡◌, length}
+use Rattle.clauses.proofs.EmitClauses.{Pairing}
 use Rattle.clauses.proofs.clause.put_pairs.Given as goal
 
 abbrev pub invariant-loop-left : goal.invariant-loop-left

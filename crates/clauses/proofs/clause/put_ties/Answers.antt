@@ -1,7 +1,6 @@
-use Rattle.std.proofs.Common.{◌≡◌, ◌+◌, ◌-◌, ◌≤◌, [], length, refl, ap, ◌∙◌, arith}
-use Rattle.clauses.specs.Writing.{variable_limit}
-use Rattle.clauses.specs.Literal.{positive, negate}
-use Rattle.clauses.proofs.EmitClauses.{Tying, tying_start, tying_on, tying_end}
+use Rattle.std.proofs.Common.{refl, ap, ◌∙◌, arith}
+use Rattle.clauses.specs.Literal.{negate}
+use Rattle.clauses.proofs.EmitClauses.{tying_start, tying_on, tying_end}
 use Rattle.clauses.proofs.clause.put_ties.Goals as goal
 
 pub loop-i-init : goal.loop-i-init

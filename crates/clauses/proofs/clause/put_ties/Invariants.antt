@@ -1,7 +1,7 @@
-use Rattle.std.proofs.Common.{◌≡◌, ◌+◌, ◌-◌, ◌≤◌, [], length, refl, ap, ◌∙◌, arith}
+use Rattle.std.proofs.Common.{◌≡◌, ◌+◌, ◌-◌, ◌≤◌, length}
 use Rattle.clauses.specs.Writing.{variable_limit}
-use Rattle.clauses.specs.Literal.{positive, negate}
-use Rattle.clauses.proofs.EmitClauses.{Tying, tying_start, tying_on, tying_end}
+use Rattle.clauses.specs.Literal.{positive}
+use Rattle.clauses.proofs.EmitClauses.{Tying}
 use Rattle.clauses.proofs.clause.put_ties.Given as goal
 
 abbrev pub invariant-loop-i : goal.invariant-loop-i

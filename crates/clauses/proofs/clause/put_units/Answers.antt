@@ -1,5 +1,5 @@
-use Rattle.std.proofs.Common.{◌≡◌, ◌-◌, [], length, refl, arith}
-use Rattle.clauses.proofs.EmitClauses.{Giving, giving_start, giving_on, giving_end}
+use Rattle.std.proofs.Common.{refl, arith}
+use Rattle.clauses.proofs.EmitClauses.{giving_start, giving_on, giving_end}
 use Rattle.clauses.proofs.clause.put_units.Goals as goal
 
 pub loop-i-init : goal.loop-i-init

@@ -1,5 +1,5 @@
-use Rattle.std.proofs.Common.{◌≡◌, ◌-◌, [], length, refl, arith}
-use Rattle.clauses.proofs.EmitClauses.{Giving, giving_start, giving_on, giving_end}
+use Rattle.std.proofs.Common.{◌≡◌, ◌-◌, length}
+use Rattle.clauses.proofs.EmitClauses.{Giving}
 use Rattle.clauses.proofs.clause.put_units.Given as goal
 
 abbrev pub invariant-loop-i : goal.invariant-loop-i

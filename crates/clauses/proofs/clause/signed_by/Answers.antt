@@ -1,5 +1,3 @@
-use Rattle.std.proofs.Common.{◌-◌, []}
-use Rattle.clauses.specs.Literal.{positive, negate}
 use Rattle.clauses.proofs.EmitClauses.{bit_no, bit_yes}
 use Rattle.clauses.proofs.clause.signed_by.Goals as goal
 

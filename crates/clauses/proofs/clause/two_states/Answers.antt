@@ -1,5 +1,5 @@
-use Rattle.std.proofs.Common.{◌-◌, refl, arith}
-use Rattle.clauses.proofs.EmitClauses.{TwoRuns, two_runs, two_runs_on, two_runs_end}
+use Rattle.std.proofs.Common.{refl}
+use Rattle.clauses.proofs.EmitClauses.{two_runs, two_runs_on, two_runs_end}
 use Rattle.clauses.proofs.clause.two_states.Goals as goal
 
 pub loop-i-init : goal.loop-i-init

@@ -1,5 +1,5 @@
-use Rattle.std.proofs.Common.{◌-◌, refl, arith}
-use Rattle.clauses.proofs.EmitClauses.{TwoRuns, two_runs, two_runs_on, two_runs_end}
+use Rattle.std.proofs.Common.{◌-◌}
+use Rattle.clauses.proofs.EmitClauses.{TwoRuns}
 use Rattle.clauses.proofs.clause.two_states.Given as goal
 
 abbrev pub invariant-loop-i : goal.invariant-loop-i

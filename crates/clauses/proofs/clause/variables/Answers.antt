@@ -1,6 +1,5 @@
-use Rattle.std.proofs.Common.{◌-◌, [], refl, arith}
-use Rattle.clauses.specs.Literal.{positive}
-use Rattle.clauses.proofs.EmitClauses.{Listing, listing_start, listing_on, listing_end}
+use Rattle.std.proofs.Common.{refl}
+use Rattle.clauses.proofs.EmitClauses.{listing_start, listing_on, listing_end}
 use Rattle.clauses.proofs.clause.variables.Goals as goal
 
 pub loop-i-init : goal.loop-i-init

@@ -1,6 +1,5 @@
-use Rattle.std.proofs.Common.{◌-◌, [], refl, arith}
-use Rattle.clauses.specs.Literal.{positive}
-use Rattle.clauses.proofs.EmitClauses.{Listing, listing_start, listing_on, listing_end}
+use Rattle.std.proofs.Common.{◌-◌}
+use Rattle.clauses.proofs.EmitClauses.{Listing}
 use Rattle.clauses.proofs.clause.variables.Given as goal
 
 abbrev pub invariant-loop-i : goal.invariant-loop-i

@@ -1,7 +1,6 @@
-use Rattle.std.proofs.Common.{ℕ, ◌-◌, ◌<◌, true, false, ◌∙◌, inl, inr, arith}
+use Rattle.std.proofs.Common.{◌-◌, true, false, ◌∙◌, inl, inr, arith}
 use Rattle.step.proofs.Values.{int_live, int_unknown, int_first}
 use Rattle.clauses.proofs.TextGates.{int_few}
-use Rattle.clauses.proofs.EmitReads.{above}
 use Rattle.clauses.proofs.GateCounts.{int_next, int_then, int_number, int_name, int_joined, product_inside, product_operand, product_joined}
 use Rattle.clauses.proofs.cost.+size_int.Goals as goal
 use Rattle.clauses.proofs.cost.+size_int.Goals.{in_default-via-then-op-lt1, in_default-via-else-op-lt1+else-op-lt4+else-op-lt6+else-op-lt8}

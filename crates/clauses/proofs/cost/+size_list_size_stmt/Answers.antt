@@ -1,10 +1,9 @@
-use Rattle.std.proofs.Common.{ℕ, ◌-◌, ◌<◌, false, ap, inl, inr, arith}
+use Rattle.std.proofs.Common.{false, ap, inl, inr, arith}
 use Rattle.design.specs.Limits.{max_depth}
-use Rattle.design.specs.Check.{names_of}
 use Rattle.clauses.specs.declared.cost.GatesAt.{GatesAt}
 use Rattle.step.proofs.Runs.{stmt_unknown, list_live, stmt_live, seq_first, assign_live, if_test, if_deep}
 use Rattle.clauses.proofs.TextGates.{bool_few, statement_few, list_few}
-use Rattle.clauses.proofs.ActionCounts.{Counting, counting_start, counting_on, counting_few, counting_end, stated_assign, if_first, first_on, if_second, second_on, if_joined}
+use Rattle.clauses.proofs.ActionCounts.{counting_start, counting_on, counting_few, counting_end, stated_assign, if_first, first_on, if_second, second_on, if_joined}
 use Rattle.clauses.proofs.cost.+size_list_size_stmt.Goals as goal
 use Rattle.clauses.proofs.cost.+size_list_size_stmt.Goals.{size_stmt-in_default-via-then-op-lt32, size_stmt-in_default-via-else-op-lt32+else-op-lt34}
 

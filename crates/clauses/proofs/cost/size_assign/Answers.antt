@@ -1,4 +1,4 @@
-use Rattle.std.proofs.Common.{◌≡◌, ℕ, ◌*◌, false, get_or, sym, ap, ◌∙◌, arith, rules}
+use Rattle.std.proofs.Common.{◌≡◌, ℕ, ◌*◌, false, get_or, sym, ap, ◌∙◌, arith}
 use Rattle.design.specs.Limits.{max_depth}
 use Rattle.step.proofs.Runs.{assign_inside, assign_int, assign_bool}
 use Rattle.clauses.proofs.ActionCounts.{assigned_int, assigned_bool}

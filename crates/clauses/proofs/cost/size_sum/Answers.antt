@@ -1,4 +1,4 @@
-use Rattle.std.proofs.Common.{Bool, sym, ap, ◌∙◌, rules}
+use Rattle.std.proofs.Common.{Bool, sym, ap, ◌∙◌}
 use Rattle.clauses.specs.Cost.{add_costs, sum_cost, sum_mark_cost}
 use Rattle.clauses.specs.FrameSizes.{both_with}
 use Rattle.clauses.proofs.cost.size_sum.Goals as goal

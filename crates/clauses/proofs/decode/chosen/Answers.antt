@@ -1,4 +1,4 @@
-use Rattle.std.proofs.Common.{sym, ◌∙◌, arith, rules}
+use Rattle.std.proofs.Common.{sym, ◌∙◌, arith}
 use borrow.Author.Tests.{not-true, not-false}
 use Rattle.clauses.proofs.FlagChoices.{chosen_none, chosen_odd, chosen_more, chosen_one}
 use Rattle.clauses.proofs.decode.chosen.Goals as goal

@@ -1,4 +1,4 @@
-use Rattle.std.proofs.Common.{sym, ◌∙◌, arith, rules}
+use Rattle.std.proofs.Common.{sym, ◌∙◌, arith}
 use Rattle.clauses.proofs.Admissions.{admission_admitted}
 use Rattle.clauses.proofs.DecodeCall.{decode_refused, decode_passed}
 use Rattle.clauses.proofs.decode.decode.Goals as goal

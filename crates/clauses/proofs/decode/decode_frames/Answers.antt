@@ -1,4 +1,4 @@
-use Rattle.std.proofs.Common.{refl, rules}
+use Rattle.std.proofs.Common.{refl}
 use Rattle.clauses.proofs.DecodeCall.{short_values, short_choices, frames_fit, bad_frame, good_frames}
 use Rattle.clauses.proofs.decode.decode_frames.Goals as goal
 

@@ -1,5 +1,5 @@
-use Rattle.std.proofs.Common.{◌-◌, arith, rules}
-use Rattle.clauses.proofs.FlagChoices.{Testing, testing_start, testing_on, testing_bad, testing_end, frame_inside, flags_inside}
+use Rattle.std.proofs.Common.{arith}
+use Rattle.clauses.proofs.FlagChoices.{testing_start, testing_on, testing_bad, testing_end, frame_inside, flags_inside}
 use Rattle.clauses.proofs.decode.first_bad.Goals as goal
 
 pub loop-j-init : goal.loop-j-init

@@ -1,5 +1,5 @@
-use Rattle.std.proofs.Common.{◌-◌, arith, rules}
-use Rattle.clauses.proofs.FlagChoices.{Testing, testing_start, testing_on, testing_bad, testing_end, frame_inside, flags_inside}
+use Rattle.std.proofs.Common.{◌-◌}
+use Rattle.clauses.proofs.FlagChoices.{Testing}
 use Rattle.clauses.proofs.decode.first_bad.Given as goal
 
 abbrev pub invariant-loop-j : goal.invariant-loop-j

@@ -1,5 +1,4 @@
-use Rattle.std.proofs.Common.{◌-◌, length, rules}
-use Rattle.clauses.proofs.FlagChoices.{Passing, passing_start, passing_on, passing_found, passing_end}
+use Rattle.clauses.proofs.FlagChoices.{passing_start, passing_on, passing_found, passing_end}
 use Rattle.clauses.proofs.decode.first_nonzero.Goals as goal
 
 pub loop-i-init : goal.loop-i-init

@@ -1,5 +1,5 @@
-use Rattle.std.proofs.Common.{◌-◌, length, rules}
-use Rattle.clauses.proofs.FlagChoices.{Passing, passing_start, passing_on, passing_found, passing_end}
+use Rattle.std.proofs.Common.{◌-◌, length}
+use Rattle.clauses.proofs.FlagChoices.{Passing}
 use Rattle.clauses.proofs.decode.first_nonzero.Given as goal
 
 abbrev pub invariant-loop-i : goal.invariant-loop-i

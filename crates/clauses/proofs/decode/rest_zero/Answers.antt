@@ -1,5 +1,4 @@
-use Rattle.std.proofs.Common.{◌-◌, length, rules}
-use Rattle.clauses.proofs.FlagChoices.{Zeros, zero_start, zero_on, zero_found, zero_end}
+use Rattle.clauses.proofs.FlagChoices.{zero_start, zero_on, zero_found, zero_end}
 use Rattle.clauses.proofs.decode.rest_zero.Goals as goal
 
 pub loop-i-init : goal.loop-i-init

@@ -1,5 +1,5 @@
-use Rattle.std.proofs.Common.{◌-◌, length, rules}
-use Rattle.clauses.proofs.FlagChoices.{Zeros, zero_start, zero_on, zero_found, zero_end}
+use Rattle.std.proofs.Common.{◌-◌, length}
+use Rattle.clauses.proofs.FlagChoices.{Zeros}
 use Rattle.clauses.proofs.decode.rest_zero.Given as goal
 
 abbrev pub invariant-loop-i : goal.invariant-loop-i

@@ -1,5 +1,5 @@
-use Rattle.std.proofs.Common.{◌-◌, arith, rules}
-use Rattle.clauses.proofs.FlagChoices.{Writing, writing_start, writing_on, writing_end, frame_inside, flags_inside, flags_long}
+use Rattle.std.proofs.Common.{arith}
+use Rattle.clauses.proofs.FlagChoices.{writing_start, writing_on, writing_end, frame_inside, flags_inside, flags_long}
 use Rattle.clauses.proofs.decode.write_choices.Goals as goal
 
 pub loop-j-init : goal.loop-j-init

@@ -1,4 +1,4 @@
-use Rattle.std.proofs.Common.{sym, ◌∙◌, arith, rules}
+use Rattle.std.proofs.Common.{sym, ◌∙◌, arith}
 use Rattle.clauses.proofs.Admissions.{admission_admitted}
 use Rattle.clauses.proofs.EncodeCall.{encode_refused, encode_part}
 use Rattle.clauses.proofs.encode.encode.Goals as goal

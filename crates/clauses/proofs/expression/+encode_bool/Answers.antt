@@ -1,4 +1,4 @@
-use Rattle.std.proofs.Common.{ℕ, ◌-◌, ◌<◌, Bool, length, get_or, inl, inr, arith, rules}
+use Rattle.std.proofs.Common.{Bool, get_or, inl, inr, arith}
 use Rattle.design.specs.Tree.{not_b}
 use Rattle.step.proofs.Values.{logic_of}
 use Rattle.clauses.specs.Literal.{Literal, negate}

@@ -1,4 +1,4 @@
-use Rattle.std.proofs.Common.{ℕ, ◌+◌, ◌-◌, ◌<◌, length, get_or, inl, inr, arith, rules}
+use Rattle.std.proofs.Common.{◌+◌, get_or, inl, inr, arith}
 use Rattle.design.specs.DesignFile.{at16}
 use Rattle.design.specs.Tree.{product}
 use Rattle.step.proofs.Values.{arithmetic_of}

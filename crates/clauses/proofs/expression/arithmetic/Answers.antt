@@ -1,4 +1,4 @@
-use Rattle.std.proofs.Common.{refl, rules}
+use Rattle.std.proofs.Common.{refl}
 use Rattle.clauses.specs.Encoders.{summed}
 use Rattle.clauses.proofs.EmitWords.{code_no}
 use Rattle.clauses.proofs.EmitExpressions.{sum_emits, minus_emits}

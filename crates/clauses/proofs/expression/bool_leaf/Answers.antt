@@ -1,4 +1,4 @@
-use Rattle.std.proofs.Common.{◌+◌, ltb, get_or, refl, arith, rules}
+use Rattle.std.proofs.Common.{◌+◌, ltb, get_or, refl, arith}
 use Rattle.clauses.proofs.EmitExpressions.{bool_byte, truth_here, flag_is, flag_inside, flag_here, truth_leaf, flag_leaf}
 use Rattle.clauses.proofs.expression.bool_leaf.Goals as goal
 

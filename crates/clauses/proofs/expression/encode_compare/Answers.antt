@@ -1,4 +1,4 @@
-use Rattle.std.proofs.Common.{Bool, get_or, arith, rules}
+use Rattle.std.proofs.Common.{Bool, get_or, arith}
 use Rattle.step.proofs.Values.{compare_of}
 use Rattle.clauses.specs.Circuit.{Bits, WithMark}
 use Rattle.clauses.specs.Builders.{beside!, compare! }

@@ -1,6 +1,5 @@
 use Rattle.clauses.proofs.EmitWords.{code_no}
 use Rattle.clauses.proofs.EmitExpressions.{test_node}
-use Rattle.std.proofs.Common.{rules}
 use Rattle.clauses.proofs.expression.encode_test.Goals as goal
 
 pub encode_bool-x-requires : goal.encode_bool-x-requires

@@ -1,4 +1,4 @@
-use Rattle.std.proofs.Common.{true, false, refl, arith, rules}
+use Rattle.std.proofs.Common.{true, false, refl, arith}
 use Rattle.clauses.proofs.EmitExpressions.{int_byte, constant_here, slot_here, status_is, variable_here, status_here, int_outs, constant_leaf, variable_leaf, status_leaf}
 use Rattle.clauses.proofs.expression.int_leaf.Goals as goal
 

@@ -1,5 +1,4 @@
-use Rattle.std.proofs.Common.{◌-◌, arith}
-use Rattle.clauses.proofs.EmitSlots.{Loading, loading_start, loading_on, loading_end}
+use Rattle.clauses.proofs.EmitSlots.{loading_start, loading_on, loading_end}
 use Rattle.clauses.proofs.expression.load.Goals as goal
 
 pub loop-i-init : goal.loop-i-init

@@ -1,5 +1,5 @@
-use Rattle.std.proofs.Common.{◌-◌, arith}
-use Rattle.clauses.proofs.EmitSlots.{Loading, loading_start, loading_on, loading_end}
+use Rattle.std.proofs.Common.{◌-◌}
+use Rattle.clauses.proofs.EmitSlots.{Loading}
 use Rattle.clauses.proofs.expression.load.Given as goal
 
 abbrev pub invariant-loop-i : goal.invariant-loop-i

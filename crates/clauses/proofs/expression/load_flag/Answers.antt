@@ -1,4 +1,4 @@
-use Rattle.std.proofs.Common.{sym, ap, ◌∙◌, arith, rules}
+use Rattle.std.proofs.Common.{sym, ap, ◌∙◌, arith}
 use Rattle.clauses.specs.Expression.{lowest}
 use Rattle.clauses.proofs.EmitSlots.{variable_slot, variable_inside, boolean_width, lowest_one}
 use Rattle.clauses.proofs.expression.load_flag.Goals as goal

@@ -1,4 +1,4 @@
-use Rattle.std.proofs.Common.{ℕ, ◌+◌, ◌*◌, sym, ap, ◌∙◌, arith, rules}
+use Rattle.std.proofs.Common.{ℕ, ◌+◌, ◌*◌, sym, ap, ◌∙◌, arith}
 use Rattle.clauses.specs.Expression.{pad}
 use Rattle.clauses.proofs.EmitSlots.{status_slot_lem, status_inside}
 use Rattle.clauses.proofs.expression.load_status.Goals as goal

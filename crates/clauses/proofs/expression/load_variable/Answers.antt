@@ -1,4 +1,4 @@
-use Rattle.std.proofs.Common.{sym, ap, ◌∙◌, arith, rules}
+use Rattle.std.proofs.Common.{sym, ap, ◌∙◌, arith}
 use Rattle.clauses.specs.Expression.{pad}
 use Rattle.clauses.proofs.EmitSlots.{variable_slot, variable_inside, integer_width}
 use Rattle.clauses.proofs.expression.load_variable.Goals as goal

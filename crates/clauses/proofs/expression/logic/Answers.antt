@@ -1,4 +1,4 @@
-use Rattle.std.proofs.Common.{sym, refl, rules}
+use Rattle.std.proofs.Common.{sym, refl}
 use Rattle.clauses.proofs.EmitBuilds.{emits_same}
 use Rattle.clauses.proofs.EmitMarks.{beside_emits}
 use Rattle.clauses.proofs.EmitExpressions.{logic_and, logic_or}

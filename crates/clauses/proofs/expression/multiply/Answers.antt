@@ -1,4 +1,4 @@
-use Rattle.std.proofs.Common.{refl, rules}
+use Rattle.std.proofs.Common.{refl}
 use Rattle.clauses.proofs.EmitExpressions.{product_emits}
 use Rattle.clauses.proofs.expression.multiply.Goals as goal
 

@@ -1,4 +1,4 @@
-use Rattle.std.proofs.Common.{refl, arith, rules}
+use Rattle.std.proofs.Common.{refl, arith}
 use Rattle.clauses.proofs.EmitParts.{first_small, first_puts}
 use Rattle.clauses.proofs.first.put_first.Goals as goal
 

@@ -1,6 +1,6 @@
-use Rattle.std.proofs.Common.{◌≡◌, ◌-◌, length, refl, arith}
+use Rattle.std.proofs.Common.{refl, arith}
 use Rattle.design.proofs.Widths.{width_bound}
-use Rattle.clauses.proofs.EmitParts.{Valuing, valuing_start, valuing_on, valuing_end, values_inside}
+use Rattle.clauses.proofs.EmitParts.{valuing_start, valuing_on, valuing_end, values_inside}
 use Rattle.clauses.proofs.first.put_values.Goals as goal
 
 pub loop-v-init : goal.loop-v-init

@@ -1,6 +1,5 @@
-use Rattle.std.proofs.Common.{◌≡◌, ◌-◌, length, refl, arith}
-use Rattle.design.proofs.Widths.{width_bound}
-use Rattle.clauses.proofs.EmitParts.{Valuing, valuing_start, valuing_on, valuing_end, values_inside}
+use Rattle.std.proofs.Common.{◌≡◌, ◌-◌, length}
+use Rattle.clauses.proofs.EmitParts.{Valuing}
 use Rattle.clauses.proofs.first.put_values.Given as goal
 
 abbrev pub invariant-loop-v : goal.invariant-loop-v

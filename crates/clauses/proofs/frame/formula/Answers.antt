@@ -1,4 +1,4 @@
-use Rattle.std.proofs.Common.{arith, rules}
+use Rattle.std.proofs.Common.{arith}
 use Rattle.clauses.proofs.FrameNumbers.{formula_same, clauses_sum, words_sum}
 use Rattle.clauses.proofs.frame.formula.Goals as goal
 

@@ -1,5 +1,4 @@
 use Rattle.clauses.proofs.FrameNumbers.{pairs_halved}
-use Rattle.std.proofs.Common.{rules}
 use Rattle.clauses.proofs.frame.pairs.Goals as goal
 
 pub returns-else-m-eq0 : goal.returns-else-m-eq0

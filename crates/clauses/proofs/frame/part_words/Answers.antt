@@ -1,4 +1,4 @@
-use Rattle.std.proofs.Common.{refl, arith, rules}
+use Rattle.std.proofs.Common.{refl, arith}
 use Rattle.clauses.proofs.FrameNumbers.{part_first, part_last, part_end, part_step}
 use Rattle.clauses.proofs.frame.part_words.Goals as goal
 

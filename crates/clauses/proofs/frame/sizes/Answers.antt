@@ -1,4 +1,4 @@
-use Rattle.std.proofs.Common.{arith, rules}
+use Rattle.std.proofs.Common.{arith}
 use Rattle.design.proofs.Tables.{few_normals}
 use Rattle.design.proofs.Places.{read}
 use Rattle.clauses.proofs.FrameCounts.{frame_made, frame_small, last_one, last_none}

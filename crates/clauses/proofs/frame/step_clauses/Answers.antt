@@ -1,4 +1,4 @@
-use Rattle.std.proofs.Common.{arith, rules}
+use Rattle.std.proofs.Common.{arith}
 use Rattle.clauses.proofs.FrameNumbers.{ties_small}
 use Rattle.clauses.proofs.frame.step_clauses.Goals as goal
 

@@ -1,5 +1,4 @@
 use Rattle.clauses.proofs.FrameNumbers.{variables_sum}
-use Rattle.std.proofs.Common.{rules}
 use Rattle.clauses.proofs.frame.variables.Goals as goal
 
 pub returns : goal.returns

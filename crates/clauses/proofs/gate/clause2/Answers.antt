@@ -1,5 +1,4 @@
 use Rattle.clauses.proofs.EmitWords.{puts_then}
-use Rattle.std.proofs.Common.{rules}
 use Rattle.clauses.proofs.gate.clause2.Goals as goal
 
 pub returns : goal.returns

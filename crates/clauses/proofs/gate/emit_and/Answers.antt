@@ -1,5 +1,4 @@
 use Rattle.clauses.proofs.EmitBuilds.{and_emits}
-use Rattle.std.proofs.Common.{rules}
 use Rattle.clauses.proofs.gate.emit_and.Goals as goal
 
 pub returns : goal.returns

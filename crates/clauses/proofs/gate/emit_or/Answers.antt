@@ -1,5 +1,4 @@
 use Rattle.clauses.proofs.EmitBuilds.{or_emits}
-use Rattle.std.proofs.Common.{rules}
 use Rattle.clauses.proofs.gate.emit_or.Goals as goal
 
 pub returns : goal.returns

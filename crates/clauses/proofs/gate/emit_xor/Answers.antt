@@ -1,5 +1,4 @@
 use Rattle.clauses.proofs.EmitBuilds.{xor_emits}
-use Rattle.std.proofs.Common.{rules}
 use Rattle.clauses.proofs.gate.emit_xor.Goals as goal
 
 pub returns : goal.returns

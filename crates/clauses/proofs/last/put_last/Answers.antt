@@ -1,6 +1,6 @@
-use Rattle.std.proofs.Common.{◌≡◌, ◌-◌, length, refl, arith}
+use Rattle.std.proofs.Common.{refl, arith}
 use Rattle.clauses.proofs.FrameNumbers.{start_low}
-use Rattle.clauses.proofs.EmitParts.{Closing, closing_start, closing_on, closing_end}
+use Rattle.clauses.proofs.EmitParts.{closing_start, closing_on, closing_end}
 use Rattle.clauses.proofs.last.put_last.Goals as goal
 
 pub overflow_add-frames : goal.overflow_add-frames

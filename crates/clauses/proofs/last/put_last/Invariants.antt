@@ -1,6 +1,5 @@
-use Rattle.std.proofs.Common.{◌≡◌, ◌-◌, length, refl, arith}
-use Rattle.clauses.proofs.FrameNumbers.{start_low}
-use Rattle.clauses.proofs.EmitParts.{Closing, closing_start, closing_on, closing_end}
+use Rattle.std.proofs.Common.{◌≡◌, ◌-◌, length}
+use Rattle.clauses.proofs.EmitParts.{Closing}
 use Rattle.clauses.proofs.last.put_last.Given as goal
 
 abbrev pub invariant-loop-j : goal.invariant-loop-j

@@ -1,4 +1,4 @@
-use Rattle.std.proofs.Common.{arith, rules}
+use Rattle.std.proofs.Common.{arith}
 use Rattle.clauses.proofs.EmitParts.{step_out}
 use Rattle.clauses.proofs.last.step_literal.Goals as goal
 

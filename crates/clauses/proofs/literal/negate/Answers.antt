@@ -1,4 +1,4 @@
-use Rattle.std.proofs.Common.{refl, rules}
+use Rattle.std.proofs.Common.{refl}
 use Rattle.clauses.proofs.EmitWords.{negate_even, negate_odd}
 use Rattle.clauses.proofs.literal.negate.Goals as goal
 

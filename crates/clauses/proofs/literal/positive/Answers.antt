@@ -1,4 +1,4 @@
-use Rattle.std.proofs.Common.{refl, arith, rules}
+use Rattle.std.proofs.Common.{refl, arith}
 use Rattle.clauses.proofs.EmitWords.{code_even}
 use Rattle.clauses.proofs.literal.positive.Goals as goal
 

@@ -1,4 +1,4 @@
-use Rattle.std.proofs.Common.{[], ◌∷◌, ℤ, ap, arith, rules}
+use Rattle.std.proofs.Common.{[], ◌∷◌, ℤ, ap, arith}
 use Rattle.clauses.proofs.EmitWords.{puts_same, word_back}
 use Rattle.clauses.proofs.literal.put_literal.Goals as goal
 

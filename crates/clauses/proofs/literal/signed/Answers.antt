@@ -1,4 +1,4 @@
-use Rattle.std.proofs.Common.{◌/◌, arith, rules}
+use Rattle.std.proofs.Common.{◌/◌, arith}
 use Rattle.clauses.proofs.EmitWords.{minus_fits, signed_even, signed_odd}
 use Rattle.clauses.proofs.literal.signed.Goals as goal
 

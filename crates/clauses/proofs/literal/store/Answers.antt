@@ -1,4 +1,4 @@
-use Rattle.std.proofs.Common.{set, ℤ, sym, ap, to_z-of_z, rules}
+use Rattle.std.proofs.Common.{set, ℤ, sym, ap, to_z-of_z}
 use Rattle.clauses.proofs.EmitWords.{puts_one, set_past}
 use Rattle.clauses.proofs.literal.store.Goals as goal
 

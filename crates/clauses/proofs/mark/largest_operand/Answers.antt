@@ -1,4 +1,4 @@
-use Rattle.std.proofs.Common.{refl, arith, rules}
+use Rattle.std.proofs.Common.{refl, arith}
 use Rattle.clauses.proofs.EmitMarks.{largest_none, largest_low, largest_one, largest_high}
 use Rattle.clauses.proofs.mark.largest_operand.Goals as goal
 

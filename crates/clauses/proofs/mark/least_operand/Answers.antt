@@ -1,4 +1,4 @@
-use Rattle.std.proofs.Common.{refl, arith, rules}
+use Rattle.std.proofs.Common.{refl, arith}
 use Rattle.clauses.proofs.EmitMarks.{least_none, least_low, least_high}
 use Rattle.clauses.proofs.mark.least_operand.Goals as goal
 

@@ -1,4 +1,4 @@
-use Rattle.std.proofs.Common.{refl, rules}
+use Rattle.std.proofs.Common.{refl}
 use Rattle.clauses.proofs.EmitMarks.{mark_none, mark_some, product_passes_lem}
 use Rattle.clauses.specs.Writing.{from_codes}
 use Rattle.clauses.specs.Expression.{product_passes! }

@@ -1,7 +1,6 @@
 use Rattle.clauses.proofs.EmitMarks.{mark_none, mark_some, sum_passes_lem}
 use Rattle.clauses.specs.Expression.{sum_passes! }
 use Rattle.clauses.specs.Encoders.{summed}
-use Rattle.std.proofs.Common.{rules}
 use Rattle.clauses.proofs.mark.mark_sum.Goals as goal
 
 pub returns-then-not-pen : goal.returns-then-not-pen

@@ -1,7 +1,6 @@
 use Rattle.clauses.specs.FlatState.{slots_of, layout_of}
 use Rattle.clauses.proofs.EmitBuilds.{emits_same}
 use Rattle.clauses.proofs.EmitCells.{normal_fields, enable_emits, cell_event}
-use Rattle.std.proofs.Common.{rules}
 use Rattle.clauses.proofs.mover.encode_enable.Goals as goal
 
 pub status_and_event-a-requires : goal.status_and_event-a-requires

@@ -1,4 +1,4 @@
-use Rattle.std.proofs.Common.{false, [], ◌∷◌, set, refl, ap, ◌∙◌, arith, length-set, rules}
+use Rattle.std.proofs.Common.{false, [], ◌∷◌, set, refl, ap, ◌∙◌, arith, length-set}
 use Rattle.clauses.specs.Literal.{Literal, negate}
 use Rattle.clauses.specs.FlatState.{slots_of, layout_of}
 use Rattle.clauses.proofs.EmitWords.{code_yes}

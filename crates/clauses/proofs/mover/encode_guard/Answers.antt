@@ -1,4 +1,4 @@
-use Rattle.std.proofs.Common.{false, sym, ◌∙◌, arith, rules}
+use Rattle.std.proofs.Common.{false, sym, ◌∙◌, arith}
 use Rattle.clauses.specs.FlatState.{slots_of, layout_of}
 use Rattle.clauses.proofs.CellCounts.{sizes}
 use Rattle.clauses.proofs.EmitCells.{slotted, normal_fields, guard_none, guard_here, guard_writes, guard_true}

@@ -1,4 +1,4 @@
-use Rattle.std.proofs.Common.{ℕ, ◌+◌, false, refl, ap, ◌∙◌, arith, rules}
+use Rattle.std.proofs.Common.{ℕ, ◌+◌, false, refl, ap, ◌∙◌, arith}
 use Rattle.design.specs.DesignFile.{c_matrix, c_status, c_event}
 use Rattle.design.specs.Check.{event_in}
 use Rattle.clauses.specs.Expression.{constant_bits, integer_at}

@@ -1,7 +1,7 @@
-use Rattle.std.proofs.Common.{◌≡◌, ◌+◌, ◌-◌, length, refl, arith}
+use Rattle.std.proofs.Common.{refl, arith}
 use Rattle.clauses.specs.FlatState.{slots_of, layout_of}
 use Rattle.clauses.proofs.CellCounts.{kinds}
-use Rattle.clauses.proofs.EmitSteps.{few_cells, place_small, cell_here, cell_is, external_is, raised_kind, all_few, Moving, moving_start, moving_on, moving_end, mover_total}
+use Rattle.clauses.proofs.EmitSteps.{few_cells, place_small, cell_here, cell_is, external_is, raised_kind, all_few, moving_start, moving_on, moving_end, mover_total}
 use Rattle.clauses.proofs.movers.encode_step.Goals as goal
 
 pub loop-i-init : goal.loop-i-init

@@ -1,4 +1,4 @@
-use Rattle.std.proofs.Common.{arith, rules}
+use Rattle.std.proofs.Common.{arith}
 use Rattle.clauses.proofs.EmitFormula.{start_is}
 use Rattle.clauses.proofs.part.frame_start.Goals as goal
 

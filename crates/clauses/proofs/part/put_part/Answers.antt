@@ -1,4 +1,4 @@
-use Rattle.std.proofs.Common.{arith, rules}
+use Rattle.std.proofs.Common.{arith}
 use Rattle.clauses.proofs.EmitFormula.{first_part_lem, frame_part_lem, last_part}
 use Rattle.clauses.proofs.part.put_part.Goals as goal
 

@@ -1,5 +1,5 @@
-use Rattle.std.proofs.Common.{◌+◌, ◌-◌, arith}
-use Rattle.clauses.proofs.EmitFormula.{PartsLeft, parts_start, parts_on, parts_end}
+use Rattle.std.proofs.Common.{arith}
+use Rattle.clauses.proofs.EmitFormula.{parts_start, parts_on, parts_end}
 use Rattle.clauses.proofs.part.put_parts.Goals as goal
 
 pub loop-i-init : goal.loop-i-init

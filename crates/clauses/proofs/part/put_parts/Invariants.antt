@@ -1,5 +1,5 @@
-use Rattle.std.proofs.Common.{◌+◌, ◌-◌, arith}
-use Rattle.clauses.proofs.EmitFormula.{PartsLeft, parts_start, parts_on, parts_end}
+use Rattle.std.proofs.Common.{◌+◌, ◌-◌}
+use Rattle.clauses.proofs.EmitFormula.{PartsLeft}
 use Rattle.clauses.proofs.part.put_parts.Given as goal
 
 abbrev pub invariant-loop-i : goal.invariant-loop-i

@@ -1,5 +1,5 @@
 use borrow.Author.Tests.{not-true, not-false}
-use Rattle.std.proofs.Common.{true, sym, ◌∙◌, rules}
+use Rattle.std.proofs.Common.{true, sym, ◌∙◌}
 use Rattle.design.proofs.Positions.{constraint_none}
 use Rattle.clauses.specs.FlatState.{read_slots, layout_of}
 use Rattle.clauses.proofs.CellCounts.{sizes, tail}

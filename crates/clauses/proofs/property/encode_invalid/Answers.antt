@@ -1,8 +1,7 @@
-use Rattle.std.proofs.Common.{◌≡◌, ℕ, ◌+◌, ◌-◌, length, refl, ap₂, arith, rules}
-use Rattle.clauses.specs.Writing.{from_code}
+use Rattle.std.proofs.Common.{ℕ, ◌+◌, refl, ap₂, arith}
 use Rattle.clauses.proofs.EmitWords.{code_yes}
 use Rattle.clauses.proofs.CellCounts.{sizes}
-use Rattle.clauses.proofs.EmitSteps.{Scanning, scanning_start, scanning_on, scanning_end, cell_in}
+use Rattle.clauses.proofs.EmitSteps.{scanning_start, scanning_on, scanning_end, cell_in}
 use Rattle.clauses.proofs.property.encode_invalid.Goals as goal
 
 pub trailer_word-count-requires : goal.trailer_word-count-requires

@@ -1,8 +1,6 @@
-use Rattle.std.proofs.Common.{◌≡◌, ℕ, ◌+◌, ◌-◌, length, refl, ap₂, arith, rules}
+use Rattle.std.proofs.Common.{◌≡◌, ◌-◌, length}
 use Rattle.clauses.specs.Writing.{from_code}
-use Rattle.clauses.proofs.EmitWords.{code_yes}
-use Rattle.clauses.proofs.CellCounts.{sizes}
-use Rattle.clauses.proofs.EmitSteps.{Scanning, scanning_start, scanning_on, scanning_end, cell_in}
+use Rattle.clauses.proofs.EmitSteps.{Scanning}
 use Rattle.clauses.proofs.property.encode_invalid.Given as goal
 
 abbrev pub invariant-loop-i : goal.invariant-loop-i

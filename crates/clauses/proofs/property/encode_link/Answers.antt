@@ -1,4 +1,4 @@
-use Rattle.std.proofs.Common.{sym, ◌∙◌, arith, rules}
+use Rattle.std.proofs.Common.{sym, ◌∙◌, arith}
 use Rattle.clauses.specs.FlatState.{slots_of, layout_of}
 use Rattle.clauses.proofs.CellCounts.{sizes}
 use Rattle.clauses.proofs.EmitSteps.{link_pass, link_emits}

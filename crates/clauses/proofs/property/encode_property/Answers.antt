@@ -1,4 +1,4 @@
-use Rattle.std.proofs.Common.{false, refl, arith, rules}
+use Rattle.std.proofs.Common.{false, refl, arith}
 use Rattle.clauses.specs.FlatState.{slots_of}
 use Rattle.clauses.proofs.EmitSlots.{bits_some, mark_read}
 use Rattle.clauses.proofs.EmitCells.{slotted}

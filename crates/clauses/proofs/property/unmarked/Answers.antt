@@ -1,4 +1,4 @@
-use Rattle.std.proofs.Common.{ap, rules}
+use Rattle.std.proofs.Common.{ap}
 use Rattle.clauses.specs.Literal.{Literal}
 use Rattle.clauses.specs.Circuit.{and! }
 use Rattle.clauses.specs.Writing.{from_code}

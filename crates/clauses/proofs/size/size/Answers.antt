@@ -1,4 +1,4 @@
-use Rattle.std.proofs.Common.{sym, ◌∙◌, arith, rules}
+use Rattle.std.proofs.Common.{sym, ◌∙◌, arith}
 use Rattle.clauses.proofs.Admissions.{admission_admitted}
 use Rattle.clauses.proofs.SizeCall.{size_refused, size_answer}
 use Rattle.clauses.proofs.size.size.Goals as goal

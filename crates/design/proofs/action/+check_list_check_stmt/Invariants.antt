@@ -1,13 +1,9 @@
-use native.Mathlib.Omega.{arith}
-use Prim.Native.Nat.{ℕ, ◌<◌, ◌+◌, ◌-◌}
-use mathlib.Core.Path.{◌≡◌, sym, ap, ◌∙◌}
-use mathlib.Core.Logic.{inl, inr}
-use Rattle.design.specs.Action.{stmt_op, statements, statement as one, list}
+use Prim.Native.Nat.{◌<◌, ◌-◌}
+use mathlib.Core.Path.{◌≡◌}
+use Rattle.design.specs.Action.{statements, statement as one, list}
 use Rattle.design.specs.Answers.{found}
 use Rattle.design.specs.Check.{names_of}
-use Rattle.design.proofs.Readers.{list_past, list_in, seq_none, seq_bad, seq_more, stmt_past, stmt_assign, stmt_second, stmt_none, stmt_flat, if_bad, if_bad_then, if_else_lem}
-use Rattle.design.proofs.Forward.{bool_on, list_on, stmt_on}
-use Prim.Native.Nat.{ℕ, ◌<◌}
+use Prim.Native.Nat.{◌<◌}
 use Rattle.design.proofs.action.+check_list_check_stmt.Given as goal
 
 abbrev pub decreases-check_list : goal.decreases-check_list

@@ -2,7 +2,6 @@
 use native.Mathlib.Omega.{arith}
 use Rattle.design.proofs.Readers.{assign_past, assign_nothing, assign_int, assign_flag}
 use mathlib.Core.Path.{◌∙◌}
-use borrow.Author.Rules.{rules}
 use Rattle.design.proofs.action.check_assign.Goals as goal
 
 pub returns-then-end-at : goal.returns-then-end-at

@@ -1,6 +1,5 @@
 use native.Mathlib.Omega.{arith}
-use Prim.Native.Nat.{◌-◌}
-use Rattle.design.proofs.Widths.{Adding, adding_start, adding_on, adding_end, width_bound}
+use Rattle.design.proofs.Widths.{adding_start, adding_on, adding_end, width_bound}
 use Rattle.design.proofs.bits.offset.Goals as goal
 
 pub loop-i-init : goal.loop-i-init

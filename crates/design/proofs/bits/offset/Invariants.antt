@@ -1,6 +1,5 @@
-use native.Mathlib.Omega.{arith}
 use Prim.Native.Nat.{◌-◌}
-use Rattle.design.proofs.Widths.{Adding, adding_start, adding_on, adding_end, width_bound}
+use Rattle.design.proofs.Widths.{Adding}
 use Rattle.design.proofs.bits.offset.Given as goal
 
 abbrev pub invariant-loop-i : goal.invariant-loop-i

@@ -1,7 +1,6 @@
 use native.Mathlib.Omega.{arith}
 use mathlib.Core.Path.{◌∙◌}
 use Rattle.design.proofs.Widths.{state_size, variables_small, bits_are}
-use borrow.Author.Rules.{rules}
 use Rattle.design.proofs.bits.state_bits.Goals as goal
 
 pub overflow_add-result : goal.overflow_add-result

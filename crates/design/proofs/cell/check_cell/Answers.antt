@@ -1,9 +1,7 @@
 -- `design::cell::check_cell` meets its contract. Assumes nothing.
 use native.Mathlib.Omega.{arith}
-use borrow.Author.Tests.{not-true, not-false}
 use Rattle.design.proofs.Cells.{cell_passes, cell_fields, cell_order, cell_invalid, cell_guard, cell_action}
 use mathlib.Core.Path.{sym, ◌∙◌}
-use borrow.Author.Rules.{rules}
 use Rattle.design.proofs.cell.check_cell.Goals as goal
 
 pub returns-then-end-past : goal.returns-then-end-past

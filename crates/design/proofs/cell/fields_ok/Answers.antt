@@ -6,7 +6,6 @@ use lib.Dec.{eqb}
 use mathlib.Core.Bool.{false}
 use mathlib.Core.Path.{refl, sym, ap}
 use Rattle.design.proofs.Cells.{fields_ending, ending_other}
-use borrow.Author.Rules.{rules}
 use Rattle.design.proofs.cell.fields_ok.Goals as goal
 
 pub overflow_cast-m : goal.overflow_cast-m

@@ -1,7 +1,6 @@
 -- `design::cell::in_order` meets its contract. Assumes nothing.
 use borrow.Author.Tests.{eq-eqb, ne_eqb}
 use Rattle.design.proofs.Cells.{lt_ltb_of, le_ltb_of, eq_eqb_of, ne_eqb_of}
-use borrow.Author.Rules.{rules}
 use Rattle.design.proofs.cell.in_order.Goals as goal
 
 pub returns-then-before-at : goal.returns-then-before-at

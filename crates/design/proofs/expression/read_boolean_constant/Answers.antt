@@ -1,6 +1,5 @@
 -- `design::expression::read_boolean_constant` meets its contract. Assumes nothing.
 use borrow.Author.Tests.{le-ltb, lt-ltb, le-leb, lt-leb}
-use borrow.Author.Rules.{rules}
 use Rattle.design.proofs.expression.read_boolean_constant.Goals as goal
 
 pub returns-then-end-at : goal.returns-then-end-at

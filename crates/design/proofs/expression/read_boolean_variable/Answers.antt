@@ -1,7 +1,6 @@
 -- `design::expression::read_boolean_variable` meets its contract. Assumes nothing.
 use borrow.Author.Tests.{le-ltb, lt-ltb, eq-eqb, ne_eqb}
 use native.Mathlib.Omega.{arith}
-use borrow.Author.Rules.{rules}
 use Rattle.design.proofs.expression.read_boolean_variable.Goals as goal
 
 pub returns-then-end-at : goal.returns-then-end-at

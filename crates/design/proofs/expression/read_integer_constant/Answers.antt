@@ -2,7 +2,6 @@
 use borrow.Author.Tests.{le-leb, lt-leb}
 use Prim.Native.Nat.{◌+◌}
 use native.Mathlib.Omega.{arith}
-use borrow.Author.Rules.{rules}
 use Rattle.design.proofs.expression.read_integer_constant.Goals as goal
 
 pub returns-then-end-at-ge2 : goal.returns-then-end-at-ge2

@@ -1,7 +1,6 @@
 -- `design::expression::read_status` meets its contract. Assumes nothing.
 use borrow.Author.Tests.{le-ltb, lt-ltb}
 use native.Mathlib.Omega.{arith}
-use borrow.Author.Rules.{rules}
 use Rattle.design.proofs.expression.read_status.Goals as goal
 
 pub returns-then-end-at : goal.returns-then-end-at

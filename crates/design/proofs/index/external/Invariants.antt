@@ -1,8 +1,5 @@
-use native.Mathlib.Omega.{arith}
 use Prim.Native.Nat.{◌-◌}
-use mathlib.Core.Logic.{⊎_elim}
-use Rattle.design.proofs.Externals.{Finding, finding_start, finding_here, finding_yes, finding_no, finding_end}
-use mathlib.Core.Path.{subst, sym}
+use Rattle.design.proofs.Externals.{Finding}
 use Rattle.design.proofs.index.external.Given as goal
 
 abbrev pub invariant-loop-v : goal.invariant-loop-v

@@ -1,7 +1,6 @@
 -- `design::index::external_count` meets its contract. Assumes nothing.
 use native.Mathlib.Omega.{arith}
-use Prim.Native.Nat.{◌-◌}
-use Rattle.design.proofs.Externals.{Counting, counting_start, counting_yes, counting_no, counting_end}
+use Rattle.design.proofs.Externals.{counting_start, counting_yes, counting_no, counting_end}
 use Rattle.design.proofs.index.external_count.Goals as goal
 use Rattle.design.proofs.index.external_count.Goals.{then-file-v-eq2, else-file-v-eq2}
 

@@ -1,7 +1,5 @@
-use native.Mathlib.Omega.{arith}
 use Prim.Native.Nat.{◌-◌}
-use mathlib.Core.Logic.{⊎_elim}
-use Rattle.design.proofs.Externals.{Counting, counting_start, counting_yes, counting_no, counting_end}
+use Rattle.design.proofs.Externals.{Counting}
 use Rattle.design.proofs.index.external_count.Given as goal
 
 abbrev pub invariant-loop-v : goal.invariant-loop-v

@@ -1,6 +1,5 @@
 -- `design::index::has_constraint` meets its contract. Assumes nothing.
 use mathlib.Core.Path.{ap, ◌∙◌}
-use borrow.Author.Rules.{rules}
 use Rattle.design.specs.Limits.{constrained}
 use Rattle.design.proofs.File.{version_here}
 use Rattle.design.proofs.index.has_constraint.Goals as goal

@@ -1,9 +1,7 @@
 use native.Mathlib.Omega.{arith}
-use Prim.Native.Nat.{ℕ, ◌+◌, ◌-◌}
-use mathlib.Core.Path.{◌≡◌, ap₂}
-use mathlib.Core.Logic.{⊎_elim}
-use Rattle.design.specs.Check.{cell_count}
-use Rattle.design.proofs.Tables.{bounds, CellsGoing, cells_start, cell_here, cells_room, cells_normal, cells_invalid, cells_end}
+use Prim.Native.Nat.{ℕ, ◌+◌}
+use mathlib.Core.Path.{ap₂}
+use Rattle.design.proofs.Tables.{bounds, cells_start, cell_here, cells_room, cells_normal, cells_invalid, cells_end}
 use Rattle.design.proofs.index.index_cells.Goals as goal
 use Rattle.design.proofs.index.index_cells.Goals.{then-file-p-eq0, else-file-p-eq0}
 

@@ -1,9 +1,7 @@
-use native.Mathlib.Omega.{arith}
-use Prim.Native.Nat.{ℕ, ◌+◌, ◌-◌}
-use mathlib.Core.Path.{◌≡◌, ap₂}
-use mathlib.Core.Logic.{⊎_elim}
+use Prim.Native.Nat.{◌-◌}
+use mathlib.Core.Path.{◌≡◌}
 use Rattle.design.specs.Check.{cell_count}
-use Rattle.design.proofs.Tables.{bounds, CellsGoing, cells_start, cell_here, cells_room, cells_normal, cells_invalid, cells_end}
+use Rattle.design.proofs.Tables.{CellsGoing}
 use Rattle.design.proofs.index.index_cells.Given as goal
 
 abbrev pub invariant-loop-i : goal.invariant-loop-i

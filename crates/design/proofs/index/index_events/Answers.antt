@@ -1,10 +1,8 @@
 use native.Mathlib.Omega.{arith}
-use Prim.Native.Nat.{ℕ, ◌+◌, ◌*◌, ◌-◌}
-use mathlib.Core.Path.{◌≡◌, ap, ◌∙◌}
-use lib.ListN.{length, get_or}
-use Rattle.design.specs.Check.{matrices_offset, matrix_count}
-use Rattle.design.proofs.Tables.{bounds, matrix_in, few_events, EventsGoing, events_start_lem, row_inside, events_on, events_end}
-use Rattle.design.specs.Limits.{event_places}
+use Prim.Native.Nat.{ℕ, ◌+◌, ◌*◌}
+use mathlib.Core.Path.{ap, ◌∙◌}
+use lib.ListN.{get_or}
+use Rattle.design.proofs.Tables.{bounds, matrix_in, few_events, events_start_lem, row_inside, events_on, events_end}
 use Rattle.design.proofs.index.index_events.Goals as goal
 
 pub trailer_word-mats-requires : goal.trailer_word-mats-requires

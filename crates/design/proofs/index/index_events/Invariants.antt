@@ -1,9 +1,8 @@
-use native.Mathlib.Omega.{arith}
-use Prim.Native.Nat.{ℕ, ◌+◌, ◌*◌, ◌-◌}
-use mathlib.Core.Path.{◌≡◌, ap, ◌∙◌}
-use lib.ListN.{length, get_or}
+use Prim.Native.Nat.{◌-◌}
+use mathlib.Core.Path.{◌≡◌}
+use lib.ListN.{length}
 use Rattle.design.specs.Check.{matrices_offset, matrix_count}
-use Rattle.design.proofs.Tables.{bounds, matrix_in, few_events, EventsGoing, events_start_lem, row_inside, events_on, events_end}
+use Rattle.design.proofs.Tables.{EventsGoing}
 use Rattle.design.specs.Limits.{event_places}
 use Rattle.design.proofs.index.index_events.Given as goal
 

@@ -1,8 +1,8 @@
 use native.Mathlib.Omega.{arith}
-use Prim.Native.Nat.{ℕ, ◌≤◌, ◌-◌}
+use Prim.Native.Nat.{ℕ}
 use mathlib.Core.Path.{◌≡◌, ap, ◌∙◌}
 use Rattle.design.specs.Places.{past_events}
-use Rattle.design.proofs.Tables.{RowGoing, row_start, row_on}
+use Rattle.design.proofs.Tables.{row_start, row_on}
 use Rattle.design.proofs.index.index_row.Goals as goal
 
 pub loop-i-init : goal.loop-i-init

@@ -1,8 +1,5 @@
-use native.Mathlib.Omega.{arith}
-use Prim.Native.Nat.{ℕ, ◌≤◌, ◌-◌}
-use mathlib.Core.Path.{◌≡◌, ap, ◌∙◌}
-use Rattle.design.specs.Places.{past_events}
-use Rattle.design.proofs.Tables.{RowGoing, row_start, row_on}
+use Prim.Native.Nat.{◌≤◌, ◌-◌}
+use Rattle.design.proofs.Tables.{RowGoing}
 use Rattle.design.proofs.index.index_row.Given as goal
 
 abbrev pub invariant-loop-i : goal.invariant-loop-i

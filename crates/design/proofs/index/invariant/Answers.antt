@@ -1,6 +1,5 @@
 -- `design::index::invariant` meets its contract. Assumes nothing.
 use native.Mathlib.Omega.{arith}
-use borrow.Author.Rules.{rules}
 use Rattle.design.proofs.File.{long_tail}
 use Rattle.design.proofs.index.invariant.Goals as goal
 

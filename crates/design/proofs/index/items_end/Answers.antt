@@ -1,7 +1,6 @@
 -- `design::index::items_end` meets its contract. Assumes nothing.
 use native.Mathlib.Omega.{arith}
 use mathlib.Core.Path.{refl, ap}
-use borrow.Author.Rules.{rules}
 use Rattle.design.specs.Limits.{tail_bytes}
 use Rattle.design.proofs.File.{version_here, long_tail, items_by}
 use Rattle.design.proofs.index.items_end.Goals as goal

@@ -1,5 +1,4 @@
 -- `design::index::trailer_counts` meets its contract. Assumes nothing.
-use borrow.Author.Rules.{rules}
 use Rattle.design.proofs.index.trailer_counts.Goals as goal
 
 pub returns : goal.returns

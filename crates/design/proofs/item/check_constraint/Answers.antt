@@ -1,6 +1,4 @@
 -- `design::item::check_constraint` meets its contract. Assumes nothing.
-use borrow.Author.Tests.{not-true, not-false}
-use borrow.Author.Rules.{rules}
 use Rattle.design.proofs.Items.{constraint_absent, constraint_read}
 use Rattle.design.proofs.item.check_constraint.Goals as goal
 

@@ -1,7 +1,6 @@
 -- `design::item::check_event` meets its contract. Assumes nothing.
 use native.Mathlib.Omega.{arith}
 use Rattle.design.proofs.Items.{event_passes, event_read}
-use borrow.Author.Rules.{rules}
 use Rattle.design.proofs.item.check_event.Goals as goal
 
 pub returns-then-end-past : goal.returns-then-end-past

@@ -1,7 +1,6 @@
 -- `design::item::check_matrix` meets its contract. Assumes nothing.
 use borrow.Author.Tests.{le-leb, lt-leb}
 use Rattle.design.specs.DesignFile.{matrix_at}
-use borrow.Author.Rules.{rules}
 use Rattle.design.proofs.item.check_matrix.Goals as goal
 
 pub returns-then-end-at : goal.returns-then-end-at

@@ -2,7 +2,6 @@
 use borrow.Author.Tests.{le-leb, lt-leb, eq-eqb, ne_eqb}
 use Rattle.design.specs.DesignFile.{variable_at}
 use Rattle.design.proofs.Items.{lt_leb_of, le_leb_of}
-use borrow.Author.Rules.{rules}
 use Rattle.design.proofs.item.check_variable.Goals as goal
 
 pub returns-then-end-at : goal.returns-then-end-at

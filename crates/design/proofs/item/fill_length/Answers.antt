@@ -1,6 +1,5 @@
 -- `design::item::fill_length` meets its contract. Assumes nothing.
 use Rattle.design.proofs.Items.{filled_at, filled_else, filled_bad}
-use borrow.Author.Rules.{rules}
 use Rattle.design.proofs.item.fill_length.Goals as goal
 
 pub returns-then-n-past : goal.returns-then-n-past

@@ -1,11 +1,7 @@
 -- `design::section::check_cells` meets its contract. Assumes nothing.
 use native.Mathlib.Omega.{arith}
-use Prim.Native.Nat.{ℕ, ◌≤◌, ◌+◌}
-use mathlib.Core.Path.{◌≡◌, refl, sym, ◌∙◌}
-use Rattle.design.specs.Tree.{BoolExpr, constant_b}
-use Rattle.design.specs.DesignFile.{cells_from}
-use Rattle.design.specs.Check.{names_of}
-use Rattle.design.specs.Answers.{counted, moves}
+use mathlib.Core.Path.{refl, sym, ◌∙◌}
+use Rattle.design.specs.Tree.{constant_b}
 use Rattle.design.proofs.Cells.{cells_none, cells_refused, cells_more, cell_ends}
 use mathlib.Core.Bool.{true}
 use Rattle.design.proofs.section.check_cells.Goals as goal

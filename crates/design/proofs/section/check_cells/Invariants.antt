@@ -1,13 +1,9 @@
-use native.Mathlib.Omega.{arith}
 use Prim.Native.Nat.{ℕ, ◌≤◌, ◌+◌}
-use mathlib.Core.Path.{◌≡◌, refl, sym, ◌∙◌}
-use mathlib.Core.Logic.{⊎_elim}
-use Rattle.design.specs.Tree.{BoolExpr, constant_b}
+use mathlib.Core.Path.{◌≡◌}
+use Rattle.design.specs.Tree.{BoolExpr}
 use Rattle.design.specs.DesignFile.{cells_from}
 use Rattle.design.specs.Check.{names_of}
 use Rattle.design.specs.Answers.{counted, moves}
-use Rattle.design.proofs.Cells.{cells_none, cells_refused, cells_more, cell_ends}
-use mathlib.Core.Bool.{true}
 use Rattle.design.proofs.section.check_cells.Given as goal
 
 abbrev pub invariant-loop-left : goal.invariant-loop-left

@@ -1,10 +1,6 @@
 -- `design::section::check_events` meets its contract. Assumes nothing.
 use native.Mathlib.Omega.{arith}
-use Prim.Native.Nat.{◌≤◌, ◌+◌}
-use mathlib.Core.Path.{◌≡◌, refl, sym, ◌∙◌}
-use Rattle.design.specs.DesignFile.{events_from}
-use Rattle.design.specs.Check.{names_of}
-use Rattle.design.specs.Answers.{walked}
+use mathlib.Core.Path.{refl, sym, ◌∙◌}
 use Rattle.design.proofs.Items.{rows_none, rows_refused, rows_more, row_ends}
 use Rattle.design.proofs.section.check_events.Goals as goal
 

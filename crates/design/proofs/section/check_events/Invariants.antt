@@ -1,10 +1,8 @@
-use native.Mathlib.Omega.{arith}
 use Prim.Native.Nat.{◌≤◌, ◌+◌}
-use mathlib.Core.Path.{◌≡◌, refl, sym, ◌∙◌}
+use mathlib.Core.Path.{◌≡◌}
 use Rattle.design.specs.DesignFile.{events_from}
 use Rattle.design.specs.Check.{names_of}
 use Rattle.design.specs.Answers.{walked}
-use Rattle.design.proofs.Items.{rows_none, rows_refused, rows_more, row_ends}
 use Rattle.design.proofs.section.check_events.Given as goal
 
 abbrev pub invariant-loop-left : goal.invariant-loop-left

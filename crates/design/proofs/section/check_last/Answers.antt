@@ -1,6 +1,5 @@
 -- `design::section::check_last` meets its contract. Assumes nothing.
 use mathlib.Core.Path.{sym, ◌∙◌}
-use borrow.Author.Rules.{rules}
 use Rattle.design.specs.Check.{names_of}
 use Rattle.design.proofs.File.{expressions_stop, expressions_go}
 use Rattle.design.proofs.section.check_last.Goals as goal

@@ -1,9 +1,6 @@
 -- `design::section::check_matrices` meets its contract. Assumes nothing.
 use native.Mathlib.Omega.{arith}
-use Prim.Native.Nat.{◌≤◌}
-use mathlib.Core.Path.{◌≡◌, refl, sym, ◌∙◌}
-use Rattle.design.specs.DesignFile.{items, matrix_at}
-use Rattle.design.specs.Answers.{walked}
+use mathlib.Core.Path.{refl, sym, ◌∙◌}
 use Rattle.design.proofs.Items.{items_none, items_refused, items_more, matrix_ends}
 use Rattle.design.proofs.section.check_matrices.Goals as goal
 

@@ -1,9 +1,7 @@
-use native.Mathlib.Omega.{arith}
 use Prim.Native.Nat.{◌≤◌}
-use mathlib.Core.Path.{◌≡◌, refl, sym, ◌∙◌}
+use mathlib.Core.Path.{◌≡◌}
 use Rattle.design.specs.DesignFile.{items, matrix_at}
 use Rattle.design.specs.Answers.{walked}
-use Rattle.design.proofs.Items.{items_none, items_refused, items_more, matrix_ends}
 use Rattle.design.proofs.section.check_matrices.Given as goal
 
 abbrev pub invariant-loop-left : goal.invariant-loop-left

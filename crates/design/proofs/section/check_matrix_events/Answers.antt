@@ -1,10 +1,6 @@
 -- `design::section::check_matrix_events` meets its contract. Assumes nothing.
 use native.Mathlib.Omega.{arith}
-use Prim.Native.Nat.{◌≤◌}
-use mathlib.Core.Path.{◌≡◌, refl, sym, ◌∙◌}
-use Rattle.design.specs.DesignFile.{items, event_at}
-use Rattle.design.specs.Check.{names_of}
-use Rattle.design.specs.Answers.{walked}
+use mathlib.Core.Path.{refl, sym, ◌∙◌}
 use Rattle.design.proofs.Items.{items_none, items_refused, items_more, event_ends}
 use Rattle.design.proofs.section.check_matrix_events.Goals as goal
 

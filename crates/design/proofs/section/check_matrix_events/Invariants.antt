@@ -1,10 +1,8 @@
-use native.Mathlib.Omega.{arith}
 use Prim.Native.Nat.{◌≤◌}
-use mathlib.Core.Path.{◌≡◌, refl, sym, ◌∙◌}
+use mathlib.Core.Path.{◌≡◌}
 use Rattle.design.specs.DesignFile.{items, event_at}
 use Rattle.design.specs.Check.{names_of}
 use Rattle.design.specs.Answers.{walked}
-use Rattle.design.proofs.Items.{items_none, items_refused, items_more, event_ends}
 use Rattle.design.proofs.section.check_matrix_events.Given as goal
 
 abbrev pub invariant-loop-left : goal.invariant-loop-left

@@ -1,5 +1,4 @@
 -- `design::section::check_sections` meets its contract. Assumes nothing.
-use native.Mathlib.Omega.{arith}
 use mathlib.Core.Path.{sym, ◌∙◌}
 use Rattle.design.proofs.File.{x_variables, x_matrices, passed_at}
 use Rattle.design.proofs.section.check_sections.Goals as goal

@@ -1,9 +1,6 @@
 -- `design::section::check_variables` meets its contract. Assumes nothing.
 use native.Mathlib.Omega.{arith}
-use Prim.Native.Nat.{◌≤◌, ◌+◌}
-use mathlib.Core.Path.{◌≡◌, refl, sym, ◌∙◌}
-use Rattle.design.specs.DesignFile.{items, variable_at}
-use Rattle.design.specs.Answers.{counted, raises}
+use mathlib.Core.Path.{refl, sym, ◌∙◌}
 use Rattle.design.proofs.Items.{count_none, count_refused, variable_more, variable_ends}
 use Rattle.design.proofs.section.check_variables.Goals as goal
 use Rattle.design.proofs.section.check_variables.Goals.{then-file-p-eq2, else-file-p-eq2}

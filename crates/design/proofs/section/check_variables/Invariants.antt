@@ -1,10 +1,7 @@
-use native.Mathlib.Omega.{arith}
 use Prim.Native.Nat.{◌≤◌, ◌+◌}
-use mathlib.Core.Path.{◌≡◌, refl, sym, ◌∙◌}
-use mathlib.Core.Logic.{⊎_elim}
+use mathlib.Core.Path.{◌≡◌}
 use Rattle.design.specs.DesignFile.{items, variable_at}
 use Rattle.design.specs.Answers.{counted, raises}
-use Rattle.design.proofs.Items.{count_none, count_refused, variable_more, variable_ends}
 use Rattle.design.proofs.section.check_variables.Given as goal
 
 abbrev pub invariant-loop-left : goal.invariant-loop-left

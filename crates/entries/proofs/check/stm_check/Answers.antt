@@ -1,6 +1,5 @@
 -- `entries::check::stm_check` meets its contract, by those of `check` and `code_of`. Assumes nothing.
 use mathlib.Core.Path.{ap, ◌∙◌}
-use borrow.Author.Rules.{rules}
 use Rattle.entries.specs.Code.{code_of}
 use Rattle.entries.proofs.check.stm_check.Goals as goal
 

@@ -1,7 +1,6 @@
 -- `entries::clause_writer::stm_decode` meets its contract. Assumes nothing.
 use Rattle.entries.specs.Clauses.{decode_entry}
 use Rattle.entries.proofs.Writing.{decode_refused, decode_done}
-use borrow.Author.Rules.{rules}
 use Rattle.entries.proofs.clause_writer.stm_decode.Goals as goal
 
 pub returns-in-Refused : goal.returns-in-Refused

@@ -1,7 +1,6 @@
 -- `entries::clause_writer::stm_encode` meets its contract. Assumes nothing.
 use Rattle.entries.specs.Clauses.{encode_entry}
 use Rattle.entries.proofs.Writing.{encode_refused, encode_told}
-use borrow.Author.Rules.{rules}
 use Rattle.entries.proofs.clause_writer.stm_encode.Goals as goal
 
 pub returns-in-Refused : goal.returns-in-Refused

@@ -1,7 +1,6 @@
 -- `entries::clause_writer::stm_size` meets its contract. Assumes nothing.
 use Rattle.entries.specs.Clauses.{size_entry}
 use Rattle.entries.proofs.Writing.{size_refused, size_told}
-use borrow.Author.Rules.{rules}
 use Rattle.entries.proofs.clause_writer.stm_size.Goals as goal
 
 pub returns-in-Refused : goal.returns-in-Refused

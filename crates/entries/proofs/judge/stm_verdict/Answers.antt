@@ -1,7 +1,6 @@
 -- `entries::judge::stm_verdict` meets its contract. Assumes nothing.
 use Rattle.entries.specs.Verdict.{verdict_entry}
 use Rattle.entries.proofs.Judging.{refused_exit, done_exit}
-use borrow.Author.Rules.{rules}
 use Rattle.entries.proofs.judge.stm_verdict.Goals as goal
 
 pub returns-in-Refused : goal.returns-in-Refused

@@ -1,7 +1,6 @@
 -- `entries::owners::stm_owners` meets its contract. Assumes nothing.
 use Rattle.entries.specs.Owners.{owners_entry}
 use Rattle.entries.proofs.Owning.{owners_return}
-use borrow.Author.Rules.{rules}
 use Rattle.entries.proofs.owners.stm_owners.Goals as goal
 
 pub returns : goal.returns

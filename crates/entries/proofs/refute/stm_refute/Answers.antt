@@ -3,7 +3,6 @@ use Rattle.search.specs.declared.refute.Judged.TheVariants.{Accepted, Word, Ende
 use Rattle.search.specs.Refutation.{refute}
 use Rattle.entries.specs.Refute.{refute_entry}
 use Rattle.entries.proofs.Refuting.{refused_exit, done_exit}
-use borrow.Author.Rules.{rules}
 use Rattle.entries.proofs.refute.stm_refute.Goals as goal
 
 pub returns-in-Refused : goal.returns-in-Refused

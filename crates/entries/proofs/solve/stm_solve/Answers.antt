@@ -4,7 +4,6 @@ use mathlib.Core.List.{[], ◌∷◌}
 use Prim.Native.Nat.{ℕ}
 use Rattle.entries.specs.Solve.{solve_entry}
 use Rattle.entries.proofs.Solving.{refused_exit, done_exit}
-use borrow.Author.Rules.{rules}
 use Rattle.entries.proofs.solve.stm_solve.Goals as goal
 
 pub returns-in-Refused : goal.returns-in-Refused

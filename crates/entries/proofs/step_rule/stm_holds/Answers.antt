@@ -1,7 +1,6 @@
 -- `entries::step_rule::stm_holds` meets its contract. Assumes nothing.
 use Rattle.entries.specs.Step.{holds_entry}
 use Rattle.entries.proofs.Answering.{holds_refused, holds_told}
-use borrow.Author.Rules.{rules}
 use Rattle.entries.proofs.step_rule.stm_holds.Goals as goal
 
 pub returns-then-refusal-ne0 : goal.returns-then-refusal-ne0

@@ -1,7 +1,6 @@
 -- `entries::step_rule::stm_replay` meets its contract. Assumes nothing.
 use Rattle.entries.specs.Step.{replay_entry}
 use Rattle.entries.proofs.Answering.{replay_refused, replay_told_lem}
-use borrow.Author.Rules.{rules}
 use Rattle.entries.proofs.step_rule.stm_replay.Goals as goal
 
 pub returns-then-refusal-ne0 : goal.returns-then-refusal-ne0

@@ -1,7 +1,6 @@
 -- `entries::step_rule::stm_start` meets its contract. Assumes nothing.
 use Rattle.entries.specs.Step.{start_entry}
 use Rattle.entries.proofs.Answering.{start_refused, start_told}
-use borrow.Author.Rules.{rules}
 use Rattle.entries.proofs.step_rule.stm_start.Goals as goal
 
 pub returns-then-refusal-ne0 : goal.returns-then-refusal-ne0

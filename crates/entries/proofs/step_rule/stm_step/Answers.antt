@@ -1,7 +1,6 @@
 -- `entries::step_rule::stm_step` meets its contract. Assumes nothing.
 use Rattle.entries.specs.Step.{step_entry}
 use Rattle.entries.proofs.Answering.{step_refused, step_told}
-use borrow.Author.Rules.{rules}
 use Rattle.entries.proofs.step_rule.stm_step.Goals as goal
 
 pub returns-then-refusal-ne0 : goal.returns-then-refusal-ne0

@@ -1,8 +1,5 @@
 -- `search::fill::fill32` meets its contract.
-use Prim.Native.Nat.{◌-◌}
-use native.Mathlib.Omega.{arith}
-use lib.ListN.{length}
-use Rattle.search.proofs.Filling.{Filling, fill_start, fill_step, fill_done}
+use Rattle.search.proofs.Filling.{fill_start, fill_step, fill_done}
 use Rattle.search.proofs.fill.fill32.Goals as goal
 
 pub loop-i-init : goal.loop-i-init

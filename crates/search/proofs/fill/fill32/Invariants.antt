@@ -1,7 +1,6 @@
 use Prim.Native.Nat.{◌-◌}
-use native.Mathlib.Omega.{arith}
 use lib.ListN.{length}
-use Rattle.search.proofs.Filling.{Filling, fill_start, fill_step, fill_done}
+use Rattle.search.proofs.Filling.{Filling}
 use Rattle.search.proofs.fill.fill32.Given as goal
 
 abbrev pub invariant-loop-i : goal.invariant-loop-i

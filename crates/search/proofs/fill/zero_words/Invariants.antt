@@ -1,8 +1,7 @@
 use Prim.Native.Nat.{◌-◌}
-use native.Mathlib.Omega.{arith}
 use lib.IntN.{pos}
 use lib.ListN.{length}
-use Rattle.search.proofs.Filling.{Filling, fill_start, fill_step, fill_done}
+use Rattle.search.proofs.Filling.{Filling}
 use Rattle.search.proofs.fill.zero_words.Given as goal
 
 abbrev pub invariant-loop-i : goal.invariant-loop-i

@@ -1,10 +1,8 @@
 -- `search::reader::past_clause` meets its contract.
 use mathlib.Core.Path.{sym, ◌∙◌}
-use Prim.Native.Nat.{◌-◌}
 use native.Mathlib.Omega.{arith}
-use lib.ListN.{length}
 use borrow.Author.Tests.{not-true, not-false}
-use Rattle.search.proofs.Reading.{inside_low, Passing, passing_start, passing_next_lem, passing_end}
+use Rattle.search.proofs.Reading.{inside_low, passing_start, passing_next_lem, passing_end}
 use Rattle.search.proofs.reader.past_clause.Goals as goal
 
 pub loop-i-init : goal.loop-i-init

@@ -1,9 +1,6 @@
-use mathlib.Core.Path.{sym, ◌∙◌}
 use Prim.Native.Nat.{◌-◌}
-use native.Mathlib.Omega.{arith}
 use lib.ListN.{length}
-use borrow.Author.Tests.{not-true, not-false}
-use Rattle.search.proofs.Reading.{inside_low, Passing, passing_start, passing_next_lem, passing_end}
+use Rattle.search.proofs.Reading.{Passing}
 use Rattle.search.proofs.reader.past_clause.Given as goal
 
 abbrev pub invariant-loop-i : goal.invariant-loop-i

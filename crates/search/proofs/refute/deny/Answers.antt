@@ -1,8 +1,6 @@
 -- `search::refute::deny` meets its contract.
-use lib.ListN.{length}
-use Prim.Native.Nat.{◌-◌}
 use native.Mathlib.Omega.{arith}
-use Rattle.search.proofs.Denying.{Denying, denying_start, denying_low, denying_named, denying_inside, denying_both, denying_next, denying_end, denying_sign}
+use Rattle.search.proofs.Denying.{denying_start, denying_low, denying_named, denying_inside, denying_both, denying_next, denying_end, denying_sign}
 use Rattle.search.proofs.refute.deny.Goals as goal
 
 pub loop-v-init : goal.loop-v-init

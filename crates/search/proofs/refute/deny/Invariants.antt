@@ -1,7 +1,6 @@
 use lib.ListN.{length}
 use Prim.Native.Nat.{◌-◌}
-use native.Mathlib.Omega.{arith}
-use Rattle.search.proofs.Denying.{Denying, denying_start, denying_low, denying_named, denying_inside, denying_both, denying_next, denying_end, denying_sign}
+use Rattle.search.proofs.Denying.{Denying}
 use Rattle.search.proofs.refute.deny.Given as goal
 
 abbrev pub invariant-loop-v : goal.invariant-loop-v

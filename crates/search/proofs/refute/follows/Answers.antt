@@ -2,7 +2,6 @@
 use mathlib.Core.Path.{sym}
 use lib.Seq.{length-take-le}
 use Rattle.search.proofs.Refuting.{deny_ready, follows_both, reaches_ready, follows_reached}
-use borrow.Author.Rules.{rules}
 use Rattle.search.proofs.refute.follows.Goals as goal
 
 pub deny-requires : goal.deny-requires

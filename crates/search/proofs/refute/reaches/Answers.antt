@@ -2,8 +2,8 @@
 use mathlib.Core.Path.{subst, sym}
 use native.Mathlib.Omega.{arith}
 use Prim.Native.Nat.{ℕ}
-use Rattle.search.specs.Memory.{Two, StartsTwo, both_of}
-use Rattle.search.proofs.Rounds.{starts_first, unset_bytes, Settling, settling_start, settling_quiet, settling_conflict, unit_low, unit_high, settling_less, settling_next}
+use Rattle.search.specs.Memory.{Two}
+use Rattle.search.proofs.Rounds.{starts_first, settling_start, settling_quiet, settling_conflict, unit_low, unit_high, settling_less, settling_next}
 use Rattle.search.proofs.refute.reaches.Goals as goal
 
 pub loop-var-init : goal.loop-var-init

@@ -1,8 +1,5 @@
-use mathlib.Core.Path.{subst, sym}
-use native.Mathlib.Omega.{arith}
-use Prim.Native.Nat.{ℕ}
-use Rattle.search.specs.Memory.{Two, StartsTwo, both_of}
-use Rattle.search.proofs.Rounds.{starts_first, unset_bytes, Settling, settling_start, settling_quiet, settling_conflict, unit_low, unit_high, settling_less, settling_next}
+use Rattle.search.specs.Memory.{StartsTwo, both_of}
+use Rattle.search.proofs.Rounds.{unset_bytes, Settling}
 use Rattle.search.proofs.refute.reaches.Given as goal
 
 abbrev pub invariant-loop-var : goal.invariant-loop-var

@@ -1,11 +1,10 @@
 -- `search::refute::read` meets its contract.
-use mathlib.Core.Path.{◌≡◌, refl, subst, sym, ◌∙◌}
+use mathlib.Core.Path.{refl, subst, sym, ◌∙◌}
 use native.Mathlib.Omega.{arith}
-use Prim.Native.Nat.{ℕ, ◌-◌}
-use lib.ListN.{length}
+use Prim.Native.Nat.{ℕ}
 use Rattle.search.specs.Memory.{Two}
 use Rattle.search.proofs.Prefixes.{clause_at}
-use Rattle.search.proofs.Refuting.{Judging, judging_start, judging_end, judging_stops, judging_accepts, judging_next}
+use Rattle.search.proofs.Refuting.{judging_start, judging_end, judging_stops, judging_accepts, judging_next}
 use Rattle.search.proofs.refute.read.Goals as goal
 
 pub loop-at-init : goal.loop-at-init

@@ -1,10 +1,7 @@
-use mathlib.Core.Path.{◌≡◌, refl, subst, sym, ◌∙◌}
-use native.Mathlib.Omega.{arith}
-use Prim.Native.Nat.{ℕ, ◌-◌}
+use mathlib.Core.Path.{◌≡◌}
+use Prim.Native.Nat.{◌-◌}
 use lib.ListN.{length}
-use Rattle.search.specs.Memory.{Two}
-use Rattle.search.proofs.Prefixes.{clause_at}
-use Rattle.search.proofs.Refuting.{Judging, judging_start, judging_end, judging_stops, judging_accepts, judging_next}
+use Rattle.search.proofs.Refuting.{Judging}
 use Rattle.search.proofs.refute.read.Given as goal
 
 abbrev pub invariant-loop-at : goal.invariant-loop-at

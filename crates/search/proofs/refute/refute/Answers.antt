@@ -3,7 +3,6 @@ use mathlib.Core.Path.{sym, ◌∙◌}
 use native.Mathlib.Omega.{arith}
 use lib.Seq.{length-take-le}
 use Rattle.search.proofs.Refuting.{word_low, refute_large, refute_list, refute_refutation, refute_values, refute_two, refute_done}
-use borrow.Author.Rules.{rules}
 use Rattle.search.proofs.refute.refute.Goals as goal
 
 pub returns-then-n-gt-MAX_VARIABLE : goal.returns-then-n-gt-MAX_VARIABLE

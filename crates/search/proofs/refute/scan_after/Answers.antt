@@ -5,7 +5,6 @@ use Rattle.clauses.specs.Words.{clauses_of}
 use lib.ListN.{drop}
 use Rattle.search.specs.Memory.{Starts, value_at, Finds}
 use Rattle.search.proofs.Rounds.{after_unit}
-use borrow.Author.Rules.{rules}
 use Rattle.search.proofs.refute.scan_after.Goals as goal
 
 pub overflow_add-result : goal.overflow_add-result

@@ -3,7 +3,6 @@ use mathlib.Core.Path.{refl}
 use Rattle.search.specs.Memory.{value_at}
 use Rattle.search.proofs.Scanning.{some_found}
 use Rattle.search.proofs.Rounds.{starts_first, round_zero, round_some}
-use borrow.Author.Rules.{rules}
 use borrow.Enum.Refused.{opened}
 use Rattle.search.proofs.refute.scan_round.Goals as goal
 

@@ -7,7 +7,6 @@ use Rattle.search.specs.Memory.{Starts, value_at, Finds}
 use Rattle.search.proofs.Reading.{starts_zero}
 use Rattle.search.proofs.Scanning.{some_found}
 use Rattle.search.proofs.Rounds.{two_second, two_first, two_on}
-use borrow.Author.Rules.{rules}
 use borrow.Enum.Refused.{opened}
 use Rattle.search.proofs.refute.scan_two.Goals as goal
 

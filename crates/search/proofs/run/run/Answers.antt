@@ -1,10 +1,5 @@
 -- `search::run::run` meets its contract.
-use native.Mathlib.Omega.{arith}
-use lib.ListN.{length}
-use borrow.Author.Rules.{rules}
-use Rattle.search.specs.Memory.{settings_of}
-use Rattle.search.proofs.Counting.{ahead}
-use Rattle.search.proofs.Running.{Searching, searching_start, ready_here, again_goes, latest_try, again_tries, ends_spent, ends_sat, ends_unsat}
+use Rattle.search.proofs.Running.{searching_start, ready_here, again_goes, latest_try, again_tries, ends_spent, ends_sat, ends_unsat}
 use Rattle.search.proofs.run.run.Goals as goal
 
 pub loop-set-init : goal.loop-set-init

@@ -1,9 +1,7 @@
-use native.Mathlib.Omega.{arith}
 use lib.ListN.{length}
-use borrow.Author.Rules.{rules}
 use Rattle.search.specs.Memory.{settings_of}
 use Rattle.search.proofs.Counting.{ahead}
-use Rattle.search.proofs.Running.{Searching, searching_start, ready_here, again_goes, latest_try, again_tries, ends_spent, ends_sat, ends_unsat}
+use Rattle.search.proofs.Running.{Searching}
 use Rattle.search.proofs.run.run.Given as goal
 
 abbrev pub invariant-loop-set : goal.invariant-loop-set

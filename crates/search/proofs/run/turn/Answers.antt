@@ -1,7 +1,6 @@
 -- `search::run::turn` meets its contract.
 use mathlib.Core.Path.{sym, ◌∙◌}
 use native.Mathlib.Omega.{arith}
-use borrow.Author.Rules.{rules}
 use Rattle.search.proofs.Steps.{step_undo, step_unsat, unit_settable, step_unit, branch_settable, step_branch, step_sat}
 use Rattle.search.proofs.run.turn.Goals as goal
 

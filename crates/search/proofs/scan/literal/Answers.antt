@@ -2,7 +2,6 @@
 use native.Mathlib.Omega.{arith}
 use lib.IntN.{pos}
 use lib.ListN.{get_or}
-use borrow.Author.Rules.{rules}
 use Rattle.search.proofs.Scanning.{literal_low, literal_unset, literal_true_lem, literal_false}
 use Rattle.search.proofs.scan.literal.Goals as goal
 

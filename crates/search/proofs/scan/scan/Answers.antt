@@ -1,5 +1,4 @@
 -- `search::scan::scan` meets its contract.
-use borrow.Author.Rules.{rules}
 use Rattle.search.proofs.Reading.{starts_zero}
 use Rattle.search.proofs.Scanning.{some_found, finds_zero, finds_whole}
 use borrow.Enum.Refused.{opened}

@@ -1,9 +1,9 @@
 -- `search::scan::scan_from` meets its contract.
 use mathlib.Core.Path.{sym, subst}
-use Prim.Native.Nat.{◌+◌, ◌-◌}
+use Prim.Native.Nat.{◌+◌}
 use native.Mathlib.Omega.{arith}
 use lib.ListN.{length}
-use Rattle.search.proofs.Scanning.{Inner, inner_low, inner_false, inner_unset, inner_true, inner_second, inner_named, Outer, outer_start, outer_end, outer_clause, outer_next, outer_conflict, outer_unit}
+use Rattle.search.proofs.Scanning.{Inner, inner_low, inner_false, inner_unset, inner_true, inner_second, inner_named, outer_start, outer_end, outer_clause, outer_next, outer_conflict, outer_unit}
 use Rattle.search.proofs.scan.scan_from.Goals as goal
 use Rattle.search.proofs.scan.scan_from.Goals.{then-x-eq2+else-spot-gt0, else-x-eq2}
 

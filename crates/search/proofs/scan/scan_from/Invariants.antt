@@ -1,9 +1,6 @@
-use mathlib.Core.Path.{sym, subst}
-use mathlib.Core.Logic.{⊎_elim}
-use Prim.Native.Nat.{◌+◌, ◌-◌}
-use native.Mathlib.Omega.{arith}
+use Prim.Native.Nat.{◌-◌}
 use lib.ListN.{length}
-use Rattle.search.proofs.Scanning.{Inner, inner_low, inner_false, inner_unset, inner_true, inner_second, inner_named, Outer, outer_start, outer_end, outer_clause, outer_next, outer_conflict, outer_unit}
+use Rattle.search.proofs.Scanning.{Inner, Outer}
 use Rattle.search.proofs.scan.scan_from.Given as goal
 
 abbrev pub invariant-loop-found : goal.invariant-loop-found

@@ -1,7 +1,6 @@
 -- `search::trail::latest` meets its contract.
 use Prim.Native.Nat.{◌-◌}
 use native.Mathlib.Omega.{arith}
-use borrow.Author.Rules.{rules}
 use Rattle.search.proofs.trail.latest.Goals as goal
 
 pub overflow_cast-result : goal.overflow_cast-result

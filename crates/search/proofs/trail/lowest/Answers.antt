@@ -1,8 +1,5 @@
 -- `search::trail::lowest` meets its contract.
-use Prim.Native.Nat.{◌-◌}
-use native.Mathlib.Omega.{arith}
-use lib.ListN.{length}
-use Rattle.search.proofs.Seeking.{Seeks, seeks_start, seeks_next, seeks_here, seeks_none}
+use Rattle.search.proofs.Seeking.{seeks_start, seeks_next, seeks_here, seeks_none}
 use Rattle.search.proofs.trail.lowest.Goals as goal
 
 pub loop-i-init : goal.loop-i-init

@@ -1,7 +1,6 @@
 use Prim.Native.Nat.{◌-◌}
-use native.Mathlib.Omega.{arith}
 use lib.ListN.{length}
-use Rattle.search.proofs.Seeking.{Seeks, seeks_start, seeks_next, seeks_here, seeks_none}
+use Rattle.search.proofs.Seeking.{Seeks}
 use Rattle.search.proofs.trail.lowest.Given as goal
 
 abbrev pub invariant-loop-i : goal.invariant-loop-i

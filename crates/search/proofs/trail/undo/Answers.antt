@@ -1,9 +1,8 @@
 -- `search::trail::undo` meets its contract.
 use Prim.Native.Nat.{◌-◌}
 use native.Mathlib.Omega.{arith}
-use lib.ListN.{length, length-set}
-use Rattle.search.specs.Memory.{settings_of}
-use Rattle.search.proofs.State.{Undoing, undo_start, undo_none, undo_pop', undo_flip', named}
+use lib.ListN.{length-set}
+use Rattle.search.proofs.State.{undo_start, undo_none, undo_pop', undo_flip', named}
 use Rattle.search.proofs.trail.undo.Goals as goal
 
 pub loop-k-init : goal.loop-k-init

@@ -1,8 +1,6 @@
-use Prim.Native.Nat.{◌-◌}
-use native.Mathlib.Omega.{arith}
-use lib.ListN.{length, length-set}
+use lib.ListN.{length}
 use Rattle.search.specs.Memory.{settings_of}
-use Rattle.search.proofs.State.{Undoing, undo_start, undo_none, undo_pop', undo_flip', named}
+use Rattle.search.proofs.State.{Undoing}
 use Rattle.search.proofs.trail.undo.Given as goal
 
 abbrev pub invariant-loop-k : goal.invariant-loop-k

@@ -1,9 +1,8 @@
 -- `search::words::bad_word` meets its contract.
 use mathlib.Core.Path.{◌≡◌, sym, subst}
 use mathlib.Core.Bool.{false, not, cond}
-use Prim.Native.Nat.{◌+◌, ◌-◌}
+use Prim.Native.Nat.{◌+◌}
 use native.Mathlib.Omega.{arith}
-use lib.ListN.{length}
 use Rattle.search.specs.Search.{none, at}
 use Rattle.search.specs.Answers.{declared_spot}
 use Rattle.search.specs.Solve.{bad_word}

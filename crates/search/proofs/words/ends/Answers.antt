@@ -1,7 +1,6 @@
 -- `search::words::ends` meets its contract.
 use lib.IntN.{pos}
 use lib.ListN.{get_or}
-use borrow.Author.Rules.{rules}
 use Rattle.search.proofs.Signed.{is_end_lem}
 use Rattle.search.proofs.words.ends.Goals as goal
 

@@ -2,7 +2,6 @@
 use mathlib.Core.Bool.{true, false}
 use lib.IntN.{pos}
 use lib.ListN.{get_or}
-use borrow.Author.Rules.{rules}
 use Rattle.search.proofs.Signed.{is_neg_lem, sign_neg, sign_pos}
 use Rattle.search.proofs.words.sign.Goals as goal
 

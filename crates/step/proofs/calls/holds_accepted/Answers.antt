@@ -1,4 +1,4 @@
-use Rattle.std.proofs.Common.{◌∙◌, rules}
+use Rattle.std.proofs.Common.{◌∙◌}
 use Rattle.step.proofs.States.{holds_11, holds_13, holds_done}
 use Rattle.step.proofs.calls.holds_accepted.Goals as goal
 

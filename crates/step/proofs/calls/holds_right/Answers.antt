@@ -1,4 +1,4 @@
-use Rattle.std.proofs.Common.{sym, ◌∙◌, length-take-le, rules}
+use Rattle.std.proofs.Common.{sym, ◌∙◌, length-take-le}
 use Rattle.design.proofs.Indexed.{sized}
 use Rattle.step.proofs.calls.holds_right.Goals as goal
 

@@ -1,4 +1,4 @@
-use Rattle.std.proofs.Common.{ap, ◌∙◌, arith, rules}
+use Rattle.std.proofs.Common.{ap, ◌∙◌, arith}
 use Rattle.step.specs.Piece.{no_piece}
 use Rattle.step.specs.Property.{property_of}
 use Rattle.step.specs.OneStep.{holds}

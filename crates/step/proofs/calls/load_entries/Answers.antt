@@ -1,4 +1,4 @@
-use Rattle.std.proofs.Common.{arith, rules}
+use Rattle.std.proofs.Common.{arith}
 use Rattle.step.proofs.States.{entries_loaded, loaded_long}
 use Rattle.step.proofs.calls.load_entries.Goals as goal
 

@@ -1,5 +1,5 @@
 use Rattle.design.specs.State.{slot_count}
-use Rattle.std.proofs.Common.{arith, rules}
+use Rattle.std.proofs.Common.{arith}
 use Rattle.design.proofs.Indexed.{sized}
 use Rattle.step.proofs.Replays.{zeros_long}
 use Rattle.step.proofs.States.{start_answer_lem}

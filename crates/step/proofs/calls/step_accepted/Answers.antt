@@ -1,4 +1,4 @@
-use Rattle.std.proofs.Common.{sym, refl, ◌∙◌, arith, length-take-le, rules}
+use Rattle.std.proofs.Common.{sym, refl, ◌∙◌, arith, length-take-le}
 use Rattle.design.proofs.Indexed.{sized, count_movers, few_movers}
 use Rattle.step.proofs.Choices.{movers_here}
 use Rattle.step.proofs.States.{step_11, step_12, step_done}

@@ -1,4 +1,4 @@
-use Rattle.std.proofs.Common.{ap, ◌∙◌, arith, rules}
+use Rattle.std.proofs.Common.{ap, ◌∙◌, arith}
 use Rattle.design.specs.Answer.{answer}
 use Rattle.design.specs.State.{State}
 use Rattle.step.specs.Operations.{next, stepped}

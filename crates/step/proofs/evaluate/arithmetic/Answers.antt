@@ -1,4 +1,4 @@
-use Rattle.std.proofs.Common.{◌||◌, refl, ◌∙◌, ap₂, rules, eq-eqb, ne_eqb}
+use Rattle.std.proofs.Common.{◌||◌, refl, ◌∙◌, ap₂, eq-eqb, ne_eqb}
 use Rattle.step.proofs.evaluate.arithmetic.Goals as goal
 
 pub returns-then-op-eq4 : goal.returns-then-op-eq4

@@ -1,4 +1,4 @@
-use Rattle.std.proofs.Common.{rules, eq-eqb, ne_eqb}
+use Rattle.std.proofs.Common.{eq-eqb, ne_eqb}
 use Rattle.step.proofs.evaluate.compare_value.Goals as goal
 
 pub returns-then-op-eq21 : goal.returns-then-op-eq21

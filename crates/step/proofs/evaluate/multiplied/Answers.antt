@@ -1,4 +1,4 @@
-use Rattle.std.proofs.Common.{Bool, ◌||◌, refl, ap, ◌∙◌, rules}
+use Rattle.std.proofs.Common.{Bool, ◌||◌, refl, ap, ◌∙◌}
 use Rattle.step.proofs.evaluate.multiplied.Goals as goal
 
 pub returns : goal.returns

@@ -1,9 +1,7 @@
-use Rattle.std.proofs.Common.{ℕ, ◌-◌, ◌<◌, false, inl, inr, arith}
+use Rattle.std.proofs.Common.{◌-◌}
 use Rattle.design.specs.Check.{names_of}
 use Rattle.design.specs.State.{layout_of}
-use Rattle.design.specs.Limits.{max_depth}
-use Rattle.step.proofs.Values.{bool_forward}
-use Rattle.step.proofs.Runs.{stmt_unknown, list_forward, list_live, seq_first, Going, going_start, going_on, going_end, stmt_live, assign_live, assign_runs, if_deep, if_test, if_then, if_else_lem, runs_then, runs_else}
+use Rattle.step.proofs.Runs.{Going}
 use Rattle.step.proofs.execute.+run_list_run_stmt.Given as goal
 
 abbrev pub decreases-run_list : goal.decreases-run_list

@@ -1,4 +1,3 @@
-use Rattle.std.proofs.Common.{rules}
 use Rattle.step.proofs.execute.mark_if.Goals as goal
 
 pub returns-then-passed : goal.returns-then-passed

@@ -1,4 +1,4 @@
-use Rattle.std.proofs.Common.{sym, ◌∙◌, rules}
+use Rattle.std.proofs.Common.{sym, ◌∙◌}
 use Rattle.design.specs.Action.{list}
 use Rattle.design.specs.Check.{names_in}
 use Rattle.step.proofs.Runs.{found_past, found_bad}

@@ -1,4 +1,4 @@
-use Rattle.std.proofs.Common.{sym, ◌∙◌, arith, rules}
+use Rattle.std.proofs.Common.{sym, ◌∙◌, arith}
 use borrow.Author.Tests.{not-true, not-false}
 use Rattle.design.proofs.Places.{read}
 use Rattle.step.proofs.Gates.{accepted_zero, gate_check, gate_13, gate_8, gate_14, gate_none}

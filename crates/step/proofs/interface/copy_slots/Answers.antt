@@ -1,6 +1,6 @@
-use Rattle.std.proofs.Common.{◌≡◌, ◌-◌, ◌≤◌, refl, ap, ◌∙◌, arith}
+use Rattle.std.proofs.Common.{◌≡◌, refl, ap, ◌∙◌, arith}
 use lib.Seq.{paste}
-use Rattle.step.proofs.Entries.{Copying, copying_start, copying_on, copying_size}
+use Rattle.step.proofs.Entries.{copying_start, copying_on, copying_size}
 use Rattle.step.proofs.interface.copy_slots.Goals as goal
 
 pub loop-i-init : goal.loop-i-init

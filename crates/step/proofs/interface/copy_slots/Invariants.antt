@@ -1,6 +1,5 @@
-use Rattle.std.proofs.Common.{◌≡◌, ◌-◌, ◌≤◌, refl, ap, ◌∙◌, arith}
-use lib.Seq.{paste}
-use Rattle.step.proofs.Entries.{Copying, copying_start, copying_on, copying_size}
+use Rattle.std.proofs.Common.{◌-◌, ◌≤◌}
+use Rattle.step.proofs.Entries.{Copying}
 use Rattle.step.proofs.interface.copy_slots.Given as goal
 
 abbrev pub invariant-loop-i : goal.invariant-loop-i

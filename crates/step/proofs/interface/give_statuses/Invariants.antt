@@ -1,5 +1,5 @@
-use Rattle.std.proofs.Common.{◌≡◌, ℕ, ◌-◌, ◌≤◌, ◌++◌, take, drop, replicate, refl, ap, ◌∙◌, arith}
-use Rattle.step.proofs.Entries.{Copying, copying_start, copying_from, copied}
+use Rattle.std.proofs.Common.{◌-◌, ◌≤◌, drop, replicate}
+use Rattle.step.proofs.Entries.{Copying}
 use Rattle.design.specs.Limits.{max_matrices}
 use Rattle.step.proofs.interface.give_statuses.Given as goal
 

@@ -1,7 +1,7 @@
-use Rattle.std.proofs.Common.{◌≡◌, ℕ, ◌-◌, ◌≤◌, ◌++◌, map, take, replicate, pos, ap, ◌∙◌, arith}
+use Rattle.std.proofs.Common.{◌≡◌, ℕ, ◌-◌, ◌++◌, map, take, replicate, pos, ap, ◌∙◌, arith}
 use Rattle.step.specs.Pattern.{signed}
 use Rattle.step.proofs.Signed.{stored}
-use Rattle.step.proofs.Entries.{Copying, copying_start, copying_mapped, copied}
+use Rattle.step.proofs.Entries.{copying_start, copying_mapped, copied}
 use Rattle.design.specs.Limits.{max_variables}
 use Rattle.step.proofs.interface.give_values.Goals as goal
 

@@ -1,7 +1,6 @@
-use Rattle.std.proofs.Common.{◌≡◌, ℕ, ◌-◌, ◌≤◌, ◌++◌, map, take, replicate, pos, ap, ◌∙◌, arith}
+use Rattle.std.proofs.Common.{◌-◌, ◌≤◌, map, replicate, pos}
 use Rattle.step.specs.Pattern.{signed}
-use Rattle.step.proofs.Signed.{stored}
-use Rattle.step.proofs.Entries.{Copying, copying_start, copying_mapped, copied}
+use Rattle.step.proofs.Entries.{Copying}
 use Rattle.design.specs.Limits.{max_variables}
 use Rattle.step.proofs.interface.give_values.Given as goal
 

@@ -1,8 +1,8 @@
-use Rattle.std.proofs.Common.{◌-◌, ◌≤◌, map, replicate, pos, ◌∙◌, arith}
+use Rattle.std.proofs.Common.{map, pos, ◌∙◌, arith}
 use lib.ListN.{length-map}
 use Rattle.step.specs.Pattern.{wrap}
 use Rattle.step.proofs.Signed.{loaded}
-use Rattle.step.proofs.Entries.{Copying, copying_start, copying_mapped, copied_all}
+use Rattle.step.proofs.Entries.{copying_start, copying_mapped, copied_all}
 use Rattle.design.specs.Limits.{max_variables}
 use Rattle.step.proofs.interface.patterns.Goals as goal
 

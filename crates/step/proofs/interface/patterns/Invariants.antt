@@ -1,8 +1,6 @@
-use Rattle.std.proofs.Common.{◌-◌, ◌≤◌, map, replicate, pos, ◌∙◌, arith}
-use lib.ListN.{length-map}
+use Rattle.std.proofs.Common.{◌-◌, ◌≤◌, map, replicate}
 use Rattle.step.specs.Pattern.{wrap}
-use Rattle.step.proofs.Signed.{loaded}
-use Rattle.step.proofs.Entries.{Copying, copying_start, copying_mapped, copied_all}
+use Rattle.step.proofs.Entries.{Copying}
 use Rattle.design.specs.Limits.{max_variables}
 use Rattle.step.proofs.interface.patterns.Given as goal
 

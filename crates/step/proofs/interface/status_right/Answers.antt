@@ -1,4 +1,4 @@
-use Rattle.std.proofs.Common.{◌+◌, ◌*◌, arith, rules, le-ltb, lt-ltb}
+use Rattle.std.proofs.Common.{◌+◌, ◌*◌, arith, le-ltb, lt-ltb}
 use Rattle.step.proofs.interface.status_right.Goals as goal
 
 pub returns-then-matrices-m : goal.returns-then-matrices-m

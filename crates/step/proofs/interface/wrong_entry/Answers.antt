@@ -1,5 +1,4 @@
 use Rattle.step.proofs.Entries.{first_entry, status_entry, mark_entry, no_entry}
-use Rattle.std.proofs.Common.{rules}
 use Rattle.step.proofs.interface.wrong_entry.Goals as goal
 
 pub returns-then-i-lt-MAX_VARIABLES : goal.returns-then-i-lt-MAX_VARIABLES

@@ -1,10 +1,8 @@
-use Rattle.std.proofs.Common.{◌≡◌, ◌-◌, arith}
-use borrow.Author.Tests.{not-true, not-false}
+use Rattle.std.proofs.Common.{◌≡◌, ◌-◌}
 use Rattle.design.specs.Tree.{Design}
 use Rattle.design.specs.Check.{matrices_offset}
-use Rattle.design.proofs.Places.{read}
 use Rattle.step.specs.Interface.{statuses_right}
-use Rattle.step.proofs.Entries.{LookingAt, statuses_start, statuses_wrong, statuses_right_lem, statuses_end, matrices_inside}
+use Rattle.step.proofs.Entries.{LookingAt}
 use Rattle.design.specs.Limits.{max_matrices}
 use Rattle.step.proofs.interface.wrong_status.Given as goal
 

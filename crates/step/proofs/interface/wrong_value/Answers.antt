@@ -1,11 +1,7 @@
-use Rattle.std.proofs.Common.{◌-◌, arith}
-use borrow.Author.Tests.{not-true, not-false}
-use Rattle.design.specs.Tree.{Design}
+use Rattle.std.proofs.Common.{arith}
 use Rattle.design.proofs.Places.{read}
-use Rattle.step.specs.Interface.{values_right}
 use Rattle.design.proofs.Indexed.{variables_inside}
-use Rattle.step.proofs.Entries.{LookingAt, values_start, values_wrong, values_right_lem, values_end}
-use Rattle.design.specs.Limits.{max_variables}
+use Rattle.step.proofs.Entries.{values_start, values_wrong, values_right_lem, values_end}
 use Rattle.step.proofs.interface.wrong_value.Goals as goal
 
 pub loop-i-init : goal.loop-i-init

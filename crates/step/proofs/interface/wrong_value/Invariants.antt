@@ -1,10 +1,7 @@
-use Rattle.std.proofs.Common.{◌-◌, arith}
-use borrow.Author.Tests.{not-true, not-false}
+use Rattle.std.proofs.Common.{◌-◌}
 use Rattle.design.specs.Tree.{Design}
-use Rattle.design.proofs.Places.{read}
 use Rattle.step.specs.Interface.{values_right}
-use Rattle.design.proofs.Indexed.{variables_inside}
-use Rattle.step.proofs.Entries.{LookingAt, values_start, values_wrong, values_right_lem, values_end}
+use Rattle.step.proofs.Entries.{LookingAt}
 use Rattle.design.specs.Limits.{max_variables}
 use Rattle.step.proofs.interface.wrong_value.Given as goal
 

@@ -1,4 +1,4 @@
-use Rattle.std.proofs.Common.{Bool, cond, sym, ap, ◌∙◌, rules}
+use Rattle.std.proofs.Common.{Bool, cond, sym, ap, ◌∙◌}
 use Rattle.step.specs.Limits.{last_state_property}
 use Rattle.step.proofs.limits.last_property.Goals as goal
 

@@ -1,4 +1,4 @@
-use Rattle.std.proofs.Common.{ℕ, ◌+◌, refl, ap, ap₂, arith, rules}
+use Rattle.std.proofs.Common.{ℕ, ◌+◌, refl, ap, ap₂, arith}
 use Rattle.design.proofs.Indexed.{normal_fields}
 use Rattle.step.proofs.Cells.{sizes, kinds, in_range, action_reads, acted}
 use Rattle.step.proofs.mover.act_cell.Goals as goal

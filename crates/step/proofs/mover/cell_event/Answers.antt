@@ -1,5 +1,4 @@
 use Rattle.step.proofs.Cells.{in_range, event_read}
-use Rattle.std.proofs.Common.{rules}
 use Rattle.step.proofs.mover.cell_event.Goals as goal
 
 pub event_true-requires : goal.event_true-requires

@@ -1,4 +1,4 @@
-use Rattle.std.proofs.Common.{ℕ, ◌+◌, ◌*◌, false, get_or, refl, ap, arith, rules}
+use Rattle.std.proofs.Common.{ℕ, ◌+◌, ◌*◌, false, get_or, refl, ap, arith}
 use Rattle.design.specs.Limits.{max_depth}
 use Rattle.step.proofs.Cells.{sizes, event_reads, event_value}
 use Rattle.design.proofs.Indexed.{event_slot, event_inside}

@@ -1,4 +1,4 @@
-use Rattle.std.proofs.Common.{false, sym, ◌∙◌, arith, rules}
+use Rattle.std.proofs.Common.{false, sym, ◌∙◌, arith}
 use Rattle.design.proofs.Indexed.{normal_fields}
 use Rattle.design.specs.Limits.{max_depth}
 use Rattle.step.proofs.Cells.{sizes, guard_empty, guard_reads, guard_value}

@@ -1,6 +1,5 @@
-use Rattle.std.proofs.Common.{◌-◌, refl, arith}
-use borrow.Author.Tests.{not-true, not-false}
-use Rattle.step.proofs.Pairs.{Keeping, keeping_start, keeping_on, keeping_end, keeping_kept, unkept}
+use Rattle.std.proofs.Common.{refl, arith}
+use Rattle.step.proofs.Pairs.{keeping_start, keeping_on, keeping_end, keeping_kept, unkept}
 use Rattle.step.proofs.mover.keep_state.Goals as goal
 
 pub returns-then-not-keep : goal.returns-then-not-keep

@@ -1,6 +1,5 @@
-use Rattle.std.proofs.Common.{◌-◌, refl, arith}
-use borrow.Author.Tests.{not-true, not-false}
-use Rattle.step.proofs.Pairs.{Keeping, keeping_start, keeping_on, keeping_end, keeping_kept, unkept}
+use Rattle.std.proofs.Common.{◌-◌}
+use Rattle.step.proofs.Pairs.{Keeping}
 use Rattle.step.proofs.mover.keep_state.Given as goal
 
 abbrev pub invariant-loop-i : goal.invariant-loop-i

@@ -1,7 +1,5 @@
-use borrow.Author.Tests.{not-true, not-false}
 use Rattle.design.proofs.Indexed.{normal_fields}
 use Rattle.step.proofs.Cells.{status_fails, event_fails, guard_fails, cell_moves}
-use Rattle.std.proofs.Common.{rules}
 use Rattle.step.proofs.mover.move_cell.Goals as goal
 
 pub status_stands-requires : goal.status_stands-requires

@@ -1,4 +1,4 @@
-use Rattle.std.proofs.Common.{arith, rules}
+use Rattle.std.proofs.Common.{arith}
 use Rattle.step.proofs.Cells.{kinds}
 use Rattle.step.proofs.Choices.{chosen, slot, place_small, step_cell, step_external}
 use Rattle.step.proofs.mover.move_chosen.Goals as goal

@@ -1,5 +1,4 @@
 use Rattle.step.proofs.Cells.{raised_idle, raised}
-use Rattle.std.proofs.Common.{rules}
 use Rattle.step.proofs.mover.move_external.Goals as goal
 
 pub returns-then-slots-v-gt0 : goal.returns-then-slots-v-gt0

@@ -1,6 +1,4 @@
-use borrow.Author.Tests.{not-true, not-false}
 use Rattle.step.proofs.Cells.{other_status, same_status}
-use Rattle.std.proofs.Common.{rules}
 use Rattle.step.proofs.mover.status_and_event.Goals as goal
 
 pub returns-then-not-status_stands : goal.returns-then-not-status_stands

@@ -1,4 +1,4 @@
-use Rattle.std.proofs.Common.{◌+◌, arith, rules}
+use Rattle.std.proofs.Common.{◌+◌, arith}
 use Rattle.step.proofs.Cells.{status_read}
 use Rattle.step.proofs.mover.status_stands.Goals as goal
 

@@ -1,4 +1,4 @@
-use Rattle.std.proofs.Common.{◌-ℤ◌, arith, rules}
+use Rattle.std.proofs.Common.{◌-ℤ◌, arith}
 use Rattle.step.proofs.Exact.{differences, op_fits, op_outside}
 use Rattle.step.proofs.number.difference_passes.Goals as goal
 

@@ -1,4 +1,4 @@
-use Rattle.std.proofs.Common.{arith, rules}
+use Rattle.std.proofs.Common.{arith}
 use Rattle.step.proofs.Exact.{exact_fits, exact_is}
 use Rattle.step.proofs.number.exact.Goals as goal
 

@@ -1,4 +1,4 @@
-use Rattle.std.proofs.Common.{arith, rules}
+use Rattle.std.proofs.Common.{arith}
 use Rattle.step.proofs.Signed.{difference_fits, difference_cast, integer_low, integer_high}
 use Rattle.step.proofs.number.integer.Goals as goal
 

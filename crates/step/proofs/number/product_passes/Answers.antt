@@ -1,4 +1,4 @@
-use Rattle.std.proofs.Common.{◌*ℤ◌, arith, rules}
+use Rattle.std.proofs.Common.{◌*ℤ◌, arith}
 use Rattle.step.proofs.Exact.{products, op_fits, op_outside}
 use Rattle.step.proofs.number.product_passes.Goals as goal
 

@@ -1,5 +1,5 @@
 -- `step::number::times16` meets its contract. Assumes nothing.
-use Rattle.std.proofs.Common.{arith, rules}
+use Rattle.std.proofs.Common.{arith}
 use Rattle.step.proofs.Patterns.{times_small}
 use Rattle.step.proofs.number.times16.Goals as goal
 

@@ -1,4 +1,4 @@
-use Rattle.std.proofs.Common.{sym, ap, ◌∙◌, arith, rules}
+use Rattle.std.proofs.Common.{sym, ap, ◌∙◌, arith}
 use Rattle.design.specs.Answers.{shape_of}
 use Rattle.design.proofs.Places.{read}
 use Rattle.design.proofs.Indexed.{variables_inside}

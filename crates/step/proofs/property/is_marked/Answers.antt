@@ -1,5 +1,4 @@
 use Rattle.step.proofs.Scanning.{set_is}
-use Rattle.std.proofs.Common.{rules}
 use Rattle.step.proofs.property.is_marked.Goals as goal
 
 pub returns : goal.returns

@@ -1,7 +1,6 @@
-use Rattle.std.proofs.Common.{◌≡◌, ℕ, ◌+◌, ◌-◌, ap₂, arith}
-use Rattle.design.specs.Check.{cell_count}
+use Rattle.std.proofs.Common.{ℕ, ◌+◌, ap₂, arith}
 use Rattle.step.proofs.Cells.{sizes}
-use Rattle.step.proofs.Scanning.{Scanning, scanning_start, scan_fields, scan_found, scan_normal, scan_invalid, scanning_end}
+use Rattle.step.proofs.Scanning.{scanning_start, scan_fields, scan_found, scan_normal, scan_invalid, scanning_end}
 use Rattle.step.proofs.property.no_invalid.Goals as goal
 use Rattle.step.proofs.property.no_invalid.Goals.{then-file-p-ne0+else-status_and_event, else-file-p-ne0}
 

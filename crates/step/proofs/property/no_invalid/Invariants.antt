@@ -1,7 +1,6 @@
-use Rattle.std.proofs.Common.{◌≡◌, ℕ, ◌+◌, ◌-◌, ap₂, ⊎_elim, arith}
+use Rattle.std.proofs.Common.{◌≡◌, ◌-◌}
 use Rattle.design.specs.Check.{cell_count}
-use Rattle.step.proofs.Cells.{sizes}
-use Rattle.step.proofs.Scanning.{Scanning, scanning_start, scan_fields, scan_found, scan_normal, scan_invalid, scanning_end}
+use Rattle.step.proofs.Scanning.{Scanning}
 use Rattle.step.proofs.property.no_invalid.Given as goal
 
 abbrev pub invariant-loop-i : goal.invariant-loop-i

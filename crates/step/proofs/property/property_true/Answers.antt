@@ -1,4 +1,4 @@
-use Rattle.std.proofs.Common.{ℕ, sym, ap, ◌∙◌, arith, rules}
+use Rattle.std.proofs.Common.{ℕ, sym, ap, ◌∙◌, arith}
 use Rattle.step.specs.Piece.{piece_right}
 use Rattle.step.proofs.Cells.{sizes}
 use Rattle.step.proofs.Scanning.{marked_property, expression_property, invalid_property}

@@ -1,4 +1,4 @@
-use Rattle.std.proofs.Common.{◌+◌, Bool, sym, ap, arith, rules}
+use Rattle.std.proofs.Common.{◌+◌, Bool, sym, ap, arith}
 use Rattle.design.specs.Tree.{bit}
 use Rattle.step.proofs.replaying.count_if.Goals as goal
 

@@ -1,5 +1,4 @@
-use Rattle.std.proofs.Common.{◌-◌, length, arith}
-use Rattle.step.proofs.Looking.{Looking, looking_start, belows, choice_over, choice_below, choices_end}
+use Rattle.step.proofs.Looking.{looking_start, choice_over, choice_below, choices_end}
 use Rattle.step.proofs.replaying.first_over.Goals as goal
 
 pub loop-i-init : goal.loop-i-init

@@ -1,5 +1,5 @@
-use Rattle.std.proofs.Common.{◌-◌, length, arith}
-use Rattle.step.proofs.Looking.{Looking, looking_start, belows, choice_over, choice_below, choices_end}
+use Rattle.std.proofs.Common.{◌-◌, length}
+use Rattle.step.proofs.Looking.{Looking, belows}
 use Rattle.step.proofs.replaying.first_over.Given as goal
 
 abbrev pub invariant-loop-i : goal.invariant-loop-i

@@ -1,6 +1,6 @@
-use Rattle.std.proofs.Common.{◌-◌, length, sym, ap, ◌∙◌, arith}
+use Rattle.std.proofs.Common.{length, sym, ap, ◌∙◌, arith}
 use lib.ListN.{length-replicate}
-use Rattle.step.proofs.Replays.{Loading, loading_start, loading_inside, loading_on, loading_end}
+use Rattle.step.proofs.Replays.{loading_start, loading_inside, loading_on, loading_end}
 use Rattle.step.proofs.replaying.load_start.Goals as goal
 
 pub loop-v-init : goal.loop-v-init

@@ -1,6 +1,5 @@
-use Rattle.std.proofs.Common.{◌-◌, length, sym, ap, ◌∙◌, arith}
-use lib.ListN.{length-replicate}
-use Rattle.step.proofs.Replays.{Loading, loading_start, loading_inside, loading_on, loading_end}
+use Rattle.std.proofs.Common.{◌-◌}
+use Rattle.step.proofs.Replays.{Loading}
 use Rattle.step.proofs.replaying.load_start.Given as goal
 
 abbrev pub invariant-loop-v : goal.invariant-loop-v

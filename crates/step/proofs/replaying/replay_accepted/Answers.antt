@@ -1,4 +1,4 @@
-use Rattle.std.proofs.Common.{ℕ, ◌+◌, replicate, sym, ap, ◌∙◌, ap₂, arith, length-take-le, rules}
+use Rattle.std.proofs.Common.{ℕ, ◌+◌, replicate, sym, ap, ◌∙◌, ap₂, arith, length-take-le}
 use Rattle.design.specs.Limits.{pair_slots}
 use Rattle.design.proofs.Indexed.{sized, count_movers, few_movers}
 use Rattle.step.proofs.Choices.{movers_here}

@@ -1,6 +1,5 @@
-use Rattle.std.proofs.Common.{◌-◌, length, arith}
-use Rattle.design.specs.State.{slot_count}
-use Rattle.step.proofs.Replays.{pair_same, Replaying, replaying_start, replaying_few, replaying_on, replaying_end}
+use Rattle.std.proofs.Common.{arith}
+use Rattle.step.proofs.Replays.{pair_same, replaying_start, replaying_few, replaying_on, replaying_end}
 use Rattle.step.proofs.replaying.replay_choices.Goals as goal
 
 pub loop-i-init : goal.loop-i-init

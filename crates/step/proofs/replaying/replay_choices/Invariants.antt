@@ -1,6 +1,6 @@
-use Rattle.std.proofs.Common.{◌-◌, length, arith}
+use Rattle.std.proofs.Common.{◌-◌, length}
 use Rattle.design.specs.State.{slot_count}
-use Rattle.step.proofs.Replays.{pair_same, Replaying, replaying_start, replaying_few, replaying_on, replaying_end}
+use Rattle.step.proofs.Replays.{Replaying}
 use Rattle.step.proofs.replaying.replay_choices.Given as goal
 
 abbrev pub invariant-loop-i : goal.invariant-loop-i

@@ -1,4 +1,4 @@
-use Rattle.std.proofs.Common.{drop, ap, ◌∙◌, arith, rules}
+use Rattle.std.proofs.Common.{drop, ap, ◌∙◌, arith}
 use Rattle.design.specs.State.{State, slot_count}
 use Rattle.design.specs.Answer.{answer}
 use Rattle.design.proofs.Indexed.{sized}

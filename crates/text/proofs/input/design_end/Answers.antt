@@ -4,7 +4,6 @@ use mathlib.Core.Path.{refl}
 use Prim.Native.Nat.{◌+◌}
 use lib.ListN.{length}
 use Rattle.text.proofs.Tracing.{read_part}
-use borrow.Author.Rules.{rules}
 use Rattle.text.proofs.input.design_end.Goals as goal
 
 pub returns-then-input-start-gt-MAX_READ : goal.returns-then-input-start-gt-MAX_READ

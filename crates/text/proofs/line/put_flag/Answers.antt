@@ -5,7 +5,6 @@ use Prim.Native.Nat.{◌+◌}
 use native.Mathlib.Omega.{arith}
 use Rattle.design.specs.Tree.{bit}
 use Rattle.text.proofs.Putting.{flag_written}
-use borrow.Author.Rules.{rules}
 use Rattle.text.proofs.line.put_flag.Goals as goal
 
 pub returns-then-flag : goal.returns-then-flag

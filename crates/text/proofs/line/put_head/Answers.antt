@@ -2,7 +2,6 @@
 use native.Mathlib.Omega.{arith}
 use Rattle.text.specs.Line.{head}
 use Rattle.text.proofs.Putting.{written_then}
-use borrow.Author.Rules.{rules}
 use Rattle.text.proofs.line.put_head.Goals as goal
 
 pub returns : goal.returns

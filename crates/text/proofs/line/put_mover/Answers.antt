@@ -1,7 +1,6 @@
 -- `text::line::put_mover` meets its contract. Assumes nothing.
 use native.Mathlib.Omega.{arith}
 use Rattle.text.proofs.Putting.{mover_none, mover_some}
-use borrow.Author.Rules.{rules}
 use Rattle.text.proofs.line.put_mover.Goals as goal
 
 pub returns-then-step-eq0 : goal.returns-then-step-eq0

@@ -1,10 +1,7 @@
 -- `text::line::put_statuses` meets its contract. Assumes nothing.
-use Prim.Native.Nat.{◌≤◌, ◌-◌, ◌+◌}
-use mathlib.Core.List.{map}
+use Prim.Native.Nat.{◌+◌}
 use native.Mathlib.Omega.{arith}
-use lib.IntN.{pos}
-use lib.ListN.{take, drop}
-use Rattle.text.proofs.Putting.{written_length, Left, left_start, statuses_next, statuses_end}
+use Rattle.text.proofs.Putting.{written_length, left_start, statuses_next, statuses_end}
 use Rattle.text.proofs.line.put_statuses.Goals as goal
 
 pub loop-i-init : goal.loop-i-init

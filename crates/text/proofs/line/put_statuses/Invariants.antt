@@ -1,9 +1,8 @@
-use Prim.Native.Nat.{◌≤◌, ◌-◌, ◌+◌}
+use Prim.Native.Nat.{◌≤◌, ◌-◌}
 use mathlib.Core.List.{map}
-use native.Mathlib.Omega.{arith}
 use lib.IntN.{pos}
 use lib.ListN.{take, drop}
-use Rattle.text.proofs.Putting.{written_length, Left, left_start, statuses_next, statuses_end}
+use Rattle.text.proofs.Putting.{Left}
 use Rattle.text.proofs.line.put_statuses.Given as goal
 
 abbrev pub invariant-loop-i : goal.invariant-loop-i

@@ -1,10 +1,6 @@
 -- `text::line::put_values` meets its contract. Assumes nothing.
-use Prim.Native.Nat.{◌≤◌, ◌-◌}
-use mathlib.Core.List.{map}
 use native.Mathlib.Omega.{arith}
-use lib.ListN.{take}
-use Rattle.step.specs.Pattern.{signed}
-use Rattle.text.proofs.Putting.{written_length, Left, left_start, values_next, values_end}
+use Rattle.text.proofs.Putting.{written_length, left_start, values_next, values_end}
 use Rattle.text.proofs.line.put_values.Goals as goal
 
 pub loop-i-init : goal.loop-i-init

@@ -1,9 +1,8 @@
 use Prim.Native.Nat.{◌≤◌, ◌-◌}
 use mathlib.Core.List.{map}
-use native.Mathlib.Omega.{arith}
 use lib.ListN.{take}
 use Rattle.step.specs.Pattern.{signed}
-use Rattle.text.proofs.Putting.{written_length, Left, left_start, values_next, values_end}
+use Rattle.text.proofs.Putting.{Left}
 use Rattle.text.proofs.line.put_values.Given as goal
 
 abbrev pub invariant-loop-i : goal.invariant-loop-i

@@ -1,7 +1,6 @@
 -- `text::listing::parts_of` meets its contract. Assumes nothing.
 use native.Mathlib.Omega.{arith}
 use Rattle.text.proofs.Parts.{text_refused, text_joined}
-use borrow.Author.Rules.{rules}
 use Rattle.text.proofs.listing.parts_of.Goals as goal
 
 pub returns-then-input-lt2 : goal.returns-then-input-lt2

@@ -1,10 +1,7 @@
 -- `text::listing::printed_parts` meets its contract. Assumes nothing.
-use borrow.Author.Rules.{rules}
 use native.Mathlib.Omega.{arith}
-use mathlib.Core.Path.{◌≡◌, refl, sym, ◌∙◌}
-use Prim.Native.Nat.{◌+◌, ◌-◌}
-use lib.ListN.{length}
-use Rattle.text.proofs.Parts.{Fine, fine_start, fine_on, parts_refused, parts_printed}
+use mathlib.Core.Path.{refl, sym, ◌∙◌}
+use Rattle.text.proofs.Parts.{fine_start, fine_on, parts_refused, parts_printed}
 use Rattle.text.proofs.listing.printed_parts.Goals as goal
 
 pub loop-i-init : goal.loop-i-init

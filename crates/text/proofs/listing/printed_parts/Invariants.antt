@@ -1,9 +1,7 @@
-use borrow.Author.Rules.{rules}
-use native.Mathlib.Omega.{arith}
-use mathlib.Core.Path.{◌≡◌, refl, sym, ◌∙◌}
+use mathlib.Core.Path.{◌≡◌}
 use Prim.Native.Nat.{◌+◌, ◌-◌}
 use lib.ListN.{length}
-use Rattle.text.proofs.Parts.{Fine, fine_start, fine_on, parts_refused, parts_printed}
+use Rattle.text.proofs.Parts.{Fine}
 use Rattle.text.proofs.listing.printed_parts.Given as goal
 
 abbrev pub invariant-loop-i : goal.invariant-loop-i

@@ -2,7 +2,6 @@
 use native.Mathlib.Omega.{arith}
 use mathlib.Core.Path.{sym}
 use Rattle.text.proofs.Parts.{is_encoded, part_refused, part_written}
-use borrow.Author.Rules.{rules}
 use Rattle.text.proofs.listing.put_part.Goals as goal
 
 pub slice_bounds-put_words-end : goal.slice_bounds-put_words-end

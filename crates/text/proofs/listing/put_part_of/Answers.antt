@@ -1,7 +1,6 @@
 -- `text::listing::put_part_of` meets its contract. Assumes nothing.
 use native.Mathlib.Omega.{arith}
 use Rattle.text.proofs.Parts.{input_refused, input_part}
-use borrow.Author.Rules.{rules}
 use Rattle.text.proofs.listing.put_part_of.Goals as goal
 
 pub returns-then-input-lt2 : goal.returns-then-input-lt2

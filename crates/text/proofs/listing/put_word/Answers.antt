@@ -4,7 +4,6 @@ use mathlib.Core.Path.{sym, ◌∙◌}
 use lib.IntN.{pos}
 use lib.ListN.{get_or}
 use Rattle.text.proofs.Parts.{word_ends, word_goes}
-use borrow.Author.Rules.{rules}
 use Rattle.text.proofs.listing.put_word.Goals as goal
 
 pub returns-then-ends : goal.returns-then-ends

@@ -1,8 +1,6 @@
 -- `text::listing::put_words` meets its contract. Assumes nothing.
 use native.Mathlib.Omega.{arith}
-use Prim.Native.Nat.{◌≤◌, ◌-◌}
-use lib.ListN.{length}
-use Rattle.text.proofs.Parts.{WordsLeft, words_start, words_next, words_end}
+use Rattle.text.proofs.Parts.{words_start, words_next, words_end}
 use Rattle.text.proofs.listing.put_words.Goals as goal
 
 pub loop-i-init : goal.loop-i-init

@@ -1,7 +1,6 @@
-use native.Mathlib.Omega.{arith}
 use Prim.Native.Nat.{◌≤◌, ◌-◌}
 use lib.ListN.{length}
-use Rattle.text.proofs.Parts.{WordsLeft, words_start, words_next, words_end}
+use Rattle.text.proofs.Parts.{WordsLeft}
 use Rattle.text.proofs.listing.put_words.Given as goal
 
 abbrev pub invariant-loop-i : goal.invariant-loop-i

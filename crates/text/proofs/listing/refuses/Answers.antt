@@ -1,6 +1,5 @@
 -- `text::listing::refuses` meets its contract. Assumes nothing.
 use Rattle.text.proofs.Parts.{refused_yes, refused_no}
-use borrow.Author.Rules.{rules}
 use Rattle.text.proofs.listing.refuses.Goals as goal
 
 pub returns-in-Refused : goal.returns-in-Refused

@@ -1,10 +1,8 @@
 -- `text::number::put_digits` meets its contract. Assumes nothing.
 use native.Mathlib.Omega.{arith}
-use borrow.Author.Rules.{rules}
 use Rattle.text.proofs.Putting.{written_length, digits_none, digits_last, digits_more, digits_length}
 use mathlib.Core.Path.{◌∙◌}
 use Prim.Native.Nat.{◌-◌, ◌/◌}
-use Prim.Native.Nat.{ℕ, ◌<◌}
 use Rattle.text.proofs.number.+put_digits.Goals as goal
 
 pub returns-then-left-eq0 : goal.returns-then-left-eq0

@@ -1,7 +1,6 @@
 -- `text::number::put_byte` meets its contract. Assumes nothing.
 use Rattle.text.proofs.Putting.{written_byte}
 use mathlib.Core.Path.{refl}
-use borrow.Author.Rules.{rules}
 use Rattle.text.proofs.number.put_byte.Goals as goal
 
 pub returns : goal.returns

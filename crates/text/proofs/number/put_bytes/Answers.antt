@@ -1,8 +1,7 @@
 -- `text::number::put_bytes` meets its contract. Assumes nothing.
-use Prim.Native.Nat.{◌≤◌, ◌-◌}
 use native.Mathlib.Omega.{arith}
-use lib.ListN.{length, drop, length-drop}
-use Rattle.text.proofs.Putting.{Rest, rest_start, bytes_next, bytes_end}
+use lib.ListN.{length-drop}
+use Rattle.text.proofs.Putting.{rest_start, bytes_next, bytes_end}
 use Rattle.text.proofs.number.put_bytes.Goals as goal
 
 pub loop-i-init : goal.loop-i-init

@@ -1,7 +1,6 @@
 use Prim.Native.Nat.{◌≤◌, ◌-◌}
-use native.Mathlib.Omega.{arith}
-use lib.ListN.{length, drop, length-drop}
-use Rattle.text.proofs.Putting.{Rest, rest_start, bytes_next, bytes_end}
+use lib.ListN.{length, drop}
+use Rattle.text.proofs.Putting.{Rest}
 use Rattle.text.proofs.number.put_bytes.Given as goal
 
 abbrev pub invariant-loop-i : goal.invariant-loop-i

@@ -1,6 +1,5 @@
 -- `text::number::put_decimal` meets its contract. Assumes nothing.
 use Rattle.text.proofs.Putting.{decimal_past}
-use borrow.Author.Rules.{rules}
 use Rattle.text.proofs.number.put_decimal.Goals as goal
 
 pub returns : goal.returns

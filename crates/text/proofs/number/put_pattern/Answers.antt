@@ -1,7 +1,6 @@
 -- `text::number::put_pattern` meets its contract. Assumes nothing.
 use native.Mathlib.Omega.{arith}
 use Rattle.text.proofs.Putting.{written_length, pattern_plain, pattern_minus}
-use borrow.Author.Rules.{rules}
 use Rattle.text.proofs.number.put_pattern.Goals as goal
 
 pub shape_of-out-then-p-lt32768 : goal.shape_of-out-then-p-lt32768

@@ -4,7 +4,6 @@ use native.Mathlib.Omega.{arith}
 use lib.IntN.{pos}
 use lib.ListN.{get_or}
 use Rattle.text.proofs.Putting.{written_length, signed_plain, signed_minus, signed_past}
-use borrow.Author.Rules.{rules}
 use Rattle.text.proofs.number.put_signed.Goals as goal
 
 pub shape_of-out-then-s-eq1 : goal.shape_of-out-then-s-eq1

@@ -1,10 +1,7 @@
 -- `text::trace::put_next` meets its contract. Assumes nothing.
 use native.Mathlib.Omega.{arith}
-use Prim.Native.Nat.{◌-◌}
-use lib.ListN.{length}
-use Rattle.design.specs.State.{slot_count}
 use Rattle.step.proofs.Replays.{pair_same}
-use Rattle.text.proofs.Tracing.{Printing, printing_start, printing_on, printing_end}
+use Rattle.text.proofs.Tracing.{printing_start, printing_on, printing_end}
 use Rattle.text.proofs.trace.put_next.Goals as goal
 
 pub loop-i-init : goal.loop-i-init

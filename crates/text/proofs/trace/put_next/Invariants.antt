@@ -1,9 +1,7 @@
-use native.Mathlib.Omega.{arith}
 use Prim.Native.Nat.{◌-◌}
 use lib.ListN.{length}
 use Rattle.design.specs.State.{slot_count}
-use Rattle.step.proofs.Replays.{pair_same}
-use Rattle.text.proofs.Tracing.{Printing, printing_start, printing_on, printing_end}
+use Rattle.text.proofs.Tracing.{Printing}
 use Rattle.text.proofs.trace.put_next.Given as goal
 
 abbrev pub invariant-loop-i : goal.invariant-loop-i

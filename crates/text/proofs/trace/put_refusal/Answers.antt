@@ -3,7 +3,6 @@ use native.Mathlib.Omega.{arith}
 use Rattle.text.specs.Trace.{refusal_text}
 use Rattle.text.proofs.Putting.{written_then}
 use Rattle.text.proofs.Tracing.{refusal_as}
-use borrow.Author.Rules.{rules}
 use Rattle.text.proofs.trace.put_refusal.Goals as goal
 
 pub returns : goal.returns

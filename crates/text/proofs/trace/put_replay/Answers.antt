@@ -2,7 +2,6 @@
 use native.Mathlib.Omega.{arith}
 use Prim.Native.Nat.{◌+◌}
 use Rattle.text.proofs.Tracing.{text_short, text_whole}
-use borrow.Author.Rules.{rules}
 use Rattle.text.proofs.trace.put_replay.Goals as goal
 
 pub returns-then-input-lt2 : goal.returns-then-input-lt2

@@ -4,7 +4,6 @@ use mathlib.Core.Bool.{true, false}
 use Rattle.text.specs.Trace.{result_text}
 use Rattle.text.proofs.Putting.{written_then}
 use Rattle.text.proofs.Tracing.{result_as}
-use borrow.Author.Rules.{rules}
 use Rattle.text.proofs.trace.put_result.Goals as goal
 
 pub returns-then-broken : goal.returns-then-broken

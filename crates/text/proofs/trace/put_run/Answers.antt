@@ -9,7 +9,6 @@ use Rattle.design.proofs.Indexed.{sized}
 use Rattle.step.proofs.Choices.{movers_here}
 use Rattle.step.proofs.Replays.{take_replicate}
 use Rattle.text.proofs.Tracing.{choices_below}
-use borrow.Author.Rules.{rules}
 use Rattle.text.proofs.trace.put_run.Goals as goal
 
 pub slot_count-n-requires : goal.slot_count-n-requires

@@ -6,7 +6,6 @@ use Rattle.step.proofs.Pairs.{part_is}
 use Rattle.step.proofs.Pieces.{no_piece_right}
 use Rattle.text.proofs.Putting.{written_length}
 use Rattle.text.proofs.Tracing.{state_written}
-use borrow.Author.Rules.{rules}
 use Rattle.text.proofs.trace.put_state.Goals as goal
 
 pub true_at-holds-requires : goal.true_at-holds-requires

@@ -8,7 +8,6 @@ use Rattle.design.proofs.Sections.{whole}
 use Rattle.step.proofs.Pairs.{part_is, put_second}
 use Rattle.step.proofs.Replays.{drop_replicate, pair_same}
 use Rattle.text.proofs.Tracing.{states_written}
-use borrow.Author.Rules.{rules}
 use Rattle.text.proofs.trace.put_states.Goals as goal
 
 pub slot_count-n-requires : goal.slot_count-n-requires

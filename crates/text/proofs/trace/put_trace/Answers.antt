@@ -1,7 +1,6 @@
 -- `text::trace::put_trace` meets its contract. Assumes nothing.
 use native.Mathlib.Omega.{arith}
 use Rattle.text.proofs.Tracing.{replayable, trace_refused, trace_done}
-use borrow.Author.Rules.{rules}
 use Rattle.text.proofs.trace.put_trace.Goals as goal
 
 pub returns-then-refusal-ne0 : goal.returns-then-refusal-ne0

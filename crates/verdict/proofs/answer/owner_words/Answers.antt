@@ -2,7 +2,6 @@
 use mathlib.Core.Path.{ap, sym, ◌∙◌}
 use Rattle.verdict.specs.Answers.{owner_words}
 use Rattle.verdict.proofs.OneOwner.{owner_done}
-use borrow.Author.Rules.{rules}
 use Rattle.verdict.proofs.answer.owner_words.Goals as goal
 
 pub returns-in-Refused : goal.returns-in-Refused

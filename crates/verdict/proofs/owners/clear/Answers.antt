@@ -2,7 +2,6 @@
 use mathlib.Core.Path.{sym, ◌∙◌}
 use lib.Seq.{length-take-le}
 use Rattle.verdict.proofs.OneOwner.{never_refused, words_room, values_room, cleared}
-use borrow.Author.Rules.{rules}
 use Rattle.verdict.proofs.owners.clear.Goals as goal
 
 pub slice_bounds-zero_words-end : goal.slice_bounds-zero_words-end

@@ -1,8 +1,7 @@
 -- `verdict::owners::each_owner` meets its contract. Assumes nothing.
 use native.Mathlib.Omega.{arith}
 use mathlib.Core.Path.{refl}
-use Prim.Native.Nat.{◌-◌}
-use Rattle.verdict.proofs.OwnersLoop.{SoFar, so_far_start, so_far_next, so_far_end}
+use Rattle.verdict.proofs.OwnersLoop.{so_far_start, so_far_next, so_far_end}
 use Rattle.verdict.proofs.owners.each_owner.Goals as goal
 
 pub loop-i-init : goal.loop-i-init

@@ -1,7 +1,5 @@
-use native.Mathlib.Omega.{arith}
-use mathlib.Core.Path.{refl}
 use Prim.Native.Nat.{◌-◌}
-use Rattle.verdict.proofs.OwnersLoop.{SoFar, so_far_start, so_far_next, so_far_end}
+use Rattle.verdict.proofs.OwnersLoop.{SoFar}
 use Rattle.verdict.proofs.owners.each_owner.Given as goal
 
 abbrev pub invariant-loop-i : goal.invariant-loop-i

@@ -1,6 +1,5 @@
 -- `verdict::owners::one_owner` meets its contract. Assumes nothing.
 use Rattle.verdict.proofs.OneOwner.{owner_refused, owner_clearable, owner_done_left}
-use borrow.Author.Rules.{rules}
 use Rattle.verdict.proofs.owners.one_owner.Goals as goal
 
 pub clear-requires : goal.clear-requires

@@ -1,7 +1,6 @@
 -- `verdict::owners::owners` meets its contract. Assumes nothing.
 use native.Mathlib.Omega.{arith}
 use Rattle.verdict.proofs.OwnersCall.{owners_check, owners_20, owners_each}
-use borrow.Author.Rules.{rules}
 use Rattle.verdict.proofs.owners.owners.Goals as goal
 
 pub returns-then-checked-ne0 : goal.returns-then-checked-ne0
