@@ -7,7 +7,7 @@
 # make certify   ask the long rows of designs/rows-refuted.txt again, by cadical's proofs: some 40 minutes, no part of make test
 # make runs      write tests/runs/ anew, from the second implementation
 # make standin   build build/standin/: the host programs over the second implementation, for tests
-# All that is built stands under build/ and target/ (the prover's own), and nothing of it is committed.
+# All that is built stands under build/ and the crates' out/ (the prover's own), and nothing of it is committed.
 
 PREFIX = /usr/local
 # Both stand unquoted in commands, and the prefix in a program's text, too.
@@ -17,7 +17,8 @@ $(foreach c,& | ; < > ( ) ' " ` * ? [ ] \ !,$(if $(findstring $c,$(PREFIX)$(DEST
 override PREFIX := $(abspath $(PREFIX))
 # the program that is installed
 STM = build/stm
-ARCHIVE = target/staticlib/libentries.a
+ARCHIVE = crates/entries/out/libentries.a
+PROVED = build/kit crates.txt $(shell find crates -name out -prune -o -print)
 CFLAGS = -std=c11 -O2 -Wall -Wextra -Wconversion -Wmissing-prototypes -Werror
 SANITIZE = -g -fsanitize=address,undefined -fno-sanitize-recover=all
 COMMAND = $(wildcard host/stm/*.c)
@@ -26,7 +27,7 @@ HEADERS = $(wildcard host/*.h host/stm/*.h host/fuzz/*.h)
 STANDIN = $(CARGO_TARGET_DIR)/release/libstandin.a
 CARGO = cargo --offline --quiet
 export CARGO_TARGET_DIR = $(CURDIR)/build/cargo
-export PROVED_ARCHIVE = $(CURDIR)/target/staticlib
+export PROVED_ARCHIVE = $(CURDIR)/crates/entries/out
 
 .PHONY: demo test install uninstall serve bench certify runs clean archive standin
 .DELETE_ON_ERROR:
@@ -54,7 +55,7 @@ runs: build/serve-reference
 	@tests/printer --write
 
 clean:
-	rm -rf build target
+	rm -rf build crates/*/out
 
 # What a command prints, written to the target only where it differs, so that nothing is built anew without need.
 keep = mkdir -p $(@D); { $(1); } > $@.new && { cmp -s $@.new $@ && rm $@.new || mv $@.new $@; }
@@ -62,9 +63,9 @@ keep = mkdir -p $(@D); { $(1); } > $@.new && { cmp -s $@.new $@ && rm $@.new || 
 archive: $(ARCHIVE)
 
 # rt proves what has changed. Folders are listed too, for files that are taken away. Another kit proves all anew.
-$(ARCHIVE): build/kit crates.txt $(shell find crates)
+$(ARCHIVE): $(PROVED)
 	@tests/needs rt gcc
-	@tests/progress build/archive.log staticlib entries || { tail -n 20 build/archive.log; exit 1; }
+	@tests/progress build/archive.log lib entries || { tail -n 20 build/archive.log; exit 1; }
 	@touch $@
 
 build/kit: FORCE
@@ -108,10 +109,10 @@ build/standin/fuzz: $(FUZZER) build/archive-standin.c $(STANDIN) $(HEADERS) buil
 	@$(call compile,$(SANITIZE))
 
 # the programs, proved and compiled
-build/replay build/printer: build/%: FORCE
+build/replay build/printer: build/%: $(PROVED)
 	@tests/needs rt
-	@tests/progress build/$*.log check $* || { tail -n 20 build/$*.log; exit 1; }
-	@cp target/bin/$* $@
+	@tests/progress build/$*.log run $* || { tail -n 20 build/$*.log; exit 1; }
+	@cp crates/$*/out/$* $@
 
 # serve-proved runs the Replay program and, where a piece is lent, the stm that stand beside it
 build/serve-proved: $(ARCHIVE) build/replay build/stm FORCE

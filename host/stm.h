@@ -1,4 +1,4 @@
-/* The matrix checker's operations, for C. The archive is target/staticlib/libentries.a, installed as libstm.a.
+/* The matrix checker's operations, for C. The archive is crates/entries/out/libentries.a, installed as libstm.a.
  *
  * A slice is passed as a pointer and the number of its elements. No pointer is null, also where the number is 0. An array
  * parameter such as answer[2] is a pointer to that many elements. Memory lent to one call does not overlap.

@@ -48,7 +48,7 @@ done
 call 2 "stm: cannot open --help: No such file or directory" check -- --help
 version=0.$(sed -n 's/^#define STM_REQUESTS "\([0-9]*\)"$/\1/p' host/stm.h)
 # The version names the archive that answers: its digest, and which of the two it is
-case $stm in *standin*) kind="second implementation" archive=build/cargo/release/libstandin.a ;; *) kind=proved archive=target/staticlib/libentries.a ;; esac
+case $stm in *standin*) kind="second implementation" archive=build/cargo/release/libstandin.a ;; *) kind=proved archive=crates/entries/out/libentries.a ;; esac
 call 2 "stm: --version takes no words" --version --json
 digest=$(sha256sum < "$archive")
 call 0 "stm $version
