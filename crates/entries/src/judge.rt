@@ -21,11 +21,11 @@ pub extern "C" fn stm_verdict<'a>(
 ) -> u64
     ensures { record {
       code = result;
-      memory = record { clauses = clauses.exit.now; values = values.new; trail = trail.new; choices = choices.new };
+      memory = record { clauses = clauses.new; values = values.new; trail = trail.new; choices = choices.new };
       answer = answer.new;
     }
         ≡ verdict_entry file.now piece.now property bound budget
-        (record { clauses = clauses.entry.now; values = values.old; trail = trail.old; choices = choices.old }) answer.old }
+        (record { clauses = clauses.old; values = values.old; trail = trail.old; choices = choices.old }) answer.old }
 {
     match verdict(
         file, piece, property, bound, budget, clauses, values, trail, choices,

@@ -21,13 +21,13 @@ pub extern "C" fn stm_owners<'a>(
 ) -> u64
     ensures { record {
       code = result;
-      buffers = record { clauses = clauses.exit.now; values = values.new; trail = trail.new };
+      buffers = record { clauses = clauses.new; values = values.new; trail = trail.new };
       choices = map (λ x. x.now) choices.new;
       pointers = map (λ x. x.ref_ptr) choices.new;
       answers = answers.new;
     }
         ≡ owners_entry file.now bound count (map (λ x. x.now) pieces.now) budgets.now
-        (record { clauses = clauses.entry.now; values = values.old; trail = trail.old }) (map (λ x. x.now) choices.old) (map (λ x. x.ref_ptr) choices.old) answers.old }
+        (record { clauses = clauses.old; values = values.old; trail = trail.old }) (map (λ x. x.now) choices.old) (map (λ x. x.ref_ptr) choices.old) answers.old }
 {
     let r = owners(
         file, bound, count, pieces, budgets, clauses, values, trail, choices, answers,

@@ -24,10 +24,10 @@ pub fn judge<'a>(
     requires { ReadyMemory file.now piece.now property bound (record { clauses = clauses.now; values = values.old; trail = trail.old; choices = choices.old }) }
     ensures { record {
       reply = Reply.Done result;
-      memory = record { clauses = clauses.exit.now; values = values.new; trail = trail.new; choices = choices.new };
+      memory = record { clauses = clauses.new; values = values.new; trail = trail.new; choices = choices.new };
     }
         ≡ exit (verdict_of file.now piece.now property bound budget
-        (record { clauses = clauses.entry.now; values = values.old; trail = trail.old; choices = choices.old })) }
+        (record { clauses = clauses.old; values = values.old; trail = trail.old; choices = choices.old })) }
 {
     let mut i: u64 = 0;
     let mut tries: u64 = 0;

@@ -30,9 +30,9 @@ pub fn verdict<'a>(
     trail: &mut [u32],
     choices: &mut [u8],
 ) -> Reply
-    ensures { record { reply = result; memory = record { clauses = clauses.exit.now; values = values.new; trail = trail.new; choices = choices.new } }
+    ensures { record { reply = result; memory = record { clauses = clauses.new; values = values.new; trail = trail.new; choices = choices.new } }
         ≡ exit (verdict_of file.now piece.now property bound budget
-        (record { clauses = clauses.entry.now; values = values.old; trail = trail.old; choices = choices.old })) }
+        (record { clauses = clauses.old; values = values.old; trail = trail.old; choices = choices.old })) }
 {
     match size(file, piece, property, bound) {
         SizeReply::Refused { number, place } => Reply::Refused { number, place },

@@ -56,10 +56,10 @@ fn one_owner<'a>(
     choices: &mut [u8],
 ) -> Reply
     ensures { (d : Design) → check file.now ≡ Checked.accepted d
-        → record { reply = result; memory = record { clauses = clauses.exit.now; values = values.new; trail = trail.new; choices = choices.new } }
+        → record { reply = result; memory = record { clauses = clauses.new; values = values.new; trail = trail.new; choices = choices.new } }
         ≡ exit (one_owner file.now d bound
-        (record { clauses = clauses.entry.now; values = values.old; trail = trail.old })
-        (record { piece = piece.entry.now; budget = budget; choices = choices.old })) }
+        (record { clauses = clauses.old; values = values.old; trail = trail.old })
+        (record { piece = piece.now; budget = budget; choices = choices.old })) }
 {
     let r = verdict(
         file, piece, 0, bound, budget, clauses, values, trail, choices,
@@ -88,12 +88,12 @@ fn each_owner<'a>(
     ensures { (d : Design) → check file.now ≡ Checked.accepted d
         → record {
           refusal = record { number = 0; place = 0 };
-          buffers = record { clauses = clauses.exit.now; values = values.new; trail = trail.new };
+          buffers = record { clauses = clauses.new; values = values.new; trail = trail.new };
           choices = map (λ x. x.now) choices.new;
           pointers = map (λ x. x.ref_ptr) choices.new;
           answers = answers.new;
         }
-        ≡ owners_exit (each_owner file.now bound (record { clauses = clauses.entry.now; values = values.old; trail = trail.old }) d
+        ≡ owners_exit (each_owner file.now bound (record { clauses = clauses.old; values = values.old; trail = trail.old }) d
         (take count (owners_of (map (λ x. x.now) pieces.now) budgets.now (map (λ x. x.now) choices.old))) (map (λ x. x.now) choices.old))
         (map (λ x. x.ref_ptr) choices.old) answers.old }
 {
@@ -122,12 +122,12 @@ pub fn owners<'a>(
 ) -> Refusal
     ensures { record {
       refusal = result;
-      buffers = record { clauses = clauses.exit.now; values = values.new; trail = trail.new };
+      buffers = record { clauses = clauses.new; values = values.new; trail = trail.new };
       choices = map (λ x. x.now) choices.new;
       pointers = map (λ x. x.ref_ptr) choices.new;
       answers = answers.new;
     }
-        ≡ owners_exit (all_owners file.now bound (record { clauses = clauses.entry.now; values = values.old; trail = trail.old })
+        ≡ owners_exit (all_owners file.now bound (record { clauses = clauses.old; values = values.old; trail = trail.old })
         count (map (λ x. x.now) pieces.now) budgets.now (map (λ x. x.now) choices.old)) (map (λ x. x.ref_ptr) choices.old) answers.old }
 {
     let checked = design::check(file);
