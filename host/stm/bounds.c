@@ -96,7 +96,7 @@ static uint64_t ask_bound(struct search *s, uint64_t bound, uint64_t answer[ANSW
         }
         known = budget;
         if (is_followed(s->j))
-            tell("bound %" PRIu64 ": over %" PRIu64 " tries, %.3f s\n", bound, budget - s->tries,
+            tell("bound %" PRIu64 ": over %" PRIu64 " tries so far, %.3f s\n", bound, budget - s->tries,
                  own_time(s, took));
     }
 }

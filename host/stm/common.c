@@ -33,8 +33,7 @@ int misuse(const char *format, ...)
 
 int misuse_file(const char *message, const char *path)
 {
-    const char *reason = strerror(errno);
-    return misuse("%s %.*s%s: %s", message, PATH_SHOWN, *path ? path : "(empty)", strlen(path) > PATH_SHOWN ? ".." : "", reason);
+    return misuse("%s %s: %s", message, path, strerror(errno));
 }
 
 /* Refusal 8 at place 0: no item with an expression stands there in a design, so it is the piece's. */

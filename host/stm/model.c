@@ -50,8 +50,6 @@ static int take_answer(struct model *m, const char *word, size_t len)
 {
     if (is_word(word, len, "SATISFIABLE") || is_word(word, len, "SAT"))
         return 0;
-    if (len == 0)
-        return line_fault(&m->text, "the solver's answer is missing");
     return word_fault(&m->text, "the solver's answer, so there is no model", word, len);
 }
 

@@ -63,13 +63,6 @@ static int rows_deny(const struct judging *g, uint64_t step)
     return 1;
 }
 
-/* A row that our rows do not reach may be about another design than its name says. */
-static void tell_namesake(const struct judging *g)
-{
-    if (is_namesake(&g->tables, &g->row, g->claim.texts[FILE_COLUMN]))
-        tell("; our file of that name has other bytes");
-}
-
 /* Our rows can be wrong, and REPLAY and REFUTE cannot; so where these deny what our rows say, that is told. */
 static int judge_violated(const struct judging *g)
 {
@@ -91,8 +84,6 @@ static int judge_violated(const struct judging *g)
         tell("no reference row reaches it; give choices");
     else
         tell("witness%s", g->claim.has_step && g->known.clean < step ? "; that no shorter run breaks is not judged" : "");
-    if (!reached)
-        tell_namesake(g);
     return reached || evidence == SHOWN ? AGREES : NOT_JUDGED;
 }
 
@@ -113,8 +104,6 @@ static int judge_by_proof(const struct judging *g, int evidence, const struct pr
         tell("reference row%s", evidence == SHOWN ? ", proof" : "");
     else
         tell(evidence == SHOWN ? "proof" : "no reference row reaches it; give a proof");
-    if (!reached)
-        tell_namesake(g);
     return reached || evidence == SHOWN ? AGREES : NOT_JUDGED;
 }
 

@@ -290,21 +290,3 @@ struct known known_of(const struct tables *t, const struct job *j)
     size_t place = find_fact(t, &q);
     return place < t->facts_len ? t->facts[place].known : (struct known){.clean = 0, .step = UNKNOWN_STEP};
 }
-
-/* The same of one file, whose name may have folders before it. */
-static int has_other_bytes(const struct tables *t, const char *file, size_t len, const uint8_t *bytes, size_t bytes_len)
-{
-    size_t folders = len;
-    while (folders > 0 && file[folders - 1] != '/')
-        folders--;
-    size_t place = find_name(t, file + folders, len - folders);
-    return place != NO_SOURCE && place != find_bytes(t, bytes, bytes_len);
-}
-
-int is_namesake(const struct tables *t, const struct job *j, const char *file)
-{
-    size_t len = strlen(file), design = design_part(file, len);
-    if (has_other_bytes(t, file, design, j->design, j->len))
-        return 1;
-    return design < len && j->property == INVARIANT && has_other_bytes(t, file + design + 1, len - design - 1, j->piece, j->piece_len);
-}

@@ -32,7 +32,4 @@ void free_tables(const struct tables *t);
 /* What our rows tell of the job's design, piece and property, which are known by their bytes. */
 struct known known_of(const struct tables *t, const struct job *j);
 
-/* Whether our rows are about a design or a piece that has the name of the job's own, and other bytes. */
-int is_namesake(const struct tables *t, const struct job *j, const char *file);
-
 #endif

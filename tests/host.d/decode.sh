@@ -54,7 +54,7 @@ if fast; then
     bad ", line 2: the solver's answer, so there is no model: UNKNOWN" "c\ns UNKNOWN\n"
     bad ", line 1: the solver's answer, so there is no model: UNSAT" "UNSAT\n"
     bad ", line 1: the solver's answer, so there is no model: INDET" "INDET\n"
-    bad ", line 1: the solver's answer is missing" "s\n"
+    bad ", line 1: the solver's answer, so there is no model: " "s\n"
     bad ": there is no model in it" ""
     bad ": the model has no closing 0" "v $one_step\n"
     bad ": there is no model in it" "s SATISFIABLE\n"

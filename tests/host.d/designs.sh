@@ -36,7 +36,7 @@ done
 
 # Files
 call 2 "stm: cannot open $work/none.stm: No such file or directory" check "$work/none.stm"
-call 2 "stm: cannot open (empty): No such file or directory" check ""
+call 2 "stm: cannot open : No such file or directory" check ""
 call 2 "stm: cannot read $work: Is a directory" check "$work"
 call 2 "stm: cannot read $work: Is a directory" verdict "$work" 0 1
 call 2 "stm: cannot read /proc/self/mem: Input/output error" check /proc/self/mem

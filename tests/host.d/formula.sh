@@ -80,7 +80,18 @@ c S 22, P 1, w 3, G 378, F 404
 c there are no flags at bound 0
 c p show 0
 p cnf 24 27" "$a" 1 0
-# a name that would not stay in its line, and in which a terminal finds commands; other bytes are as they are
+# a name that would not stay in its line
+cp "$a" "$work/two
+lines.stm"
+head_of "c stm $version
+c design $work/two?lines.stm
+c property 1, bound 0
+c S 22, P 1, w 3, G 378, F 404
+c there are no flags at bound 0
+c p show 0
+p cnf 24 27" "$work/two
+lines.stm" 1 0
+# and one in which a terminal finds commands; other bytes are as they are
 named=$(printf 'two\nlines\177\302\2332Jé.stm')
 cp "$a" "$work/$named"
 head_of "c stm $version

@@ -122,5 +122,5 @@ events read 2, guards read 2" replay --piece "$one" "$a" 0 2,0,1
 call 2 "stm: usage: stm size FILE PROPERTY BOUND; stm --help tells more" size "$a" 0 --piece "$one"
 call 2 "stm: unknown option: --pieces; stm --help lists them" size "$a" 0 1 --pieces "$one"
 call 2 "stm: cannot open $work/none.piece: No such file or directory" size "$a" 0 1 --piece "$work/none.piece"
-call 2 "stm: cannot open (empty): No such file or directory" size "$a" 1 1 --piece ""
+call 2 "stm: cannot open : No such file or directory" size "$a" 1 1 --piece ""
 call 2 "stm: cannot read $work: Is a directory" size "$a" 0 1 --piece "$work"

@@ -47,7 +47,7 @@ if fast; then
     # budgets that grow past the first: over so many tries, of this bound
     answered 10 "$("$stm" verdict designs/mutex.stm 0 4)" verdict designs/mutex.stm 0 9 --progress
     has err "bound 3: clean, [0-9]+ tries, [0-9.]+ s"
-    has err "bound 4: over 510 tries, [0-9.]+ s"
+    has err "bound 4: over 510 tries so far, [0-9.]+ s"
     has err "bound 4: violated, 1252 tries, [0-9.]+ s"
     # a search that takes far longer than it gets: every bound from 1 on needs tries, so what is told of it is SPENT by that budget, too
     endless="designs/money-changer-revised-uic1.stm 1 9"

@@ -99,7 +99,7 @@ if fast; then
     # files, words and numbers; a proof is read before anything is asked of the design
     call 2 "stm: cannot open $work/none: No such file or directory" refute "$a" 0 1 "$work/none"
     call 2 "stm: cannot open $work/none: No such file or directory" refute "$work/version.stm" 9 101 "$work/none"
-    call 2 "stm: cannot open (empty): No such file or directory" refute "$a" 0 1 ""
+    call 2 "stm: cannot open : No such file or directory" refute "$a" 0 1 ""
     call 2 "stm: cannot read $work: Is a directory" refute "$a" 0 1 "$work"
     call 2 "stm: cannot read /proc/self/mem: Input/output error" refute "$a" 0 1 /proc/self/mem
     refute 3 "refused 2 at 57: unknown version" "0\n" "$work/version.stm" 0 1

@@ -18,8 +18,6 @@ if fast; then
     # Options stand anywhere after the command, each once, with its value; all is words behind --
     call 0 "accepted" check -- "$a"
     call 2 "stm: cannot open --json: No such file or directory" check -- --json
-    long=$(printf '%5000s' "" | tr ' ' x)
-    call 2 "stm: cannot open ${long:0:4096}..: File name too long" check "$long"
     call 2 "stm: usage: stm check FILE; $more" check -- "$a" --json
     call 2 "stm: unknown option: --x; $help" check "$a" --x
     call 2 "stm: unknown option: --json=1; $help" check "$a" --json=1

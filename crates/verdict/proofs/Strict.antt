@@ -19,7 +19,7 @@ use Rattle.clauses.specs.Theorem.{Exactly}
 use Rattle.clauses.specs.Formula.{w}
 use Rattle.clauses.proofs.Lists.{keep, in_keep, keep_in, distinct_keep, lists, lists_in, in_lists, distinct_lists}
 use Rattle.verdict.proofs.Calls.{and_true}
-use Rattle.verdict.specs.Verdict.{VIOLATED, CLEAN, SPENT-AT, Told}
+use Rattle.verdict.specs.Verdict.{VIOLATED, CLEAN, Told}
 use Rattle.verdict.specs.Claim.{Witness, OfVerdict, OfStrictRuns}
 
 module _ (d : Design) (q : Property) (agree : ReadingsAgree d q) (k budget : ℕ) (told : Told) (lent left : List ℕ) (o : OfVerdict d q k budget told lent left) where
@@ -53,7 +53,6 @@ module _ (d : Design) (q : Property) (agree : ReadingsAgree d q) (k budget : ℕ
     clean = λ e b. ((o.verdict CLEAN).0 e).1 ((agree.same k).0 b);
     violated = λ i e. (agree.smallest i).1 (smallest i e);
     witness = witness;
-    spent = λ i e j l b. ((o.verdict (SPENT-AT i)).0 e).some.none j l ((agree.same j).0 b);
   }
 
 -- Strict runs of k choices that break a property: among all lists of k choices, which computes.

@@ -140,8 +140,6 @@ pub record OfStrictRuns (d : Design) (q : Property) (k : ℕ) (told : Told) (lef
   pub violated : (i : ℕ) → told.verdict ≡ VIOLATED i → Smallest (StrictBreakingStep d q) i
   -- and the i choices written are such a run, and never idle
   pub witness : (i : ℕ) → told.verdict ≡ VIOLATED i → StrictBreaking d q i (take i left) × (idles_from d (start d) (take i left) ≡ false)
-  -- SPENT at bound i: no strict run of fewer than i choices breaks it
-  pub spent : (i : ℕ) → told.verdict ≡ SPENT-AT i → (j : ℕ) → j < i → StrictBreakable d q j → ⊥
 
 -- of a file, a piece, and the file's design; and, of several owners (document 02, R-6), each one whose piece this is
 pub record Demand3 (file piece : List ℕ) (d : Design) : Type 0 where
