@@ -160,8 +160,8 @@ pub fn size_bool(text: &[u8], at: usize, end: usize, shape: Shape, marks: bool) 
 
 // What follows the operator byte of an assignment.
 pub fn size_assign(file: &[u8], at: usize, end: usize, shape: Shape) -> GatesAt
-    requires at_value { is_read (assignment file.now (names_of file.now shape) end at) ≡ true }
-    requires end_in_bounds { (end ≤ length file.now) × (end ≤ max_bytes) × (3 * shape.variables ≤ length file.now) }
+    requires readable { is_read (assignment file.now (names_of file.now shape) end at) ≡ true }
+    requires in_bounds { (end ≤ length file.now) × (end ≤ max_bytes) × (3 * shape.variables ≤ length file.now) }
     ensures { (bits : ℕ) → result ≡ stmt_gates bits (assignment file.now (names_of file.now shape) end at) }
 {
     let v = wide(file[at]);
@@ -176,8 +176,8 @@ pub fn size_assign(file: &[u8], at: usize, end: usize, shape: Shape) -> GatesAt
 // The statement at `at`; an if ends in a mux for each of the state's bits.
 #[cycle(size_list_size_stmt)]
 pub fn size_stmt(file: &[u8], at: usize, end: usize, shape: Shape, nest: usize) -> GatesAt
-    requires at_value { is_read (statement file.now (names_of file.now shape) end nest at) ≡ true }
-    requires end_in_bounds { (end ≤ length file.now) × (end ≤ max_bytes) × (3 * shape.variables ≤ length file.now) × (shape.bits ≤ max_bits) }
+    requires readable { is_read (statement file.now (names_of file.now shape) end nest at) ≡ true }
+    requires in_bounds { (end ≤ length file.now) × (end ≤ max_bytes) × (3 * shape.variables ≤ length file.now) × (shape.bits ≤ max_bits) }
     ensures { result ≡ stmt_gates shape.bits (statement file.now (names_of file.now shape) end nest at) }
 {
     let op = file[at];
@@ -198,8 +198,8 @@ pub fn size_stmt(file: &[u8], at: usize, end: usize, shape: Shape, nest: usize) 
 // The list at `at`.
 #[cycle(size_list_size_stmt)]
 pub fn size_list(file: &[u8], at: usize, end: usize, shape: Shape, nest: usize) -> GatesAt
-    requires at_value { is_read (list file.now (names_of file.now shape) end nest at) ≡ true }
-    requires end_in_bounds { (end ≤ length file.now) × (end ≤ max_bytes) × (3 * shape.variables ≤ length file.now) × (shape.bits ≤ max_bits) }
+    requires readable { is_read (list file.now (names_of file.now shape) end nest at) ≡ true }
+    requires in_bounds { (end ≤ length file.now) × (end ≤ max_bytes) × (3 * shape.variables ≤ length file.now) × (shape.bits ≤ max_bits) }
     ensures { result ≡ list_gates shape.bits (list file.now (names_of file.now shape) end nest at) }
 {
     let mut left = wide(file[at]);

@@ -29,8 +29,8 @@ pub fn offset(file: &[u8], v: usize) -> usize
 // The number of state bits.
 pub fn state_bits(file: &[u8], variables: usize, matrices: usize) -> usize
     requires { (3 * variables ≤ length file.now) × (variables ≤ max_variables) × (matrices ≤ max_matrices) }
-    ensures value { (result ≡ total (widths_of file.now variables matrices)) × (result ≤ max_bits) }
-    ensures value_2 { (d : Design) → Parts file.now d → variables ≡ variable_count file.now → matrices ≡ matrix_count file.now → result ≡ S d }
+    ensures counted { (result ≡ total (widths_of file.now variables matrices)) × (result ≤ max_bits) }
+    ensures of_design { (d : Design) → Parts file.now d → variables ≡ variable_count file.now → matrices ≡ matrix_count file.now → result ≡ S d }
 {
     offset(file, variables) + 4 * matrices + 1
 }

@@ -147,8 +147,8 @@ pub fn check_from_cells(
     offsets: Offsets,
     externals: usize,
 ) -> Counted
-    requires trailer_bytes_in_bounds { (end + trailer_bytes ≤ length file.now) × SmallCounts counts }
-    requires variables_right { VariablesRight file.now end counts offsets externals × MatricesRight file.now end counts offsets × EventsRight file.now end counts offsets }
+    requires room { (end + trailer_bytes ≤ length file.now) × SmallCounts counts }
+    requires sections_right { VariablesRight file.now end counts offsets externals × MatricesRight file.now end counts offsets × EventsRight file.now end counts offsets }
     ensures { result ≡ bodied (sections file.now end counts offsets 0) }
 {
     let shape = shape_of(counts);
@@ -181,8 +181,8 @@ pub fn check_from_events(
     offsets: Offsets,
     externals: usize,
 ) -> Counted
-    requires trailer_bytes_in_bounds { (end + trailer_bytes ≤ length file.now) × SmallCounts counts }
-    requires variables_right { VariablesRight file.now end counts offsets externals × MatricesRight file.now end counts offsets }
+    requires room { (end + trailer_bytes ≤ length file.now) × SmallCounts counts }
+    requires sections_right { VariablesRight file.now end counts offsets externals × MatricesRight file.now end counts offsets }
     ensures { result ≡ bodied (sections file.now end counts offsets 0) }
 {
     match check_events(

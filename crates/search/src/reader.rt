@@ -48,7 +48,7 @@ pub fn place<'a>(r: Reader<'a>) -> usize
     r.at
 }
 
-// The place past the clause that holds `from`, by a reader: its parameters are plain, so its callers need no walk.
+// The place past the clause that holds `from`, by a reader; its callers name no reader.
 pub fn after_clause(words: &[i32], from: usize) -> usize
     requires { has_end (drop from words.now) ≡ true }
     ensures { Past words.now from result }

@@ -12,9 +12,9 @@ size_guard-guard-requires c = ((_, c.requires.0), c.requires.1)
 
 pub size_list-action-requires : goal.size_list-action-requires
 size_list-action-requires c = record {
-  at_value = action_reads _ _ _ c.requires.0 _ c.requires.1 _ _ (ap (λ (i : ℕ). c.args.p + 8 + i) c.wide.ensures.0) (ap₂ (λ (i j : ℕ).
+  readable = action_reads _ _ _ c.requires.0 _ c.requires.1 _ _ (ap (λ (i : ℕ). c.args.p + 8 + i) c.wide.ensures.0) (ap₂ (λ (i j : ℕ).
       c.args.p + 8 + i + j) c.wide.ensures.0 c.word.ensures.0);
-  end_in_bounds = (
+  in_bounds = (
     omega (
       arith,
       c.wide.ensures.0,

@@ -14,6 +14,6 @@ returns c =
     let args = c.args in
     let size = state_size args.file.now args.variables args.matrices _ c.offset.ensures in
     record {
-      value = (size, omega (arith, c.offset.ensures, variables_small args.file.now 0 args.variables));
-      value_2 = λ d p e q. size ∙ bits_are args.file.now d p args.variables args.matrices e q;
+      counted = (size, omega (arith, c.offset.ensures, variables_small args.file.now 0 args.variables));
+      of_design = λ d p e q. size ∙ bits_are args.file.now d p args.variables args.matrices e q;
     }

@@ -29,8 +29,8 @@ returns c = record {
   externals = c.external_count.ensures.0;
   few = c.external_count.ensures.1;
   bits = record {
-    state = λ d w. c.state_bits.ensures.value_2 d w c.trailer_word-variables.ensures.0 c.trailer_word-matrices.ensures.0;
-    total = c.state_bits.ensures.value.0;
-    few = c.state_bits.ensures.value.1;
+    state = λ d w. c.state_bits.ensures.of_design d w c.trailer_word-variables.ensures.0 c.trailer_word-matrices.ensures.0;
+    total = c.state_bits.ensures.counted.0;
+    few = c.state_bits.ensures.counted.1;
   };
 }

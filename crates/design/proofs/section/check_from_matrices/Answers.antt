@@ -15,8 +15,8 @@ returns-then-offsets-p c =
 
 pub check_from_events-requires : goal.check_from_events-requires
 check_from_events-requires c = record {
-  trailer_bytes_in_bounds = (c.requires.0, c.requires.1);
-  variables_right = (
+  room = (c.requires.0, c.requires.1);
+  sections_right = (
     c.requires.2,
     past_at _ _ _ c.if-offsets-p.false (sym c.in-Past.is ∙ c.check_matrices.ensures),
   );
