@@ -128,11 +128,11 @@ module _ (d : Design) where
     unfoldable pub F : ℕ
     F = S d + P + w d + G
 
-    -- "Frame j starts at 2+j_f."
+    -- "Frame j starts at 2+jF."
     unfoldable pub frame : ℕ → ℕ
     frame j = 2 + j * F
 
-    -- "Bound k is 0..100 and n=1+k_f+S+P"
+    -- "Bound k is 0..100 and n=1+kF+S+P"
     unfoldable pub n : ℕ → ℕ
     n k = 1 + k * F + S d + P
 

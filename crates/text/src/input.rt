@@ -1,4 +1,4 @@
-// The input of the programs: a design stands at its end.
+// The input of the programs: how it is read, and the design at its end.
 ghost use Rattle.std.specs.Prelude.{◌≡◌, ◌-◌, ◌≤◌, length, take, drop, IfOk};
 ghost use Rattle.text.specs.Trace.{max_read};
 

@@ -3,6 +3,6 @@
 
 mod number; // numbers
 mod line; // a line of the Replay program
-pub mod input; // the design in a program's input
+pub mod input; // the input of the programs
 pub mod trace; // what the Replay program prints
 pub mod listing; // what the clause printer prints

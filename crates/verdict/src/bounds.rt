@@ -21,7 +21,7 @@ pub fn judge<'a>(
     trail: &mut [u32],
     choices: &mut [u8],
 ) -> Told
-    requires { ReadyMemory file.now piece.now property bound (record { clauses = clauses.now; values = values.old; trail = trail.old; choices = choices.old }) }
+    requires { ReadyMemory file.now piece.now property bound (record { clauses = clauses.old; values = values.old; trail = trail.old; choices = choices.old }) }
     ensures { record {
       reply = Reply.Done result;
       memory = record { clauses = clauses.new; values = values.new; trail = trail.new; choices = choices.new };
