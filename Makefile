@@ -1,5 +1,5 @@
 # make demo      run the main job on Design A
-# make test      prove everything from nothing and pass the tests
+# make test      prove everything and pass the tests
 # make install   stm, its man page, the header, the archive and the designs, under PREFIX (DESTDIR stands before it)
 # make uninstall take them away again
 # make serve     build build/serve-proved and build/serve-reference
