@@ -1,4 +1,3 @@
--- `design::check` meets its contract. Assumes nothing.
 use native.Mathlib.Omega.{arith}
 use mathlib.Core.Path.{◌∙◌}
 use lib.ListN.{length}
@@ -35,7 +34,9 @@ trailer_counts-counts-requires c =
 
 pub returns-then-not-counts_right : goal.returns-then-not-counts_right
 returns-then-not-counts_right c =
-    c.answer-then-not-counts_right.ensures ∙ whole_counts c.args.file.now _ c.length_right.ensures c.if-not-length_right.false _ c.word-version.ensures.0 _ c.tail_bytes.ensures c.if-len-tail_bytes.false _ c.version_right.ensures c.if-not-version_right.false _ c.trailer_counts-counts.ensures.0 _ c.counts_right.ensures c.if-not-counts_right.true
+    c.answer-then-not-counts_right.ensures ∙ whole_counts c.args.file.now _ c.length_right.ensures c.if-not-length_right.false _
+    c.word-version.ensures.0 _ c.tail_bytes.ensures c.if-len-tail_bytes.false _ c.version_right.ensures c.if-not-version_right.false _
+    c.trailer_counts-counts.ensures.0 _ c.counts_right.ensures c.if-not-counts_right.true
 
 pub items_end-requires : goal.items_end-requires
 items_end-requires c =
@@ -53,12 +54,20 @@ check_sections-requires c = (
 
 pub returns-then-movers_right : goal.returns-then-movers_right
 returns-then-movers_right c =
-    c.answer-then-movers_right.ensures ∙ whole_accepted c.args.file.now _ c.length_right.ensures c.if-not-length_right.false _ c.word-version.ensures.0 _ c.tail_bytes.ensures c.if-len-tail_bytes.false _ c.version_right.ensures c.if-not-version_right.false _ c.trailer_counts-counts.ensures.0 _ c.counts_right.ensures c.if-not-counts_right.false _ c.items_end.ensures _ c.trailer_offsets.ensures _ _ _ c.check_sections.ensures c.in-Passed.is _ c.movers_right.ensures c.if-movers_right.true
+    c.answer-then-movers_right.ensures ∙ whole_accepted c.args.file.now _ c.length_right.ensures c.if-not-length_right.false _
+    c.word-version.ensures.0 _ c.tail_bytes.ensures c.if-len-tail_bytes.false _ c.version_right.ensures c.if-not-version_right.false _
+    c.trailer_counts-counts.ensures.0 _ c.counts_right.ensures c.if-not-counts_right.false _ c.items_end.ensures _ c.trailer_offsets.ensures _ _ _
+    c.check_sections.ensures c.in-Passed.is _ c.movers_right.ensures c.if-movers_right.true
 
 pub returns-else-movers_right : goal.returns-else-movers_right
 returns-else-movers_right c =
-    c.answer-else-movers_right.ensures ∙ whole_movers c.args.file.now _ c.length_right.ensures c.if-not-length_right.false _ c.word-version.ensures.0 _ c.tail_bytes.ensures c.if-len-tail_bytes.false _ c.version_right.ensures c.if-not-version_right.false _ c.trailer_counts-counts.ensures.0 _ c.counts_right.ensures c.if-not-counts_right.false _ c.items_end.ensures _ c.trailer_offsets.ensures _ _ _ c.check_sections.ensures c.in-Passed.is _ c.movers_right.ensures c.if-movers_right.false
+    c.answer-else-movers_right.ensures ∙ whole_movers c.args.file.now _ c.length_right.ensures c.if-not-length_right.false _ c.word-version.ensures.0
+    _ c.tail_bytes.ensures c.if-len-tail_bytes.false _ c.version_right.ensures c.if-not-version_right.false _ c.trailer_counts-counts.ensures.0 _
+    c.counts_right.ensures c.if-not-counts_right.false _ c.items_end.ensures _ c.trailer_offsets.ensures _ _ _ c.check_sections.ensures
+    c.in-Passed.is _ c.movers_right.ensures c.if-movers_right.false
 
 pub returns-in-Stopped : goal.returns-in-Stopped
 returns-in-Stopped c =
-    c.answer-in-Stopped.ensures ∙ whole_stopped c.args.file.now _ c.length_right.ensures c.if-not-length_right.false _ c.word-version.ensures.0 _ c.tail_bytes.ensures c.if-len-tail_bytes.false _ c.version_right.ensures c.if-not-version_right.false _ c.trailer_counts-counts.ensures.0 _ c.counts_right.ensures c.if-not-counts_right.false _ c.items_end.ensures _ c.trailer_offsets.ensures _ _ _ c.check_sections.ensures c.in-Stopped.is
+    c.answer-in-Stopped.ensures ∙ whole_stopped c.args.file.now _ c.length_right.ensures c.if-not-length_right.false _ c.word-version.ensures.0 _
+    c.tail_bytes.ensures c.if-len-tail_bytes.false _ c.version_right.ensures c.if-not-version_right.false _ c.trailer_counts-counts.ensures.0 _
+    c.counts_right.ensures c.if-not-counts_right.false _ c.items_end.ensures _ c.trailer_offsets.ensures _ _ _ c.check_sections.ensures c.in-Stopped.is

@@ -1,4 +1,3 @@
--- `search::solve` meets its contract.
 use mathlib.Core.Path.{sym, ◌∙◌}
 use lib.Seq.{length-take-le}
 use Rattle.search.proofs.Solving.{solve_large, solve_word, solve_values, solve_trail, solve_fresh, solve_done}
@@ -6,40 +5,32 @@ use Rattle.search.proofs.solve.Goals as goal
 
 pub returns-then-n-gt-MAX_VARIABLE : goal.returns-then-n-gt-MAX_VARIABLE
 returns-then-n-gt-MAX_VARIABLE c =
-    let the-args = c.args in
-    solve_large the-args.n the-args.words.now the-args.values.now the-args.trail.now the-args.budget c.if-n-gt-MAX_VARIABLE.true
+    solve_large c.args.n c.args.words.now c.args.values.now c.args.trail.now c.args.budget c.if-n-gt-MAX_VARIABLE.true
 
 pub returns-in-At : goal.returns-in-At
 returns-in-At c =
-    let the-args = c.args in
-    solve_word the-args.n the-args.words.now the-args.values.now the-args.trail.now the-args.budget c.if-n-gt-MAX_VARIABLE.false (sym c.in-At.is ∙ c.bad_word.ensures)
+    solve_word c.args.n c.args.words.now c.args.values.now c.args.trail.now c.args.budget c.if-n-gt-MAX_VARIABLE.false (sym c.in-At.is ∙ c.bad_word.ensures)
 
 pub returns-then-values-k : goal.returns-then-values-k
 returns-then-values-k c =
-    let the-args = c.args in
-    solve_values the-args.n the-args.words.now the-args.values.now the-args.trail.now the-args.budget c.if-n-gt-MAX_VARIABLE.false (sym c.in_default.is ∙ c.bad_word.ensures) c.if-values-k.true
+    solve_values c.args.n c.args.words.now c.args.values.now c.args.trail.now c.args.budget c.if-n-gt-MAX_VARIABLE.false (sym c.in_default.is ∙ c.bad_word.ensures) c.if-values-k.true
 
 pub returns-then-trail-k : goal.returns-then-trail-k
 returns-then-trail-k c =
-    let the-args = c.args in
-    solve_trail the-args.n the-args.words.now the-args.values.now the-args.trail.now the-args.budget c.if-n-gt-MAX_VARIABLE.false (sym c.in_default.is ∙ c.bad_word.ensures) c.if-values-k.false c.if-trail-k.true
+    solve_trail c.args.n c.args.words.now c.args.values.now c.args.trail.now c.args.budget c.if-n-gt-MAX_VARIABLE.false (sym c.in_default.is ∙ c.bad_word.ensures) c.if-values-k.false c.if-trail-k.true
 
 pub slice_bounds-search-end-2 : goal.slice_bounds-search-end-2
 slice_bounds-search-end-2 c =
-    let the-args = c.args in
-    sym (length-take-le the-args.n the-args.values.now c.if-values-k.false)
+    sym (length-take-le c.args.n c.args.values.now c.if-values-k.false)
 
 pub slice_bounds-search-end-4 : goal.slice_bounds-search-end-4
 slice_bounds-search-end-4 c =
-    let the-args = c.args in
-    sym (length-take-le the-args.n the-args.trail.now c.if-trail-k.false)
+    sym (length-take-le c.args.n c.args.trail.now c.if-trail-k.false)
 
 pub search-requires : goal.search-requires
 search-requires c =
-    let the-args = c.args in
-    solve_fresh the-args.n the-args.words.now the-args.values.now the-args.trail.now the-args.budget c.if-n-gt-MAX_VARIABLE.false (sym c.in_default.is ∙ c.bad_word.ensures) c.if-values-k.false c.if-trail-k.false
+    solve_fresh c.args.n c.args.words.now c.args.values.now c.args.trail.now c.args.budget c.if-n-gt-MAX_VARIABLE.false (sym c.in_default.is ∙ c.bad_word.ensures) c.if-values-k.false c.if-trail-k.false
 
 pub returns : goal.returns
 returns c =
-    let the-args = c.args in
-    solve_done the-args.n the-args.words.now the-args.values.now the-args.trail.now the-args.budget c.if-n-gt-MAX_VARIABLE.false (sym c.in_default.is ∙ c.bad_word.ensures) c.if-values-k.false c.if-trail-k.false c.search.ensures
+    solve_done c.args.n c.args.words.now c.args.values.now c.args.trail.now c.args.budget c.if-n-gt-MAX_VARIABLE.false (sym c.in_default.is ∙ c.bad_word.ensures) c.if-values-k.false c.if-trail-k.false c.search.ensures

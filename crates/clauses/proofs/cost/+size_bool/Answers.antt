@@ -97,17 +97,21 @@ returns-in-16-to-17 t c = λ file depth later h. c.no_gates-in-16-to-17.ensures 
 
 pub returns-in-19-to-20 : goal.returns-in-19-to-20
 returns-in-19-to-20 t c =
-    λ file depth later h. let a = c.size_bool-a.ensures file (depth - 1) later (logic_first _ _ _ _ _ h (omega arith) (omega arith)) in let b = c.size_bool-b.ensures file (depth - 1) later (bool_then _ _ _ _ _ h _ (omega arith) (omega arith) _ a) in c.join.ensures ∙ bool_joined _ _ _ _ _ h _ (omega arith) (omega
+    λ file depth later h. let a = c.size_bool-a.ensures file (depth - 1) later (logic_first _ _ _ _ _ h (omega arith) (omega arith)) in let b =
+    c.size_bool-b.ensures file (depth - 1) later (bool_then _ _ _ _ _ h _ (omega arith) (omega arith) _ a) in c.join.ensures ∙ bool_joined _ _ _ _ _
+    h _ (omega arith) (omega
     arith) _ _ a b
 
 pub returns-then-op-eq21 : goal.returns-then-op-eq21
 returns-then-op-eq21 t c =
-    λ file depth later h. let a = c.size_int-a.ensures file (depth - 1) later (compare_first _ _ _ _ _ h (omega arith) (omega arith)) in let b = c.size_int-b.ensures file (depth - 1) later (compare_then _ _ _ _ _ h _ (omega arith) (omega arith) _ a) in c.join-then-op-eq21.ensures ∙ equal_joined _ _ _ _ _ h _
+    λ file depth later h. let a = c.size_int-a.ensures file (depth - 1) later (compare_first _ _ _ _ _ h (omega arith) (omega arith)) in let b =
+    c.size_int-b.ensures file (depth - 1) later (compare_then _ _ _ _ _ h _ (omega arith) (omega arith) _ a) in c.join-then-op-eq21.ensures ∙ equal_joined _ _ _ _ _ h _
     (omega arith) (omega arith) _ _ a b c.if-op-eq21.true
 
 pub returns-else-op-eq21 : goal.returns-else-op-eq21
 returns-else-op-eq21 t c =
-    λ file depth later h. let a = c.size_int-a.ensures file (depth - 1) later (compare_first _ _ _ _ _ h (omega arith) (omega arith)) in let b = c.size_int-b.ensures file (depth - 1) later (compare_then _ _ _ _ _ h _ (omega arith) (omega arith) _ a) in c.join-else-op-eq21.ensures ∙ less_joined _ _ _ _ _ h _
+    λ file depth later h. let a = c.size_int-a.ensures file (depth - 1) later (compare_first _ _ _ _ _ h (omega arith) (omega arith)) in let b =
+    c.size_int-b.ensures file (depth - 1) later (compare_then _ _ _ _ _ h _ (omega arith) (omega arith) _ a) in c.join-else-op-eq21.ensures ∙ less_joined _ _ _ _ _ h _
     (omega arith) (omega arith) _ _ a b c.if-op-eq21.false
 
 pub returns-in_default : goal.returns-in_default

@@ -76,7 +76,9 @@ returns-in-2-to-3 t c = λ file depth later h. c.no_gates-in-2-to-3.ensures ∙ 
 
 pub returns-in-4-to-5 : goal.returns-in-4-to-5
 returns-in-4-to-5 t c =
-    λ file depth later h. let a = c.size_int-a-in-4-to-5.ensures file (depth - 1) later (int_first _ _ _ _ _ h (omega arith) (omega arith)) in let b = c.size_int-b.ensures file (depth - 1) later (int_then _ _ _ _ _ h _ (omega arith) (omega arith) _ a) in c.size_sum.ensures ∙ int_joined _ _ _ _ _ h _ (omega arith) (omega
+    λ file depth later h. let a = c.size_int-a-in-4-to-5.ensures file (depth - 1) later (int_first _ _ _ _ _ h (omega arith) (omega arith)) in let
+    b = c.size_int-b.ensures file (depth - 1) later (int_then _ _ _ _ _ h _ (omega arith) (omega arith) _ a) in c.size_sum.ensures ∙ int_joined _ _ _
+    _ _ h _ (omega arith) (omega
     arith) _ _ a b
 
 pub returns-in-6-to-7 : goal.returns-in-6-to-7

@@ -34,7 +34,8 @@ size_list-size_stmt-x-requires t c = (
 
 pub size_list-join-sum-requires : goal.size_list-join-sum-requires
 size_list-join-sum-requires t c =
-    let f = counting_few _ _ _ _ _ _ _ _ c.requires.in_bounds.1 c.requires.in_bounds.3 c.loop-left.invariant in let g = statement_few _ _ _ c.requires.in_bounds.1 _ c.requires.in_bounds.3 _ _ _ c.size_stmt-x.ensures in (omega (arith, f.ands, g.ands), omega (arith, f.wides, g.wides))
+    let f = counting_few _ _ _ _ _ _ _ _ c.requires.in_bounds.1 c.requires.in_bounds.3 c.loop-left.invariant in let g = statement_few _ _ _
+    c.requires.in_bounds.1 _ c.requires.in_bounds.3 _ _ _ c.size_stmt-x.ensures in (omega (arith, f.ands, g.ands), omega (arith, f.wides, g.wides))
 
 pub size_list-loop-left-preserved : goal.size_list-loop-left-preserved
 size_list-loop-left-preserved t c =

@@ -17,7 +17,8 @@ shape-shape-requires c = writable_accepted c.requires
 
 pub put_parts-words-requires : goal.put_parts-words-requires
 put_parts-words-requires c = (
-  formula_ready _ (writable_admitted c.requires (λ i. omega (arith, c.shared_slice_known-1.given i)) c.sizes-s.ensures.0 c.sizes-s.ensures.1) (λ i. omega (arith, c.shared_slice_known-1.given i)) c.index_events.ensures c.index_cells.ensures c.shape-shape.ensures,
+  formula_ready _ (writable_admitted c.requires (λ i. omega (arith, c.shared_slice_known-1.given i)) c.sizes-s.ensures.0 c.sizes-s.ensures.1)
+      (λ i. omega (arith, c.shared_slice_known-1.given i)) c.index_events.ensures c.index_cells.ensures c.shape-shape.ensures,
   c.requires.right,
 )
 

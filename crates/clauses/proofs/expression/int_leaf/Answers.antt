@@ -125,7 +125,9 @@ load_status-requires-in_default c =
     let shape = c.args.shape in
     let at = c.args.at in
     let (later, slots, here) = c.requires.0 in
-    status_here text file shape later at here true slots _ c.wide-i.ensures.0 (status_is text file shape later at here c.requires.1 c.requires.2 c.if-op-eq1.false c.in_default.in_default-own.rest.0.0.1 c.in_default.in_default-own.rest.0.1 c.in_default.in_default-own.rest.1)
+    status_here text file shape later at here true slots _ c.wide-i.ensures.0
+    (status_is text file shape later at here c.requires.1 c.requires.2 c.if-op-eq1.false c.in_default.in_default-own.rest.0.0.1
+    c.in_default.in_default-own.rest.0.1 c.in_default.in_default-own.rest.1)
 
 pub overflow_add-at-in_default : goal.overflow_add-at-in_default
 overflow_add-at-in_default c =

@@ -72,12 +72,18 @@ overflow_add-result-4 c = omega (arith, c.size_cells-s.ensures.0.wides, c.times.
 
 pub returns-then-property-lt-CONSTRAINT : goal.returns-then-property-lt-CONSTRAINT
 returns-then-property-lt-CONSTRAINT c = (
-  frame_small _ _ c.requires.0 _ _ c.shape-shape.ensures _ _ _ _ _ _ _ c.index_cells.ensures c.size_property-p.ensures.1 c.size_cells-s.ensures.1 (λ d w. c.size_step_property-c.ensures.1 d w _) c.times.ensures.0 (λ d. last_one _ _ d _ c.if-property-lt-CONSTRAINT.true) (λ i. omega (arith, c.shared_slice_known-1.given i)) c.requires.1,
-  frame_made _ _ c.requires.0 _ _ c.shape-shape.ensures _ _ _ _ _ _ _ c.index_cells.ensures c.size_property-p.ensures.1 c.size_cells-s.ensures.1 (λ d w. c.size_step_property-c.ensures.1 d w _) c.times.ensures.0 (λ d. last_one _ _ d _ c.if-property-lt-CONSTRAINT.true),
+  frame_small _ _ c.requires.0 _ _ c.shape-shape.ensures _ _ _ _ _ _ _ c.index_cells.ensures c.size_property-p.ensures.1 c.size_cells-s.ensures.1
+      (λ d w. c.size_step_property-c.ensures.1 d w _) c.times.ensures.0 (λ d. last_one _ _ d _ c.if-property-lt-CONSTRAINT.true)
+      (λ i. omega (arith, c.shared_slice_known-1.given i)) c.requires.1,
+  frame_made _ _ c.requires.0 _ _ c.shape-shape.ensures _ _ _ _ _ _ _ c.index_cells.ensures c.size_property-p.ensures.1 c.size_cells-s.ensures.1
+      (λ d w. c.size_step_property-c.ensures.1 d w _) c.times.ensures.0 (λ d. last_one _ _ d _ c.if-property-lt-CONSTRAINT.true),
 )
 
 pub returns-else-property-lt-CONSTRAINT : goal.returns-else-property-lt-CONSTRAINT
 returns-else-property-lt-CONSTRAINT c = (
-  frame_small _ _ c.requires.0 _ _ c.shape-shape.ensures _ _ _ _ _ _ _ c.index_cells.ensures c.size_property-p.ensures.1 c.size_cells-s.ensures.1 (λ d w. c.size_step_property-c.ensures.1 d w _) c.times.ensures.0 (λ d. last_none _ _ d _ c.if-property-lt-CONSTRAINT.false) (λ i. omega (arith, c.shared_slice_known-1.given i)) c.requires.1,
-  frame_made _ _ c.requires.0 _ _ c.shape-shape.ensures _ _ _ _ _ _ _ c.index_cells.ensures c.size_property-p.ensures.1 c.size_cells-s.ensures.1 (λ d w. c.size_step_property-c.ensures.1 d w _) c.times.ensures.0 (λ d. last_none _ _ d _ c.if-property-lt-CONSTRAINT.false),
+  frame_small _ _ c.requires.0 _ _ c.shape-shape.ensures _ _ _ _ _ _ _ c.index_cells.ensures c.size_property-p.ensures.1 c.size_cells-s.ensures.1
+      (λ d w. c.size_step_property-c.ensures.1 d w _) c.times.ensures.0 (λ d. last_none _ _ d _ c.if-property-lt-CONSTRAINT.false)
+      (λ i. omega (arith, c.shared_slice_known-1.given i)) c.requires.1,
+  frame_made _ _ c.requires.0 _ _ c.shape-shape.ensures _ _ _ _ _ _ _ c.index_cells.ensures c.size_property-p.ensures.1 c.size_cells-s.ensures.1
+      (λ d w. c.size_step_property-c.ensures.1 d w _) c.times.ensures.0 (λ d. last_none _ _ d _ c.if-property-lt-CONSTRAINT.false),
 )

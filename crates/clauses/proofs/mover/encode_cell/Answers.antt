@@ -124,10 +124,14 @@ shape_of-buf c =
 pub returns : goal.returns
 returns c =
     λ x. let i = is c.requires.0 c.args.p x in
-    cell_emits (layout_of c.args.shape) (slots_of c.args.file.now c.args.shape c.args.bits.now) x.cell (c.encode_enable-e.ensures x) (action_writes c.requires.0 c.args.p x _ (ap (λ (k : ℕ). c.args.p + 8 + k) c.wide.ensures.0) c.args.bits.now _ c.encode_list-a.result c.encode_list-a.ensures.0) (target_set c.args.file.now c.args.shape _ (few_bits c.requires.0.shaped) c.encode_list-a.ensures.1
+    cell_emits (layout_of c.args.shape) (slots_of c.args.file.now c.args.shape c.args.bits.now) x.cell (c.encode_enable-e.ensures x)
+    (action_writes c.requires.0 c.args.p x _ (ap (λ (k : ℕ). c.args.p + 8 + k) c.wide.ensures.0) c.args.bits.now _ c.encode_list-a.result
+    c.encode_list-a.ensures.0) (target_set c.args.file.now c.args.shape _ (few_bits c.requires.0.shaped) c.encode_list-a.ensures.1
     x.cell.matrix c.wide-2.result _ x.cell.target c.wide-3.result c.constant.result _ (c.wide-2.ensures.0 ∙ sym i.matrix) (c.wide-3.ensures.0 ∙ sym i.target) (omega (
       arith,
       i.matrix,
       (normal_fields c.requires.0 c.args.p c.requires.2).matrix,
       c.requires.0.shaped.counts.matrices,
-    )) (ap (λ (k : ℕ). k + 4 * c.wide-2.result) c.offset.ensures) c.constant.ensures (let h : length c.constant.result ≡ 16 = search rules in h) c.store_word.ensures.0) (muxes_first c.args.file.now c.args.shape _ _ c.args.bits.now (few_bits c.requires.0.shaped) c.store_word.ensures.1 c.requires.1 (c.muxes-x.ensures.0 c.args.file.now c.requires.0.shaped.bits.total))
+    )) (ap (λ (k : ℕ). k + 4 * c.wide-2.result) c.offset.ensures) c.constant.ensures (let h : length c.constant.result ≡ 16 = search rules in h)
+    c.store_word.ensures.0) (muxes_first c.args.file.now c.args.shape _ _ c.args.bits.now (few_bits c.requires.0.shaped) c.store_word.ensures.1
+    c.requires.1 (c.muxes-x.ensures.0 c.args.file.now c.requires.0.shaped.bits.total))

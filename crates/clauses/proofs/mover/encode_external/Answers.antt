@@ -58,4 +58,6 @@ returns c =
       arith,
       e,
       c.requires.3,
-    )) refl ∙ ap (λ (l : Literal). set (slots_of file shape bits) v (l ∷ [])) code_yes) (muxes_first file shape _ _ bits (few_bits c.requires.0) (length-set bits c.offset-o.result 2 ∙ c.requires.1) c.requires.1 (c.muxes-x.ensures.0 file c.requires.0.bits.total))
+    )) refl ∙ ap (λ (l : Literal). set (slots_of file shape bits) v (l ∷ [])) code_yes)
+    (muxes_first file shape _ _ bits (few_bits c.requires.0) (length-set bits c.offset-o.result 2 ∙ c.requires.1) c.requires.1
+    (c.muxes-x.ensures.0 file c.requires.0.bits.total))

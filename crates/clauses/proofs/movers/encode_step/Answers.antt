@@ -47,7 +47,10 @@ loop-i-smaller-then-i-shape c = omega (arith, c.loop-i-test.true)
 
 pub loop-i-preserved-then-i-shape : goal.loop-i-preserved-then-i-shape
 loop-i-preserved-then-i-shape c = (
-  moving_on c.args.file.now c.args.shape c.args.bits.now _ c.loop-i-test.true (all_few c.requires.0.shaped c.requires.2) (mover_total c.requires.0.shaped c.requires.2) c.loop-i.invariant.0 _ (cell_is c.requires.0.shaped c.requires.2 (layout_of c.args.shape) (slots_of c.args.file.now c.args.shape c.args.bits.now) c.loop-i.i c.if-i-shape.true c.encode_cell-t.ensures),
+  moving_on c.args.file.now c.args.shape c.args.bits.now _ c.loop-i-test.true (all_few c.requires.0.shaped c.requires.2)
+      (mover_total c.requires.0.shaped c.requires.2) c.loop-i.invariant.0 _
+      (cell_is c.requires.0.shaped c.requires.2 (layout_of c.args.shape) (slots_of c.args.file.now c.args.shape c.args.bits.now) c.loop-i.i
+      c.if-i-shape.true c.encode_cell-t.ensures),
   omega arith,
 )
 
@@ -80,7 +83,10 @@ loop-i-smaller c = omega (arith, c.loop-i-test.true)
 
 pub loop-i-preserved : goal.loop-i-preserved
 loop-i-preserved c = (
-  moving_on c.args.file.now c.args.shape c.args.bits.now _ c.loop-i-test.true (all_few c.requires.0.shaped c.requires.2) (mover_total c.requires.0.shaped c.requires.2) c.loop-i.invariant.0 _ (external_is c.requires.0.shaped c.requires.2 (layout_of c.args.shape) (slots_of c.args.file.now c.args.shape c.args.bits.now) c.loop-i.i c.if-i-shape.false _ c.external-v.ensures.0 c.loop-i-test.true c.encode_external-t.ensures),
+  moving_on c.args.file.now c.args.shape c.args.bits.now _ c.loop-i-test.true (all_few c.requires.0.shaped c.requires.2)
+      (mover_total c.requires.0.shaped c.requires.2) c.loop-i.invariant.0 _
+      (external_is c.requires.0.shaped c.requires.2 (layout_of c.args.shape) (slots_of c.args.file.now c.args.shape c.args.bits.now) c.loop-i.i
+      c.if-i-shape.false _ c.external-v.ensures.0 c.loop-i-test.true c.encode_external-t.ensures),
   omega arith,
 )
 

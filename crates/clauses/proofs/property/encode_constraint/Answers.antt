@@ -12,8 +12,8 @@ has_constraint-requires c = (sizes c.requires.0).0
 
 pub returns-then-not-has_constraint : goal.returns-then-not-has_constraint
 returns-then-not-has_constraint c =
-    let args = c.args in
-    λ d w. gives_true _ (test_none (layout_of args.shape) (read_slots true args.file.now args.shape args.both.now) d.constraint (constraint_none args.file.now d w (sym c.has_constraint.ensures ∙ not-true _ c.if-not-has_constraint.true-raw)))
+    λ d w. gives_true _ (test_none (layout_of c.args.shape) (read_slots true c.args.file.now c.args.shape c.args.both.now) d.constraint
+    (constraint_none c.args.file.now d w (sym c.has_constraint.ensures ∙ not-true _ c.if-not-has_constraint.true-raw)))
     _ c.no_property.ensures
 
 pub constraint-stands-requires : goal.constraint-stands-requires

@@ -40,5 +40,4 @@ returns-then-property-eq1 c =
 
 pub returns : goal.returns
 returns c =
-    let args = c.args in
-    λ d w. gives_true _ (property_none _ _ d (slots_of args.file.now args.inst.shape args.bits.now) _ c.if-property-eq0.false c.if-property-eq1.false) _ c.no_property.ensures
+    λ d w. gives_true _ (property_none _ _ d (slots_of c.args.file.now c.args.inst.shape c.args.bits.now) _ c.if-property-eq0.false c.if-property-eq1.false) _ c.no_property.ensures

@@ -1,4 +1,3 @@
--- `design::action::check_list` and `design::action::check_stmt` meet their contracts. Assumes nothing.
 use native.Mathlib.Omega.{arith}
 use mathlib.Core.Path.{sym, ap, ◌∙◌}
 use mathlib.Core.Logic.{inl, inr}
@@ -72,7 +71,8 @@ check_stmt-enum_told-in-Bad t c = c.in-Bad.in-Bad-own.keys2
 
 pub check_stmt-returns-in-At-check_list : goal.check_stmt-returns-in-At-check_list
 check_stmt-returns-in-At-check_list t c =
-    if_else_lem _ _ _ _ _ c.if-nest-eq0.false c.if-end-at.false (stmt_second _ c.in-32-to-33.if-op-lt32-own.false c.in-32-to-33.if-op-lt34-own.true c.if-op-eq32.false) _ _ _ (sym c.in-At.is ∙ c.check_bool.ensures) (sym c.in-At-check_list.is ∙ c.check_list.ensures) c.check_list-in-At-check_list.ensures
+    if_else_lem _ _ _ _ _ c.if-nest-eq0.false c.if-end-at.false (stmt_second _ c.in-32-to-33.if-op-lt32-own.false c.in-32-to-33.if-op-lt34-own.true
+    c.if-op-eq32.false) _ _ _ (sym c.in-At.is ∙ c.check_bool.ensures) (sym c.in-At-check_list.is ∙ c.check_list.ensures) c.check_list-in-At-check_list.ensures
 
 pub check_stmt-returns-in-Bad-check_list : goal.check_stmt-returns-in-Bad-check_list
 check_stmt-returns-in-Bad-check_list t c =

@@ -1,4 +1,3 @@
--- `design::action::check_assign` meets its contract. Assumes nothing.
 use native.Mathlib.Omega.{arith}
 use Rattle.design.proofs.Readers.{assign_past, assign_nothing, assign_int, assign_flag}
 use mathlib.Core.Path.{◌∙◌}

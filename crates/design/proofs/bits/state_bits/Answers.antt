@@ -11,9 +11,8 @@ overflow_add-result-2 c = omega (arith, c.offset.ensures, variables_small c.args
 
 pub returns : goal.returns
 returns c =
-    let args = c.args in
-    let size = state_size args.file.now args.variables args.matrices _ c.offset.ensures in
+    let size = state_size c.args.file.now c.args.variables c.args.matrices _ c.offset.ensures in
     record {
-      counted = (size, omega (arith, c.offset.ensures, variables_small args.file.now 0 args.variables));
-      of_design = λ d p e q. size ∙ bits_are args.file.now d p args.variables args.matrices e q;
+      counted = (size, omega (arith, c.offset.ensures, variables_small c.args.file.now 0 c.args.variables));
+      of_design = λ d p e q. size ∙ bits_are c.args.file.now d p c.args.variables c.args.matrices e q;
     }

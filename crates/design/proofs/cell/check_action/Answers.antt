@@ -1,4 +1,3 @@
--- `design::cell::check_action` meets its contract. Assumes nothing.
 use native.Mathlib.Omega.{arith}
 use Rattle.design.proofs.Cells.{action_read}
 use Rattle.design.proofs.cell.check_action.Goals as goal

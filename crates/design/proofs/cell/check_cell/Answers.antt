@@ -1,4 +1,3 @@
--- `design::cell::check_cell` meets its contract. Assumes nothing.
 use native.Mathlib.Omega.{arith}
 use Rattle.design.proofs.Cells.{cell_passes, cell_fields, cell_order, cell_invalid, cell_guard, cell_action}
 use mathlib.Core.Path.{sym, ◌∙◌}
@@ -23,8 +22,10 @@ returns-then-kind-ne0 c =
 
 pub returns-in-Past : goal.returns-in-Past
 returns-in-Past c =
-    λ f. cell_action _ _ _ _ f _ _ _ (omega arith) c.if-end-past.false _ _ c.fields_ok.ensures c.if-not-fields_ok.false c.in_order.ensures c.if-not-in_order.false _ _ c.if-kind-ne0.false (sym c.in-Past.is ∙ c.check_guard.ensures c.args.end) (c.check_action.ensures c.args.end)
+    λ f. cell_action _ _ _ _ f _ _ _ (omega arith) c.if-end-past.false _ _ c.fields_ok.ensures c.if-not-fields_ok.false c.in_order.ensures
+    c.if-not-in_order.false _ _ c.if-kind-ne0.false (sym c.in-Past.is ∙ c.check_guard.ensures c.args.end) (c.check_action.ensures c.args.end)
 
 pub returns-in-Refused : goal.returns-in-Refused
 returns-in-Refused c =
-    λ f. cell_guard _ _ _ _ f _ _ _ (omega arith) c.if-end-past.false _ _ c.fields_ok.ensures c.if-not-fields_ok.false c.in_order.ensures c.if-not-in_order.false _ _ c.if-kind-ne0.false (sym c.in-Refused.is ∙ c.check_guard.ensures c.args.end)
+    λ f. cell_guard _ _ _ _ f _ _ _ (omega arith) c.if-end-past.false _ _ c.fields_ok.ensures c.if-not-fields_ok.false c.in_order.ensures
+    c.if-not-in_order.false _ _ c.if-kind-ne0.false (sym c.in-Refused.is ∙ c.check_guard.ensures c.args.end)

@@ -1,4 +1,3 @@
--- `design::cell::check_guard` meets its contract. Assumes nothing.
 use native.Mathlib.Omega.{arith}
 use Rattle.design.proofs.Cells.{guard_none, guard_read}
 use Prim.Native.Nat.{◌+◌}

@@ -1,4 +1,3 @@
--- `design::cell::fields_ok` meets its contract. Assumes nothing.
 use native.Mathlib.Omega.{arith}
 use borrow.Author.Tests.{le-ltb, lt-ltb, eq-eqb, ne_eqb}
 use Prim.Native.Nat.{ℕ}
@@ -41,8 +40,11 @@ returns-then-target-ne0 c =
 
 pub returns-then-guard-ne0 : goal.returns-then-guard-ne0
 returns-then-guard-ne0 c =
-    fields_ending c.args.file.now c.args.mats c.args.shape.matrices c.args.at 1 false c.if-kind-ne1.false (simp (eq-eqb _ _ c.if-target-ne0.false, ne_eqb _ _ c.if-guard-ne0.true)) c.if-shape-m.false c.if-statuses-status.false c.if-events-event.false
+    fields_ending c.args.file.now c.args.mats c.args.shape.matrices c.args.at 1 false c.if-kind-ne1.false
+    (simp (eq-eqb _ _ c.if-target-ne0.false, ne_eqb _ _ c.if-guard-ne0.true)) c.if-shape-m.false c.if-statuses-status.false c.if-events-event.false
 
 pub returns : goal.returns
 returns c =
-    fields_ending c.args.file.now c.args.mats c.args.shape.matrices c.args.at 1 _ c.if-kind-ne1.false (simp (eq-eqb _ _ c.if-target-ne0.false, eq-eqb _ _ c.if-guard-ne0.false) (ap (λ (x : ℕ). eqb x 0) (sym c.word-action.ensures.0))) c.if-shape-m.false c.if-statuses-status.false c.if-events-event.false
+    fields_ending c.args.file.now c.args.mats c.args.shape.matrices c.args.at 1 _ c.if-kind-ne1.false
+    (simp (eq-eqb _ _ c.if-target-ne0.false, eq-eqb _ _ c.if-guard-ne0.false) (ap (λ (x : ℕ). eqb x 0) (sym c.word-action.ensures.0)))
+    c.if-shape-m.false c.if-statuses-status.false c.if-events-event.false

@@ -1,4 +1,3 @@
--- `design::cell::in_order` meets its contract. Assumes nothing.
 use borrow.Author.Tests.{eq-eqb, ne_eqb}
 use Rattle.design.proofs.Cells.{lt_ltb_of, le_ltb_of, eq_eqb_of, ne_eqb_of}
 use Rattle.design.proofs.cell.in_order.Goals as goal

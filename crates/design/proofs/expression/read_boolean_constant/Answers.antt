@@ -1,4 +1,3 @@
--- `design::expression::read_boolean_constant` meets its contract. Assumes nothing.
 use borrow.Author.Tests.{le-ltb, lt-ltb, le-leb, lt-leb}
 use Rattle.design.proofs.expression.read_boolean_constant.Goals as goal
 

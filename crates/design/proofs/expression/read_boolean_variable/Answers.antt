@@ -1,4 +1,3 @@
--- `design::expression::read_boolean_variable` meets its contract. Assumes nothing.
 use borrow.Author.Tests.{le-ltb, lt-ltb, eq-eqb, ne_eqb}
 use native.Mathlib.Omega.{arith}
 use Rattle.design.proofs.expression.read_boolean_variable.Goals as goal

@@ -1,4 +1,3 @@
--- `design::expression::read_integer_constant` meets its contract. Assumes nothing.
 use borrow.Author.Tests.{le-leb, lt-leb}
 use Prim.Native.Nat.{◌+◌}
 use native.Mathlib.Omega.{arith}

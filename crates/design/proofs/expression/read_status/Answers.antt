@@ -1,4 +1,3 @@
--- `design::expression::read_status` meets its contract. Assumes nothing.
 use borrow.Author.Tests.{le-ltb, lt-ltb}
 use native.Mathlib.Omega.{arith}
 use Rattle.design.proofs.expression.read_status.Goals as goal

@@ -1,4 +1,3 @@
--- `design::index::constraint_offset` meets its contract. Assumes nothing.
 use Rattle.design.proofs.File.{long_tail, offset_inside, offset_read, offset_none}
 use Rattle.design.proofs.index.constraint_offset.Goals as goal
 

@@ -1,4 +1,3 @@
--- `design::index::external` meets its contract. Assumes nothing.
 use native.Mathlib.Omega.{arith}
 use Rattle.design.proofs.Externals.{Finding, finding_start, finding_here, finding_yes, finding_no, finding_end}
 use mathlib.Core.Path.{subst, sym}

@@ -1,4 +1,3 @@
--- `design::index::external_count` meets its contract. Assumes nothing.
 use native.Mathlib.Omega.{arith}
 use Rattle.design.proofs.Externals.{counting_start, counting_yes, counting_no, counting_end}
 use Rattle.design.proofs.index.external_count.Goals as goal

@@ -1,4 +1,3 @@
--- `design::index::has_constraint` meets its contract. Assumes nothing.
 use mathlib.Core.Path.{ap, ◌∙◌}
 use Rattle.design.specs.Limits.{constrained}
 use Rattle.design.proofs.File.{version_here}

@@ -1,4 +1,3 @@
--- `design::index::invariant` meets its contract. Assumes nothing.
 use native.Mathlib.Omega.{arith}
 use Rattle.design.proofs.File.{long_tail}
 use Rattle.design.proofs.index.invariant.Goals as goal

@@ -1,4 +1,3 @@
--- `design::index::items_end` meets its contract. Assumes nothing.
 use native.Mathlib.Omega.{arith}
 use mathlib.Core.Path.{refl, ap}
 use Rattle.design.specs.Limits.{tail_bytes}

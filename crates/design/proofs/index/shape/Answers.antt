@@ -1,4 +1,3 @@
--- `design::index::shape` meets its contract. Assumes nothing.
 use native.Mathlib.Omega.{arith}
 use mathlib.Core.Path.{refl}
 use Rattle.design.proofs.Tables.{bounds}

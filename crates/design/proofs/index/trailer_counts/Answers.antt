@@ -1,4 +1,3 @@
--- `design::index::trailer_counts` meets its contract. Assumes nothing.
 use Rattle.design.proofs.index.trailer_counts.Goals as goal
 
 pub returns : goal.returns

@@ -1,4 +1,3 @@
--- `design::index::trailer_offsets` meets its contract. Assumes nothing.
 use native.Mathlib.Omega.{arith}
 use Rattle.design.proofs.File.{long_tail}
 use Rattle.design.proofs.index.trailer_offsets.Goals as goal

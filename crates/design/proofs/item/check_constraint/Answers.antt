@@ -1,4 +1,3 @@
--- `design::item::check_constraint` meets its contract. Assumes nothing.
 use Rattle.design.proofs.Items.{constraint_absent, constraint_read}
 use Rattle.design.proofs.item.check_constraint.Goals as goal
 

@@ -1,4 +1,3 @@
--- `design::item::check_event` meets its contract. Assumes nothing.
 use native.Mathlib.Omega.{arith}
 use Rattle.design.proofs.Items.{event_passes, event_read}
 use Rattle.design.proofs.item.check_event.Goals as goal

@@ -1,4 +1,3 @@
--- `design::item::check_invariant` meets its contract. Assumes nothing.
 use Rattle.design.proofs.Items.{invariant_before, invariant_passes, invariant_read}
 use Rattle.design.proofs.item.check_invariant.Goals as goal
 

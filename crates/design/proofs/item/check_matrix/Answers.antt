@@ -1,4 +1,3 @@
--- `design::item::check_matrix` meets its contract. Assumes nothing.
 use borrow.Author.Tests.{le-leb, lt-leb}
 use Rattle.design.specs.DesignFile.{matrix_at}
 use Rattle.design.proofs.item.check_matrix.Goals as goal

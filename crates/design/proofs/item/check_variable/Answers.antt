@@ -1,4 +1,3 @@
--- `design::item::check_variable` meets its contract. Assumes nothing.
 use borrow.Author.Tests.{le-leb, lt-leb, eq-eqb, ne_eqb}
 use Rattle.design.specs.DesignFile.{variable_at}
 use Rattle.design.proofs.Items.{lt_leb_of, le_leb_of}

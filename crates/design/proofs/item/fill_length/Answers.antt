@@ -1,4 +1,3 @@
--- `design::item::fill_length` meets its contract. Assumes nothing.
 use Rattle.design.proofs.Items.{filled_at, filled_else, filled_bad}
 use Rattle.design.proofs.item.fill_length.Goals as goal
 

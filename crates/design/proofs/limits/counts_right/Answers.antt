@@ -1,4 +1,3 @@
--- `design::limits::counts_right` meets its contract. Assumes nothing.
 use Rattle.design.proofs.File.{counts_variables, counts_no_matrix, counts_matrices, counts_last}
 use Rattle.design.proofs.limits.counts_right.Goals as goal
 

@@ -1,4 +1,3 @@
--- `design::limits::length_right` meets its contract. Assumes nothing.
 use Rattle.design.proofs.File.{length_short, length_last}
 use Rattle.design.proofs.limits.length_right.Goals as goal
 

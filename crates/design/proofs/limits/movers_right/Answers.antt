@@ -1,4 +1,3 @@
--- `design::limits::movers_right` meets its contract. Assumes nothing.
 use Rattle.design.proofs.File.{movers_none, movers_last}
 use Rattle.design.proofs.limits.movers_right.Goals as goal
 

@@ -1,4 +1,3 @@
--- `design::limits::tail_bytes` meets its contract. Assumes nothing.
 use mathlib.Core.Bool.{true, false}
 use Rattle.design.proofs.File.{tail_by}
 use Rattle.design.proofs.limits.tail_bytes.Goals as goal

@@ -1,4 +1,3 @@
--- `design::limits::version_right` meets its contract. Assumes nothing.
 use Rattle.design.proofs.File.{version_none, version_last}
 use Rattle.design.proofs.limits.version_right.Goals as goal
 

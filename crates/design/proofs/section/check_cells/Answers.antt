@@ -1,4 +1,3 @@
--- `design::section::check_cells` meets its contract. Assumes nothing.
 use native.Mathlib.Omega.{arith}
 use mathlib.Core.Path.{refl, sym, ◌∙◌}
 use Rattle.design.specs.Tree.{constant_b}

@@ -1,4 +1,3 @@
--- `design::section::check_events` meets its contract. Assumes nothing.
 use native.Mathlib.Omega.{arith}
 use mathlib.Core.Path.{refl, sym, ◌∙◌}
 use Rattle.design.proofs.Items.{rows_none, rows_refused, rows_more, row_ends}

@@ -1,4 +1,3 @@
--- `design::section::check_from_events` meets its contract. Assumes nothing.
 use native.Mathlib.Omega.{arith}
 use mathlib.Core.Path.{sym, ap, ◌∙◌}
 use Rattle.design.specs.declared.shape.Shape.{Shape}
@@ -31,4 +30,5 @@ returns-else-offsets-p c = c.check_from_cells.ensures
 
 pub returns-in-Refused : goal.returns-in-Refused
 returns-in-Refused c =
-    x_event c.args.file.now c.args.end c.args.counts c.args.offsets _ c.requires.sections_right.0 c.requires.sections_right.1 _ _ (sym c.in-Refused.is ∙ events_of c.args.file.now c.args.end c.args.counts c.args.offsets _ c.shape_of.ensures _ c.check_events.ensures)
+    x_event c.args.file.now c.args.end c.args.counts c.args.offsets _ c.requires.sections_right.0 c.requires.sections_right.1 _ _
+    (sym c.in-Refused.is ∙ events_of c.args.file.now c.args.end c.args.counts c.args.offsets _ c.shape_of.ensures _ c.check_events.ensures)

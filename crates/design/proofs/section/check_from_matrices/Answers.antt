@@ -1,4 +1,3 @@
--- `design::section::check_from_matrices` meets its contract. Assumes nothing.
 use native.Mathlib.Omega.{arith}
 use mathlib.Core.Path.{sym, ◌∙◌}
 use Rattle.design.proofs.File.{variables_end, x_matrix, x_events, past_at}

@@ -1,4 +1,3 @@
--- `design::section::check_last` meets its contract. Assumes nothing.
 use mathlib.Core.Path.{sym, ◌∙◌}
 use Rattle.design.specs.Check.{names_of}
 use Rattle.design.proofs.File.{expressions_stop, expressions_go}

@@ -1,4 +1,3 @@
--- `design::section::check_matrix_events` meets its contract. Assumes nothing.
 use native.Mathlib.Omega.{arith}
 use mathlib.Core.Path.{refl, sym, ◌∙◌}
 use Rattle.design.proofs.Items.{items_none, items_refused, items_more, event_ends}

@@ -1,4 +1,3 @@
--- `design::section::check_sections` meets its contract. Assumes nothing.
 use mathlib.Core.Path.{sym, ◌∙◌}
 use Rattle.design.proofs.File.{x_variables, x_matrices, passed_at}
 use Rattle.design.proofs.section.check_sections.Goals as goal

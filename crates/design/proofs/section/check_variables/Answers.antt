@@ -1,4 +1,3 @@
--- `design::section::check_variables` meets its contract. Assumes nothing.
 use native.Mathlib.Omega.{arith}
 use mathlib.Core.Path.{refl, sym, ◌∙◌}
 use Rattle.design.proofs.Items.{count_none, count_refused, variable_more, variable_ends}

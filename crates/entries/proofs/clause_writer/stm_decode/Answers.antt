@@ -1,4 +1,3 @@
--- `entries::clause_writer::stm_decode` meets its contract. Assumes nothing.
 use Rattle.entries.specs.Clauses.{decode_entry}
 use Rattle.entries.proofs.Writing.{decode_refused, decode_done}
 use Rattle.entries.proofs.clause_writer.stm_decode.Goals as goal

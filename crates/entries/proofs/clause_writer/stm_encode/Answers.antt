@@ -1,4 +1,3 @@
--- `entries::clause_writer::stm_encode` meets its contract. Assumes nothing.
 use Rattle.entries.specs.Clauses.{encode_entry}
 use Rattle.entries.proofs.Writing.{encode_refused, encode_told}
 use Rattle.entries.proofs.clause_writer.stm_encode.Goals as goal

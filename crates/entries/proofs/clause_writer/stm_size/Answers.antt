@@ -1,4 +1,3 @@
--- `entries::clause_writer::stm_size` meets its contract. Assumes nothing.
 use Rattle.entries.specs.Clauses.{size_entry}
 use Rattle.entries.proofs.Writing.{size_refused, size_told}
 use Rattle.entries.proofs.clause_writer.stm_size.Goals as goal

@@ -1,4 +1,3 @@
--- `entries::judge::stm_verdict` meets its contract. Assumes nothing.
 use Rattle.entries.specs.Verdict.{verdict_entry}
 use Rattle.entries.proofs.Judging.{refused_exit, done_exit}
 use Rattle.entries.proofs.judge.stm_verdict.Goals as goal

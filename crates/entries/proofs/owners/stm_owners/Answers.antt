@@ -1,4 +1,3 @@
--- `entries::owners::stm_owners` meets its contract. Assumes nothing.
 use Rattle.entries.specs.Owners.{owners_entry}
 use Rattle.entries.proofs.Owning.{owners_return}
 use Rattle.entries.proofs.owners.stm_owners.Goals as goal

@@ -1,4 +1,3 @@
--- `entries::refute::stm_refute` meets its contract.
 use Rattle.search.specs.declared.refute.Judged.TheVariants.{Accepted, Word, Ended}
 use Rattle.search.specs.Refutation.{refute}
 use Rattle.entries.specs.Refute.{refute_entry}

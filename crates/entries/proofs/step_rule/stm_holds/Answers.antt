@@ -1,4 +1,3 @@
--- `entries::step_rule::stm_holds` meets its contract. Assumes nothing.
 use Rattle.entries.specs.Step.{holds_entry}
 use Rattle.entries.proofs.Answering.{holds_refused, holds_told}
 use Rattle.entries.proofs.step_rule.stm_holds.Goals as goal

@@ -1,4 +1,3 @@
--- `entries::step_rule::stm_replay` meets its contract. Assumes nothing.
 use Rattle.entries.specs.Step.{replay_entry}
 use Rattle.entries.proofs.Answering.{replay_refused, replay_told_lem}
 use Rattle.entries.proofs.step_rule.stm_replay.Goals as goal

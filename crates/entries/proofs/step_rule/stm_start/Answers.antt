@@ -1,4 +1,3 @@
--- `entries::step_rule::stm_start` meets its contract. Assumes nothing.
 use Rattle.entries.specs.Step.{start_entry}
 use Rattle.entries.proofs.Answering.{start_refused, start_told}
 use Rattle.entries.proofs.step_rule.stm_start.Goals as goal

@@ -1,4 +1,3 @@
--- `entries::step_rule::stm_step` meets its contract. Assumes nothing.
 use Rattle.entries.specs.Step.{step_entry}
 use Rattle.entries.proofs.Answering.{step_refused, step_told}
 use Rattle.entries.proofs.step_rule.stm_step.Goals as goal

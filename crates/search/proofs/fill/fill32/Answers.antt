@@ -1,4 +1,3 @@
--- `search::fill::fill32` meets its contract.
 use Rattle.search.proofs.Filling.{fill_start, fill_step, fill_done}
 use Rattle.search.proofs.fill.fill32.Goals as goal
 

@@ -1,4 +1,3 @@
--- `search::fill::fill8` meets its contract.
 use Rattle.search.proofs.Filling.{fill_start, fill_step, fill_done}
 use Rattle.search.proofs.fill.fill8.Goals as goal
 

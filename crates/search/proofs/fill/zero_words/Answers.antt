@@ -1,4 +1,3 @@
--- `search::fill::zero_words` meets its contract.
 use Rattle.search.proofs.Filling.{fill_start, fill_step, fill_done}
 use Rattle.search.proofs.fill.zero_words.Goals as goal
 

@@ -1,4 +1,3 @@
--- `search::refute::deny` meets its contract.
 use native.Mathlib.Omega.{arith}
 use Rattle.search.proofs.Denying.{denying_start, denying_low, denying_named, denying_inside, denying_both, denying_next, denying_end, denying_sign}
 use Rattle.search.proofs.refute.deny.Goals as goal
@@ -53,7 +52,8 @@ overflow_sub-values-in-loop-v c =
 
 pub bounds-values-v-in-loop-v : goal.bounds-values-v-in-loop-v
 bounds-values-v-in-loop-v c =
-    let a = denying_named c.loop-v.invariant c.ends.ensures c.loop-v-test.true-raw c.requires.0 c.variable-v.ensures in let b = denying_inside c.loop-v.invariant c.ends.ensures c.loop-v-test.true-raw c.requires.0 c.variable-v.ensures in omega arith
+    let a = denying_named c.loop-v.invariant c.ends.ensures c.loop-v-test.true-raw c.requires.0 c.variable-v.ensures in let b = denying_inside
+    c.loop-v.invariant c.ends.ensures c.loop-v-test.true-raw c.requires.0 c.variable-v.ensures in omega arith
 
 pub overflow_add-i : goal.overflow_add-i
 overflow_add-i c = let l = denying_low c.loop-v.invariant in omega arith

@@ -1,4 +1,3 @@
--- `search::refute::follows` meets its contract.
 use mathlib.Core.Path.{sym}
 use lib.Seq.{length-take-le}
 use Rattle.search.proofs.Refuting.{deny_ready, follows_both, reaches_ready, follows_reached}

@@ -1,4 +1,3 @@
--- `search::refute::reaches` meets its contract.
 use mathlib.Core.Path.{subst, sym}
 use native.Mathlib.Omega.{arith}
 use Prim.Native.Nat.{ℕ}

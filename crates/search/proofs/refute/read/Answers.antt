@@ -1,4 +1,3 @@
--- `search::refute::read` meets its contract.
 use mathlib.Core.Path.{refl, subst, sym, ◌∙◌}
 use native.Mathlib.Omega.{arith}
 use Prim.Native.Nat.{ℕ}

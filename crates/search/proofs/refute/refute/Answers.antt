@@ -1,4 +1,3 @@
--- `search::refute::refute` meets its contract.
 use mathlib.Core.Path.{sym, ◌∙◌}
 use native.Mathlib.Omega.{arith}
 use lib.Seq.{length-take-le}
@@ -40,4 +39,5 @@ judge-requires c =
 
 pub returns : goal.returns
 returns c =
-    refute_done c.args.n c.args.list.now c.args.refutation.now c.args.values.now c.if-n-gt-MAX_VARIABLE.false (sym c.in_default.is ∙ c.bad_word.ensures) (sym c.in_default-bad_word.is ∙ c.bad_word-2.ensures) c.if-values-k.false c.judge.ensures.0 c.judge.ensures.1
+    refute_done c.args.n c.args.list.now c.args.refutation.now c.args.values.now c.if-n-gt-MAX_VARIABLE.false
+    (sym c.in_default.is ∙ c.bad_word.ensures) (sym c.in_default-bad_word.is ∙ c.bad_word-2.ensures) c.if-values-k.false c.judge.ensures.0 c.judge.ensures.1

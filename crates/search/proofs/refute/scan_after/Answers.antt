@@ -1,4 +1,3 @@
--- `search::refute::scan_after` meets its contract.
 use mathlib.Core.Path.{subst}
 use native.Mathlib.Omega.{arith}
 use Rattle.clauses.specs.Words.{clauses_of}

@@ -1,4 +1,3 @@
--- `search::refute::scan_round` meets its contract.
 use mathlib.Core.Path.{refl}
 use Rattle.search.specs.Memory.{value_at}
 use Rattle.search.proofs.Scanning.{some_found}

@@ -1,11 +1,9 @@
--- `search::run::run` meets its contract.
 use Rattle.search.proofs.Running.{searching_start, ready_here, again_goes, latest_try, again_tries, ends_spent, ends_sat, ends_unsat}
 use Rattle.search.proofs.run.run.Goals as goal
 
 pub loop-set-init : goal.loop-set-init
 loop-set-init c =
-    let the-pre = c.requires in
-    searching_start _ _ _ _ the-pre.0 the-pre.1
+    searching_start _ _ _ _ c.requires.0 c.requires.1
 
 pub turn-requires : goal.turn-requires
 turn-requires c = ready_here c.loop-set.invariant

@@ -1,4 +1,3 @@
--- `search::scan::scan_from` meets its contract.
 use mathlib.Core.Path.{sym, subst}
 use Prim.Native.Nat.{◌+◌}
 use native.Mathlib.Omega.{arith}
@@ -18,9 +17,7 @@ ends-requires c = inner_low c.loop-found.invariant
 
 pub literal-x-requires : goal.literal-x-requires
 literal-x-requires c =
-    let the-args = c.args in
-    let the-pre = c.requires in
-    inner_named c.loop-found.invariant (length the-args.values.now) the-pre.0 c.ends.ensures c.loop-found-test.true-raw
+    inner_named c.loop-found.invariant (length c.args.values.now) c.requires.0 c.ends.ensures c.loop-found-test.true-raw
 
 pub after_clause-i-requires : goal.after_clause-i-requires
 after_clause-i-requires c =
@@ -44,7 +41,8 @@ clauses-smaller c =
 
 pub clauses-preserved : goal.clauses-preserved
 clauses-preserved c =
-    outer_next c.clauses.invariant c.clauses-test.true (inner_second c.loop-found.invariant c.ends.ensures c.loop-found-test.true-raw c.literal-x.ensures c.if-x-eq2.true c.if-spot-gt0.true) c.loop-found.invariant c.after_clause-i-then-spot-gt0.ensures
+    outer_next c.clauses.invariant c.clauses-test.true (inner_second c.loop-found.invariant c.ends.ensures c.loop-found-test.true-raw
+    c.literal-x.ensures c.if-x-eq2.true c.if-spot-gt0.true) c.loop-found.invariant c.after_clause-i-then-spot-gt0.ensures
 
 pub overflow_add-spot : goal.overflow_add-spot
 overflow_add-spot c =
@@ -60,10 +58,11 @@ loop-found-smaller c =
 
 pub loop-found-preserved : goal.loop-found-preserved
 loop-found-preserved c =
-    let the-args = c.args in
     elim c.if-x-eq2.branch [
-      | then-x-eq2+else-spot-gt0 w ↦ subst (Inner the-args.words.now the-args.values.now c.clauses.i (c.loop-found.i + 1)) (sym w.spot-is) (inner_unset c.loop-found.invariant c.ends.ensures c.loop-found-test.true-raw c.literal-x.ensures w.if-x-eq2.true w.if-spot-gt0.false)
-      | else-x-eq2 w ↦ subst (Inner the-args.words.now the-args.values.now c.clauses.i (c.loop-found.i + 1)) (sym w.spot-is) (inner_false c.loop-found.invariant c.ends.ensures c.loop-found-test.true-raw c.literal-x.ensures c.if-x-eq1.false w.if-x-eq2.false)
+      | then-x-eq2+else-spot-gt0 w ↦ subst (Inner c.args.words.now c.args.values.now c.clauses.i (c.loop-found.i + 1)) (sym w.spot-is)
+          (inner_unset c.loop-found.invariant c.ends.ensures c.loop-found-test.true-raw c.literal-x.ensures w.if-x-eq2.true w.if-spot-gt0.false)
+      | else-x-eq2 w ↦ subst (Inner c.args.words.now c.args.values.now c.clauses.i (c.loop-found.i + 1)) (sym w.spot-is)
+          (inner_false c.loop-found.invariant c.ends.ensures c.loop-found-test.true-raw c.literal-x.ensures c.if-x-eq1.false w.if-x-eq2.false)
     ]
 
 pub variable-requires : goal.variable-requires

@@ -1,4 +1,3 @@
--- `search::trail::latest` meets its contract.
 use Prim.Native.Nat.{◌-◌}
 use native.Mathlib.Omega.{arith}
 use Rattle.search.proofs.trail.latest.Goals as goal

@@ -1,4 +1,3 @@
--- `search::trail::lowest` meets its contract.
 use Rattle.search.proofs.Seeking.{seeks_start, seeks_next, seeks_here, seeks_none}
 use Rattle.search.proofs.trail.lowest.Goals as goal
 

@@ -1,4 +1,3 @@
--- `search::trail::undo` meets its contract.
 use Prim.Native.Nat.{◌-◌}
 use native.Mathlib.Omega.{arith}
 use lib.ListN.{length-set}

@@ -1,4 +1,3 @@
--- `search::words::bad_word` meets its contract.
 use mathlib.Core.Path.{◌≡◌, sym, subst}
 use mathlib.Core.Bool.{false, not, cond}
 use Prim.Native.Nat.{◌+◌}
@@ -24,17 +23,14 @@ ends-begun-requires c = c.loop-i-test.true
 
 pub loop-i-preserved : goal.loop-i-preserved
 loop-i-preserved c =
-    let the-args = c.args in
-    subst (λ b. Reads the-args.n the-args.words.now (c.loop-i.i + 1) (not b)) (sym c.ends-begun.ensures) (reads_next _ _ _ _ c.loop-i.invariant c.loop-i-test.true (omega arith))
+    subst (λ b. Reads c.args.n c.args.words.now (c.loop-i.i + 1) (not b)) (sym c.ends-begun.ensures) (reads_next _ _ _ _ c.loop-i.invariant c.loop-i-test.true (omega arith))
 
 pub returns-then-begun : goal.returns-then-begun
 returns-then-begun c =
-    let the-args = c.args in
-    subst (λ b. declared_spot (cond b (at c.loop-i.i) none) ≡ declared_spot (bad_word the-args.n 0 false the-args.words.now)) c.if-begun.true
+    subst (λ b. declared_spot (cond b (at c.loop-i.i) none) ≡ declared_spot (bad_word c.args.n 0 false c.args.words.now)) c.if-begun.true
     (reads_all _ _ _ _ c.loop-i.invariant c.loop-i-test.false)
 
 pub returns-else-begun : goal.returns-else-begun
 returns-else-begun c =
-    let the-args = c.args in
-    subst (λ b. declared_spot (cond b (at c.loop-i.i) none) ≡ declared_spot (bad_word the-args.n 0 false the-args.words.now)) c.if-begun.false
+    subst (λ b. declared_spot (cond b (at c.loop-i.i) none) ≡ declared_spot (bad_word c.args.n 0 false c.args.words.now)) c.if-begun.false
     (reads_all _ _ _ _ c.loop-i.invariant c.loop-i-test.false)

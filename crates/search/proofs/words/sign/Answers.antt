@@ -1,4 +1,3 @@
--- `search::words::sign` meets its contract.
 use mathlib.Core.Bool.{true, false}
 use lib.IntN.{pos}
 use lib.ListN.{get_or}
@@ -7,12 +6,10 @@ use Rattle.search.proofs.words.sign.Goals as goal
 
 pub returns-then-w-lt0 : goal.returns-then-w-lt0
 returns-then-w-lt0 c =
-    let the-args = c.args in
-    let z = get_or the-args.words.now the-args.at (pos 0) in
+    let z = get_or c.args.words.now c.args.at (pos 0) in
     sign_neg z (is_neg_lem z (record { sfits = c.w-1.given }) true c.if-w-lt0.true)
 
 pub returns-else-w-lt0 : goal.returns-else-w-lt0
 returns-else-w-lt0 c =
-    let the-args = c.args in
-    let z = get_or the-args.words.now the-args.at (pos 0) in
+    let z = get_or c.args.words.now c.args.at (pos 0) in
     sign_pos z (is_neg_lem z (record { sfits = c.w-1.given }) false c.if-w-lt0.false)

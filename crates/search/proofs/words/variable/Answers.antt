@@ -1,4 +1,3 @@
--- `search::words::variable` meets its contract.
 use mathlib.Core.Bool.{true, false}
 use native.Mathlib.Omega.{arith}
 use lib.IntN.{pos}
@@ -10,35 +9,30 @@ use Rattle.search.proofs.words.variable.Goals as goal
 
 pub overflow_cast-result : goal.overflow_cast-result
 overflow_cast-result c =
-    let the-args = c.args in
-    let z = get_or the-args.words.now the-args.at (pos 0) in
+    let z = get_or c.args.words.now c.args.at (pos 0) in
     let f : SFits w32 z = record { sfits = c.w-1.given } in
     rw (read32 z f) (wide z f)
 
 pub overflow_sub-result : goal.overflow_sub-result
 overflow_sub-result c =
-    let the-args = c.args in
-    let z = get_or the-args.words.now the-args.at (pos 0) in
+    let z = get_or c.args.words.now c.args.at (pos 0) in
     let f : SFits w32 z = record { sfits = c.w-1.given } in
     rw (read32 z f, read64 z f, minus z (is_neg_lem z f true c.if-w-lt0.true)) (minus_fits z f)
 
 pub overflow_cast-result-then-w-lt0 : goal.overflow_cast-result-then-w-lt0
 overflow_cast-result-then-w-lt0 c =
-    let the-args = c.args in
-    let z = get_or the-args.words.now the-args.at (pos 0) in
+    let z = get_or c.args.words.now c.args.at (pos 0) in
     let f : SFits w32 z = record { sfits = c.w-1.given } in
     rw (read32 z f, read64 z f, minus_read z f (is_neg_lem z f true c.if-w-lt0.true)) (tt, record { fits = omega (arith, abs_fits z f) })
 
 pub overflow_cast-result-else-w-lt0 : goal.overflow_cast-result-else-w-lt0
 overflow_cast-result-else-w-lt0 c =
-    let the-args = c.args in
-    let z = get_or the-args.words.now the-args.at (pos 0) in
+    let z = get_or c.args.words.now c.args.at (pos 0) in
     let f : SFits w32 z = record { sfits = c.w-1.given } in
     rw (read32 z f) (not_neg z (is_neg_lem z f false c.if-w-lt0.false), record { fits = omega (arith, abs_fits z f) })
 
 pub returns-then-w-lt0 : goal.returns-then-w-lt0
 returns-then-w-lt0 c =
-    let the-args = c.args in
-    let z = get_or the-args.words.now the-args.at (pos 0) in
+    let z = get_or c.args.words.now c.args.at (pos 0) in
     let f : SFits w32 z = record { sfits = c.w-1.given } in
     rw (read32 z f, read64 z f, minus_read z f (is_neg_lem z f true c.if-w-lt0.true))

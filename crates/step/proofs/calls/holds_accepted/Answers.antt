@@ -13,7 +13,9 @@ returns-then-wrong-lt-MAX_SLOTS c =
 
 pub returns-then-property-gt-LAST_STATE_PROPERTY : goal.returns-then-property-gt-LAST_STATE_PROPERTY
 returns-then-property-gt-LAST_STATE_PROPERTY c =
-    c.refuse_holds-then-property-gt-LAST_STATE_PROPERTY.ensures ∙ holds_13 c.args.file.now c.args.values c.args.statuses c.args.mark c.args.property c.requires c.patterns-ps.result c.patterns-ps.ensures c.well_formed.1.0.1.0.1 c.well_formed.1.1.0.1.0.1 _ c.wrong_entry-wrong.ensures c.if-wrong-lt-MAX_SLOTS.false c.if-property-gt-LAST_STATE_PROPERTY.true
+    c.refuse_holds-then-property-gt-LAST_STATE_PROPERTY.ensures ∙ holds_13 c.args.file.now c.args.values c.args.statuses c.args.mark c.args.property
+    c.requires c.patterns-ps.result c.patterns-ps.ensures c.well_formed.1.0.1.0.1 c.well_formed.1.1.0.1.0.1 _ c.wrong_entry-wrong.ensures
+    c.if-wrong-lt-MAX_SLOTS.false c.if-property-gt-LAST_STATE_PROPERTY.true
 
 pub holds_right-holds-requires : goal.holds_right-holds-requires
 holds_right-holds-requires c =
@@ -22,4 +24,5 @@ holds_right-holds-requires c =
 pub returns : goal.returns
 returns c =
     holds_done c.args.file.now c.args.values c.args.statuses c.args.mark c.args.property c.requires
-    c.patterns-ps.result c.patterns-ps.ensures c.well_formed.1.0.1.0.1 c.well_formed.1.1.0.1.0.1 _ c.wrong_entry-wrong.ensures c.if-wrong-lt-MAX_SLOTS.false c.if-property-gt-LAST_STATE_PROPERTY.false _ c.shape-shape.ensures.shaped _ c.holds_right-holds.ensures
+    c.patterns-ps.result c.patterns-ps.ensures c.well_formed.1.0.1.0.1 c.well_formed.1.1.0.1.0.1 _ c.wrong_entry-wrong.ensures
+    c.if-wrong-lt-MAX_SLOTS.false c.if-property-gt-LAST_STATE_PROPERTY.false _ c.shape-shape.ensures.shaped _ c.holds_right-holds.ensures

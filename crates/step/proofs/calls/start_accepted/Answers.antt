@@ -1,4 +1,3 @@
--- `step::calls::start_accepted` meets its contract. Assumes nothing.
 use Rattle.std.proofs.Common.{ℕ, replicate, sym, ap, ◌∙◌, arith, length-take-le}
 use Rattle.design.specs.Limits.{max_slots}
 use Rattle.design.proofs.Indexed.{sized}

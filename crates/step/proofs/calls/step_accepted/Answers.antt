@@ -48,4 +48,7 @@ step_slots-requires c = (
 
 pub returns : goal.returns
 returns c =
-    step_done c.args.file.now c.args.values c.args.statuses c.args.mark c.args.choice c.requires c.patterns-ps.result c.patterns-ps.ensures c.well_formed.1.0.1.0.1 c.well_formed.1.1.0.1.0.1 _ c.wrong_entry-wrong.ensures c.if-wrong-lt-MAX_SLOTS.false _ (count_movers _ _ _ c.shape-shape.ensures.shaped (movers_here _ _ _ _ c.shape-shape.ensures c.index_cells-normals.ensures)) (omega (arith, c.if-shape-c.false)) _ c.shape-shape.ensures.shaped _ refl _ c.step_slots.ensures
+    step_done c.args.file.now c.args.values c.args.statuses c.args.mark c.args.choice c.requires c.patterns-ps.result c.patterns-ps.ensures
+    c.well_formed.1.0.1.0.1 c.well_formed.1.1.0.1.0.1 _ c.wrong_entry-wrong.ensures c.if-wrong-lt-MAX_SLOTS.false _
+    (count_movers _ _ _ c.shape-shape.ensures.shaped (movers_here _ _ _ _ c.shape-shape.ensures c.index_cells-normals.ensures))
+    (omega (arith, c.if-shape-c.false)) _ c.shape-shape.ensures.shaped _ refl _ c.step_slots.ensures

@@ -1,4 +1,3 @@
--- `step::evaluate::eval_bool` meets its contract. Assumes nothing.
 use Rattle.std.proofs.Common.{ℕ, ◌+◌, ◌-◌, true, false, ltb, get_or, sym, ap, ◌∙◌, inl, inr, arith}
 use Rattle.step.specs.Evaluation.{eval_bool, passes_bool}
 use Rattle.step.specs.Accepted.{past, bool_value, bool_passes}

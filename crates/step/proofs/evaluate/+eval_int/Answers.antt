@@ -1,4 +1,3 @@
--- `step::evaluate::eval_int` meets its contract. Assumes nothing.
 use Rattle.std.proofs.Common.{ℕ, ◌+◌, ◌-◌, true, false, get_or, sym, ap, ◌∙◌, inl, inr, arith}
 use Rattle.step.specs.Evaluation.{eval_int, passes_int}
 use Rattle.step.specs.Accepted.{past, int_value, int_passes}

@@ -14,6 +14,5 @@ loop-i-preserved c = (
 
 pub returns : goal.returns
 returns c =
-    let args = c.args in
-    copied max_matrices _ 0 (drop args.n args.slots.now) _ (omega arith) c.loop-i.invariant.1
-    ∙ ap (λ (k : ℕ). take k (drop args.n args.slots.now) ++ replicate (max_matrices - k) 0) (let z : c.loop-i.i ≡ args.k = omega arith in z)
+    copied max_matrices _ 0 (drop c.args.n c.args.slots.now) _ (omega arith) c.loop-i.invariant.1
+    ∙ ap (λ (k : ℕ). take k (drop c.args.n c.args.slots.now) ++ replicate (max_matrices - k) 0) (let z : c.loop-i.i ≡ c.args.k = omega arith in z)

@@ -15,9 +15,11 @@ returns-then-m-lt-MAX_MATRICES c =
 pub returns-then-entries-gt1 : goal.returns-then-entries-gt1
 returns-then-entries-gt1 c =
     let entries = c.args.entries in
-    λ d e. mark_entry d entries c.well_formed.1.1.0.1.1.0.1.0.1 c.well_formed.1.1.0.1.1.1.0.1.0.1 _ _ (c.wrong_value-i.ensures d e) c.if-i-lt-MAX_VARIABLES.false (c.wrong_status-m.ensures d e) c.if-m-lt-MAX_MATRICES.false c.if-entries-gt1.true
+    λ d e. mark_entry d entries c.well_formed.1.1.0.1.1.0.1.0.1 c.well_formed.1.1.0.1.1.1.0.1.0.1 _ _ (c.wrong_value-i.ensures d e)
+    c.if-i-lt-MAX_VARIABLES.false (c.wrong_status-m.ensures d e) c.if-m-lt-MAX_MATRICES.false c.if-entries-gt1.true
 
 pub returns : goal.returns
 returns c =
     let entries = c.args.entries in
-    λ d e. no_entry d entries c.well_formed.1.1.0.1.1.0.1.0.1 c.well_formed.1.1.0.1.1.1.0.1.0.1 _ _ (c.wrong_value-i.ensures d e) c.if-i-lt-MAX_VARIABLES.false (c.wrong_status-m.ensures d e) c.if-m-lt-MAX_MATRICES.false c.if-entries-gt1.false
+    λ d e. no_entry d entries c.well_formed.1.1.0.1.1.0.1.0.1 c.well_formed.1.1.0.1.1.1.0.1.0.1 _ _ (c.wrong_value-i.ensures d e)
+    c.if-i-lt-MAX_VARIABLES.false (c.wrong_status-m.ensures d e) c.if-m-lt-MAX_MATRICES.false c.if-entries-gt1.false

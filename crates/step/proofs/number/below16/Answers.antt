@@ -1,4 +1,3 @@
--- `step::below16` meets its contract.
 -- Assumes nothing.
 use Rattle.std.proofs.Common.{ltb, ap₂}
 use Rattle.step.proofs.number.below16.Goals as goal

@@ -1,4 +1,3 @@
--- `step::number::times16` meets its contract. Assumes nothing.
 use Rattle.std.proofs.Common.{arith}
 use Rattle.step.proofs.Patterns.{times_small}
 use Rattle.step.proofs.number.times16.Goals as goal

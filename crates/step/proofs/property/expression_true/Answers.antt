@@ -24,4 +24,6 @@ eval_bool-x-requires c =
 
 pub returns : goal.returns
 returns c =
-    let (table, ready) = c.requires.0 in let reads = expression_reads _ _ ready.indexed.accepted c.requires.1 _ ready.indexed.shaped _ c.expression-text.ensures in expression_value _ _ ready.indexed.accepted c.requires.1 _ ready.indexed.shaped _ c.expression-text.ensures _ _ _ (c.eval_bool-x.ensures c.args.file.now max_depth false reads).0
+    let (table, ready) = c.requires.0 in let reads = expression_reads _ _ ready.indexed.accepted c.requires.1 _ ready.indexed.shaped _
+    c.expression-text.ensures in expression_value _ _ ready.indexed.accepted c.requires.1 _ ready.indexed.shaped _ c.expression-text.ensures _ _ _
+    (c.eval_bool-x.ensures c.args.file.now max_depth false reads).0

@@ -45,4 +45,5 @@ constraint_true-requires c =
 
 pub returns : goal.returns
 returns c =
-    λ d w. pair_true _ _ d _ _ w _ c.requires.0.indexed.shaped _ (part_is _ _ c.requires.0.size _ c.slot_count-n.ensures.0) _ c.is_marked.ensures c.if-is_marked.false _ c.if-property-le-LAST_STATE_PROPERTY.false _ c.if-first.false _ (c.constraint_true.ensures d w)
+    λ d w. pair_true _ _ d _ _ w _ c.requires.0.indexed.shaped _ (part_is _ _ c.requires.0.size _ c.slot_count-n.ensures.0) _ c.is_marked.ensures
+    c.if-is_marked.false _ c.if-property-le-LAST_STATE_PROPERTY.false _ c.if-first.false _ (c.constraint_true.ensures d w)

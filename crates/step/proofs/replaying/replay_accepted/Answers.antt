@@ -15,7 +15,8 @@ overflow_add-shape c =
 
 pub returns-then-over-choices : goal.returns-then-over-choices
 returns-then-over-choices c =
-    let movers = movers_here _ _ _ _ c.shape-shape.ensures c.index_cells-normals.ensures in c.refuse_replay.ensures ∙ replay_over _ _ _ _ c.requires.0 c.requires.1 c.requires.2 c.requires.3 _ _ (count_movers _ _ _ c.shape-shape.ensures.shaped movers) c.first_over-over.ensures c.if-over-choices.true
+    let movers = movers_here _ _ _ _ c.shape-shape.ensures c.index_cells-normals.ensures in c.refuse_replay.ensures ∙ replay_over _ _ _ _
+    c.requires.0 c.requires.1 c.requires.2 c.requires.3 _ _ (count_movers _ _ _ c.shape-shape.ensures.shaped movers) c.first_over-over.ensures c.if-over-choices.true
 
 pub slot_count-n-requires : goal.slot_count-n-requires
 slot_count-n-requires c =
@@ -53,4 +54,5 @@ replay_slots-requires c =
 
 pub returns : goal.returns
 returns c =
-    let movers = movers_here _ _ _ _ c.shape-shape.ensures c.index_cells-normals.ensures in replay_answer_lem _ _ _ _ c.requires.0 c.requires.1 c.requires.2 c.requires.3 _ _ (count_movers _ _ _ c.shape-shape.ensures.shaped movers) c.first_over-over.ensures c.if-over-choices.false _ c.replay_slots.ensures
+    let movers = movers_here _ _ _ _ c.shape-shape.ensures c.index_cells-normals.ensures in replay_answer_lem _ _ _ _ c.requires.0 c.requires.1
+    c.requires.2 c.requires.3 _ _ (count_movers _ _ _ c.shape-shape.ensures.shaped movers) c.first_over-over.ensures c.if-over-choices.false _ c.replay_slots.ensures

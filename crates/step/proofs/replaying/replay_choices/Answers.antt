@@ -43,7 +43,9 @@ loop-i-smaller c =
 
 pub loop-i-preserved : goal.loop-i-preserved
 loop-i-preserved c =
-    replaying_on _ _ _ _ _ _ _ _ _ _ _ _ c.loop-i.invariant _ _ c.broken_at-now.ensures c.first_step-step.ensures c.loop-i-test.true c.requires.ready.size _ c.wide.ensures.0 _ c.judges_steps.ensures _ _ (omega (arith, c.pair-1.given)) c.step_pair-tested.ensures _ _ c.count_if-read.ensures c.count_if-guards.ensures
+    replaying_on _ _ _ _ _ _ _ _ _ _ _ _ c.loop-i.invariant _ _ c.broken_at-now.ensures c.first_step-step.ensures c.loop-i-test.true
+    c.requires.ready.size _ c.wide.ensures.0 _ c.judges_steps.ensures _ _ (omega (arith, c.pair-1.given)) c.step_pair-tested.ensures _ _
+    c.count_if-read.ensures c.count_if-guards.ensures
 
 pub broken_at-now-requires-2 : goal.broken_at-now-requires-2
 broken_at-now-requires-2 c =

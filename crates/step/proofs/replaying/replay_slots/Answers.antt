@@ -27,4 +27,6 @@ replay_choices-requires c =
 
 pub returns : goal.returns
 returns c =
-    λ d e. c.replay_choices.ensures d e ∙ ap (λ (s : State). replayed (answer (run_told d (property_of c.args.file.now c.args.piece.now d c.args.query.property) s c.args.choices.now))) (put_second _ c.args.pair.now c.requires.0.ready.size _ c.slot_count-n.ensures.0 _ ∙ c.load_start.ensures d e)
+    λ d e. c.replay_choices.ensures d e ∙ ap (λ (s : State). replayed
+    (answer (run_told d (property_of c.args.file.now c.args.piece.now d c.args.query.property) s c.args.choices.now)))
+    (put_second _ c.args.pair.now c.requires.0.ready.size _ c.slot_count-n.ensures.0 _ ∙ c.load_start.ensures d e)

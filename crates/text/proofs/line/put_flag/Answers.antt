@@ -1,4 +1,3 @@
--- `text::line::put_flag` meets its contract. Assumes nothing.
 use mathlib.Core.Path.{ap, sym}
 use mathlib.Core.Bool.{Bool}
 use Prim.Native.Nat.{◌+◌}

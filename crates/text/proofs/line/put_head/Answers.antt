@@ -1,4 +1,3 @@
--- `text::line::put_head` meets its contract. Assumes nothing.
 use native.Mathlib.Omega.{arith}
 use Rattle.text.specs.Line.{head}
 use Rattle.text.proofs.Putting.{written_then}

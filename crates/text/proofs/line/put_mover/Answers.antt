@@ -1,4 +1,3 @@
--- `text::line::put_mover` meets its contract. Assumes nothing.
 use native.Mathlib.Omega.{arith}
 use Rattle.text.proofs.Putting.{mover_none, mover_some}
 use Rattle.text.proofs.line.put_mover.Goals as goal

@@ -1,4 +1,3 @@
--- `text::line::put_statuses` meets its contract. Assumes nothing.
 use Prim.Native.Nat.{◌+◌}
 use native.Mathlib.Omega.{arith}
 use Rattle.text.proofs.Putting.{written_length, left_start, statuses_next, statuses_end}

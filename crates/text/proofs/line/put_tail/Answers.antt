@@ -1,4 +1,3 @@
--- `text::line::put_tail` meets its contract. Assumes nothing.
 use native.Mathlib.Omega.{arith}
 use Rattle.text.specs.Line.{tail}
 use Rattle.text.proofs.Putting.{written_then}

@@ -1,4 +1,3 @@
--- `text::line::put_values` meets its contract. Assumes nothing.
 use native.Mathlib.Omega.{arith}
 use Rattle.text.proofs.Putting.{written_length, left_start, values_next, values_end}
 use Rattle.text.proofs.line.put_values.Goals as goal

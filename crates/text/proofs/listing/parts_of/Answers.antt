@@ -1,4 +1,3 @@
--- `text::listing::parts_of` meets its contract. Assumes nothing.
 use native.Mathlib.Omega.{arith}
 use Rattle.text.proofs.Parts.{text_refused, text_joined}
 use Rattle.text.proofs.listing.parts_of.Goals as goal

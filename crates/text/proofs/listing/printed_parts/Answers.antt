@@ -1,4 +1,3 @@
--- `text::listing::printed_parts` meets its contract. Assumes nothing.
 use native.Mathlib.Omega.{arith}
 use mathlib.Core.Path.{refl, sym, ◌∙◌}
 use Rattle.text.proofs.Parts.{fine_start, fine_on, parts_refused, parts_printed}

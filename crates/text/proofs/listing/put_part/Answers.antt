@@ -1,4 +1,3 @@
--- `text::listing::put_part` meets its contract. Assumes nothing.
 use native.Mathlib.Omega.{arith}
 use mathlib.Core.Path.{sym}
 use Rattle.text.proofs.Parts.{is_encoded, part_refused, part_written}

@@ -1,4 +1,3 @@
--- `text::listing::put_part_of` meets its contract. Assumes nothing.
 use native.Mathlib.Omega.{arith}
 use Rattle.text.proofs.Parts.{input_refused, input_part}
 use Rattle.text.proofs.listing.put_part_of.Goals as goal

@@ -1,4 +1,3 @@
--- `text::listing::put_word` meets its contract. Assumes nothing.
 use native.Mathlib.Omega.{arith}
 use mathlib.Core.Path.{sym, ◌∙◌}
 use lib.IntN.{pos}

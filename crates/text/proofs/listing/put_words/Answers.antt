@@ -1,4 +1,3 @@
--- `text::listing::put_words` meets its contract. Assumes nothing.
 use native.Mathlib.Omega.{arith}
 use Rattle.text.proofs.Parts.{words_start, words_next, words_end}
 use Rattle.text.proofs.listing.put_words.Goals as goal

@@ -1,4 +1,3 @@
--- `text::listing::refuses` meets its contract. Assumes nothing.
 use Rattle.text.proofs.Parts.{refused_yes, refused_no}
 use Rattle.text.proofs.listing.refuses.Goals as goal
 

@@ -1,4 +1,3 @@
--- `text::number::put_digits` meets its contract. Assumes nothing.
 use native.Mathlib.Omega.{arith}
 use Rattle.text.proofs.Putting.{written_length, digits_none, digits_last, digits_more, digits_length}
 use mathlib.Core.Path.{◌∙◌}

@@ -1,4 +1,3 @@
--- `text::number::put_byte` meets its contract. Assumes nothing.
 use Rattle.text.proofs.Putting.{written_byte}
 use mathlib.Core.Path.{refl}
 use Rattle.text.proofs.number.put_byte.Goals as goal

@@ -1,4 +1,3 @@
--- `text::number::put_bytes` meets its contract. Assumes nothing.
 use native.Mathlib.Omega.{arith}
 use lib.ListN.{length-drop}
 use Rattle.text.proofs.Putting.{rest_start, bytes_next, bytes_end}

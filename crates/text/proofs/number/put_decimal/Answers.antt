@@ -1,4 +1,3 @@
--- `text::number::put_decimal` meets its contract. Assumes nothing.
 use Rattle.text.proofs.Putting.{decimal_past}
 use Rattle.text.proofs.number.put_decimal.Goals as goal
 

@@ -1,4 +1,3 @@
--- `text::number::put_pattern` meets its contract. Assumes nothing.
 use native.Mathlib.Omega.{arith}
 use Rattle.text.proofs.Putting.{written_length, pattern_plain, pattern_minus}
 use Rattle.text.proofs.number.put_pattern.Goals as goal

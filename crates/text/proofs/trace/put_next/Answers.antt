@@ -1,4 +1,3 @@
--- `text::trace::put_next` meets its contract. Assumes nothing.
 use native.Mathlib.Omega.{arith}
 use Rattle.step.proofs.Replays.{pair_same}
 use Rattle.text.proofs.Tracing.{printing_start, printing_on, printing_end}

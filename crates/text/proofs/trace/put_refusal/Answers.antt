@@ -1,4 +1,3 @@
--- `text::trace::put_refusal` meets its contract. Assumes nothing.
 use native.Mathlib.Omega.{arith}
 use Rattle.text.specs.Trace.{refusal_text}
 use Rattle.text.proofs.Putting.{written_then}

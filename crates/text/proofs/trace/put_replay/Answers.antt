@@ -1,4 +1,3 @@
--- `text::trace::put_replay` meets its contract. Assumes nothing.
 use native.Mathlib.Omega.{arith}
 use Prim.Native.Nat.{◌+◌}
 use Rattle.text.proofs.Tracing.{text_short, text_whole}

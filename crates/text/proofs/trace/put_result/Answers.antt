@@ -1,4 +1,3 @@
--- `text::trace::put_result` meets its contract. Assumes nothing.
 use native.Mathlib.Omega.{arith}
 use mathlib.Core.Bool.{true, false}
 use Rattle.text.specs.Trace.{result_text}

@@ -1,4 +1,3 @@
--- `text::trace::put_state` meets its contract. Assumes nothing.
 use native.Mathlib.Omega.{arith}
 use mathlib.Core.Path.{◌∙◌}
 use Rattle.design.proofs.Indexed.{sized}

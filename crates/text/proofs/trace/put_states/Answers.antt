@@ -1,4 +1,3 @@
--- `text::trace::put_states` meets its contract. Assumes nothing.
 use native.Mathlib.Omega.{arith}
 use mathlib.Core.Path.{ap, ◌∙◌}
 use lib.ListN.{drop}

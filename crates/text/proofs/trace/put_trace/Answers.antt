@@ -1,4 +1,3 @@
--- `text::trace::put_trace` meets its contract. Assumes nothing.
 use native.Mathlib.Omega.{arith}
 use Rattle.text.proofs.Tracing.{replayable, trace_refused, trace_done}
 use Rattle.text.proofs.trace.put_trace.Goals as goal

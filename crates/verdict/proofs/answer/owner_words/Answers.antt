@@ -1,4 +1,3 @@
--- `verdict::answer::owner_words` meets its contract. Assumes nothing.
 use mathlib.Core.Path.{ap, sym, ◌∙◌}
 use Rattle.verdict.specs.Answers.{owner_words}
 use Rattle.verdict.proofs.OneOwner.{owner_done}

@@ -1,4 +1,3 @@
--- `verdict::owners::clear` meets its contract. Assumes nothing.
 use mathlib.Core.Path.{sym, ◌∙◌}
 use lib.Seq.{length-take-le}
 use Rattle.verdict.proofs.OneOwner.{never_refused, words_room, values_room, cleared}

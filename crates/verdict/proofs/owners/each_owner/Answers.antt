@@ -1,4 +1,3 @@
--- `verdict::owners::each_owner` meets its contract. Assumes nothing.
 use native.Mathlib.Omega.{arith}
 use mathlib.Core.Path.{refl}
 use Rattle.verdict.proofs.OwnersLoop.{so_far_start, so_far_next, so_far_end}

@@ -1,4 +1,3 @@
--- `verdict::owners::one_owner` meets its contract. Assumes nothing.
 use Rattle.verdict.proofs.OneOwner.{owner_refused, owner_clearable, owner_done_left}
 use Rattle.verdict.proofs.owners.one_owner.Goals as goal
 

@@ -1,4 +1,3 @@
--- `verdict::owners::owners` meets its contract. Assumes nothing.
 use native.Mathlib.Omega.{arith}
 use Rattle.verdict.proofs.OwnersCall.{owners_check, owners_20, owners_each}
 use Rattle.verdict.proofs.owners.owners.Goals as goal
