@@ -1,5 +1,6 @@
 // The input of the programs: how it is read, and the design at its end.
-ghost use Rattle.std.specs.Prelude.{◌≡◌, ◌-◌, ◌≤◌, length, take, drop, IfOk};
+ghost use Rattle.std.specs.Prelude.{◌≡◌, ◌-◌, ◌≤◌, ◌<◌, length, take, drop, IfOk, OnOk};
+ghost use Rattle.std.specs.Io.KnownBytes.{Consumes, IsAtEnd};
 ghost use Rattle.text.specs.Trace.{max_read};
 
 use design::limits::MAX_BYTES;
@@ -20,9 +21,12 @@ pub fn design_end(input: &[u8], start: usize) -> usize
     input.len()
 }
 
-// Fills the buffer from the front, until it is full or the input ends: how many bytes stand in it.
+// Fills the buffer from the front, until it is full or the input ends: how many bytes stand in it. They are those that the
+// input had next; what is behind them in the buffer is no part of it.
 pub fn read_full<R: Read>(input: &mut R, buffer: &mut [u8]) -> io::Result<usize>
-    ensures { IfOk result (λ n. n ≤ length buffer.new) }
+    ensures within { IfOk result (λ n. n ≤ length buffer.new) }
+    ensures bytes { IfOk result (λ n. Consumes (R.remaining input.old) (R.remaining input.new) (take n buffer.new)) }
+    ensures end { IfOk result (λ n. n < length buffer.new → IsAtEnd (R.remaining input.new)) }
 {
     let mut filled = 0;
     while filled < buffer.len() {
