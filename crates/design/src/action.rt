@@ -4,21 +4,21 @@ ghost use Rattle.design.specs.Action.{assignment, statement, list};
 ghost use Rattle.design.specs.Check.{names_of};
 ghost use Rattle.design.specs.Answers.{found};
 
-use super::expression::{Found, check_bool, check_int};
+use super::expression::{check_bool, check_int};
 use super::limits::MAX_DEPTH;
 use super::shape::Shape;
 
 // What follows the operator byte of an assignment.
-pub fn check_assign(text: &[u8], file: &[u8], at: usize, end: usize, shape: Shape) -> Found
+pub fn check_assign(text: &[u8], file: &[u8], at: usize, end: usize, shape: Shape) -> Option<usize>
     requires { (end ≤ length text.now) × (3 * shape.variables ≤ length file.now) }
     ensures { result ≡ found (assignment text.now (names_of file.now shape) end at) }
 {
     if end <= at {
-        return Found::Bad;
+        return None;
     }
     let v = text[at] as usize;
     if shape.variables <= v {
-        return Found::Bad;
+        return None;
     }
     let k = file[3 * v];
     if k == 1 {
@@ -37,12 +37,12 @@ pub fn check_stmt(
     end: usize,
     shape: Shape,
     nest: usize,
-) -> Found
+) -> Option<usize>
     requires { (end ≤ length text.now) × (3 * shape.variables ≤ length file.now) }
     ensures { result ≡ found (statement text.now (names_of file.now shape) end nest at) }
 {
     if end <= at {
-        return Found::Bad;
+        return None;
     }
     let op = text[at];
     match op {
@@ -51,17 +51,13 @@ pub fn check_stmt(
                 return check_assign(text, file, at + 1, end, shape);
             }
             if nest == 0 {
-                return Found::Bad;
+                return None;
             }
-            match check_bool(text, file, at + 1, end, shape, false, MAX_DEPTH) {
-                Found::At(m) => match check_list(text, file, m, end, shape, nest - 1) {
-                    Found::At(p) => check_list(text, file, p, end, shape, nest - 1),
-                    Found::Bad => Found::Bad,
-                },
-                Found::Bad => Found::Bad,
-            }
+            let m = check_bool(text, file, at + 1, end, shape, false, MAX_DEPTH)?;
+            let p = check_list(text, file, m, end, shape, nest - 1)?;
+            check_list(text, file, p, end, shape, nest - 1)
         }
-        _ => Found::Bad,
+        _ => None,
     }
 }
 
@@ -74,23 +70,17 @@ pub fn check_list(
     end: usize,
     shape: Shape,
     nest: usize,
-) -> Found
+) -> Option<usize>
     requires { (end ≤ length text.now) × (3 * shape.variables ≤ length file.now) }
     ensures { result ≡ found (list text.now (names_of file.now shape) end nest at) }
 {
     if end <= at {
-        return Found::Bad;
+        return None;
     }
-    let mut left = text[at] as usize;
+    let count = text[at];
     let mut p = at + 1;
-    while 0 < left {
-        match check_stmt(text, file, p, end, shape, nest) {
-            Found::At(m) => {
-                p = m;
-                left = left - 1;
-            }
-            Found::Bad => return Found::Bad,
-        }
+    for _ in 0..count {
+        p = check_stmt(text, file, p, end, shape, nest)?;
     }
-    Found::At(p)
+    Some(p)
 }

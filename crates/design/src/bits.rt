@@ -18,10 +18,8 @@ pub fn offset(file: &[u8], v: usize) -> usize
     ensures { result ≡ total (widths_from file.now 0 v) }
 {
     let mut bits: usize = 0;
-    let mut i: usize = 0;
-    while i < v {
-        bits = bits + width(file[3 * i]);
-        i = i + 1;
+    for i in 0..v {
+        bits += width(file[3 * i]);
     }
     bits
 }

@@ -5,12 +5,14 @@ ghost use Rattle.design.specs.Tree.{BoolExpr};
 ghost use Rattle.design.specs.DesignFile.{rank, fields, ordered, c_past, c_guard, guard, action, cell_at};
 ghost use Rattle.design.specs.Check.{names_of};
 ghost use Rattle.design.specs.Answers.{walked};
+ghost use Rattle.design.specs.Answer.{told};
 
 use super::action::check_list;
 use super::bytes::{wide, word};
 use super::expression::check_bool;
-use super::item::{Walked, fill_length};
+use super::item::fill_length;
 use super::limits::{MAX_DEPTH, MAX_NEST};
+use super::refusal::Refused;
 use super::shape::Shape;
 
 // A cell's place, as a number that ascends.
@@ -84,35 +86,33 @@ pub fn in_order(file: &[u8], before: usize, at: usize) -> bool
 }
 
 // The guard, which may be empty.
-pub fn check_guard(file: &[u8], shape: Shape, at: usize) -> Walked
+pub fn check_guard(file: &[u8], shape: Shape, at: usize) -> Result<usize, Refused>
     requires { (c_past file.now at ≤ length file.now) × (3 * shape.variables ≤ length file.now) }
-    ensures { (end : ℕ) → result ≡ walked (guard file.now end (names_of file.now shape) at (c_guard file.now at)) }
+    ensures { (end : ℕ) → told result ≡ walked (guard file.now end (names_of file.now shape) at (c_guard file.now at)) }
 {
     let n = file[at + 5];
     let middle = at + 8 + (n as usize);
     if n == 0 {
-        return Walked::Past(middle);
+        return Ok(middle);
     }
     fill_length(
         check_bool(file, file, at + 8, middle, shape, false, MAX_DEPTH),
-        8,
-        at,
         middle,
+        Refused::Expression(at),
     )
 }
 
 // The action.
-pub fn check_action(file: &[u8], shape: Shape, at: usize) -> Walked
+pub fn check_action(file: &[u8], shape: Shape, at: usize) -> Result<usize, Refused>
     requires { (c_past file.now at ≤ length file.now) × (3 * shape.variables ≤ length file.now) }
-    ensures { (end : ℕ) → result ≡ walked (action file.now end (names_of file.now shape) at) }
+    ensures { (end : ℕ) → told result ≡ walked (action file.now end (names_of file.now shape) at) }
 {
     let middle = at + 8 + wide(file[at + 5]);
     let past = middle + word(file, at + 6);
     fill_length(
         check_list(file, file, middle, past, shape, MAX_NEST),
-        9,
-        at,
         past,
+        Refused::Action(at),
     )
 }
 
@@ -124,26 +124,24 @@ pub fn check_cell(
     mats: usize,
     before: usize,
     at: usize,
-) -> Walked
+) -> Result<usize, Refused>
     requires { (at ≤ end) × (before ≤ end) × (end + trailer_bytes ≤ length file.now) × (3 * shape.variables ≤ length file.now) × (mats + 2 * shape.matrices ≤ length file.now) }
-    ensures { (f : ℕ → ℕ → BoolExpr) → result ≡ walked (cell_at file.now end (names_of file.now shape) mats f before at) }
+    ensures { (f : ℕ → ℕ → BoolExpr) → told result ≡ walked (cell_at file.now end (names_of file.now shape) mats f before at) }
 {
     let past = at + 8 + wide(file[at + 5]) + word(file, at + 6);
     if end < past {
-        return Walked::Refused(4, at);
+        return Err(Refused::Offset(at));
     }
     if !fields_ok(file, shape, mats, at) {
-        return Walked::Refused(7, at);
+        return Err(Refused::Cell(at));
     }
     if !in_order(file, before, at) {
-        return Walked::Refused(7, at);
+        return Err(Refused::Cell(at));
     }
     let kind = file[at + 3];
     if kind != 0 {
-        return Walked::Past(past);
+        return Ok(past);
     }
-    match check_guard(file, shape, at) {
-        Walked::Past(_) => check_action(file, shape, at),
-        Walked::Refused(number, place) => Walked::Refused(number, place),
-    }
+    check_guard(file, shape, at)?;
+    check_action(file, shape, at)
 }

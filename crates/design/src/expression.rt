@@ -9,95 +9,84 @@ ghost use Rattle.design.specs.Answers.{found};
 
 use super::shape::Shape;
 
-// What reading answers: the position past what was read, or that it is not right.
-#[derive(Clone, Copy)]
-pub enum Found {
-    At(usize),
-    Bad,
-}
-
 // The integer constant at `at`.
-pub fn read_integer_constant(at: usize, end: usize) -> Found
+pub fn read_integer_constant(at: usize, end: usize) -> Option<usize>
     requires { at ≤ end }
     ensures { (text : List ℕ) (N : Names) → result ≡ found (int_of text N end fail IntOp.op_constant at) }
 {
-    if 2 <= end - at {
-        Found::At(at + 2)
-    } else {
-        Found::Bad
-    }
+    if 2 <= end - at { Some(at + 2) } else { None }
 }
 
 // The integer variable named at `at`.
-pub fn read_integer_variable(text: &[u8], file: &[u8], at: usize, end: usize, shape: Shape) -> Found
+pub fn read_integer_variable(
+    text: &[u8],
+    file: &[u8],
+    at: usize,
+    end: usize,
+    shape: Shape,
+) -> Option<usize>
     requires { (end ≤ length text.now) × (3 * shape.variables ≤ length file.now) }
     ensures { result ≡ found (int_of text.now (names_of file.now shape) end fail (IntOp.op_variable false) at) }
 {
     if end <= at {
-        return Found::Bad;
+        return None;
     }
     let v = text[at] as usize;
     if shape.variables <= v {
-        return Found::Bad;
+        return None;
     }
     let k = file[3 * v];
-    if k == 1 {
-        Found::At(at + 1)
-    } else {
-        Found::Bad
-    }
+    if k == 1 { Some(at + 1) } else { None }
 }
 
 // The matrix whose status is read.
-pub fn read_status(text: &[u8], at: usize, end: usize, shape: Shape) -> Found
+pub fn read_status(text: &[u8], at: usize, end: usize, shape: Shape) -> Option<usize>
     requires { end ≤ length text.now }
     ensures { (file : List ℕ) → result ≡ found (int_of text.now (names_of file shape) end fail (IntOp.op_status false) at) }
 {
     if end <= at {
-        return Found::Bad;
+        return None;
     }
     let m = text[at] as usize;
     if m < shape.matrices {
-        Found::At(at + 1)
+        Some(at + 1)
     } else {
-        Found::Bad
+        None
     }
 }
 
 // The byte 0 or 1.
-pub fn read_boolean_constant(text: &[u8], at: usize, end: usize) -> Found
+pub fn read_boolean_constant(text: &[u8], at: usize, end: usize) -> Option<usize>
     requires { end ≤ length text.now }
     ensures { (N : Names) → result ≡ found (bool_of text.now N end fail fail BoolOp.op_constant at) }
 {
     if end <= at {
-        return Found::Bad;
+        return None;
     }
     let b = text[at];
-    if b <= 1 {
-        Found::At(at + 1)
-    } else {
-        Found::Bad
-    }
+    if b <= 1 { Some(at + 1) } else { None }
 }
 
 // The Boolean or external variable named at `at`.
-pub fn read_boolean_variable(text: &[u8], file: &[u8], at: usize, end: usize, shape: Shape) -> Found
+pub fn read_boolean_variable(
+    text: &[u8],
+    file: &[u8],
+    at: usize,
+    end: usize,
+    shape: Shape,
+) -> Option<usize>
     requires { (end ≤ length text.now) × (3 * shape.variables ≤ length file.now) }
     ensures { result ≡ found (bool_of text.now (names_of file.now shape) end fail fail (BoolOp.op_variable false) at) }
 {
     if end <= at {
-        return Found::Bad;
+        return None;
     }
     let v = text[at] as usize;
     if shape.variables <= v {
-        return Found::Bad;
+        return None;
     }
     let k = file[3 * v];
-    if k == 1 {
-        Found::Bad
-    } else {
-        Found::At(at + 1)
-    }
+    if k == 1 { None } else { Some(at + 1) }
 }
 
 // The integer expression at `at`, of depth at most `depth`.
@@ -109,28 +98,28 @@ pub fn check_int(
     shape: Shape,
     later: bool,
     depth: usize,
-) -> Found
+) -> Option<usize>
     requires { (end ≤ length text.now) × (3 * shape.variables ≤ length file.now) }
     ensures { result ≡ found (int_expr text.now (with_later later (names_of file.now shape)) end depth at) }
 {
     if depth == 0 {
-        return Found::Bad;
+        return None;
     }
     if end <= at {
-        return Found::Bad;
+        return None;
     }
     let op = text[at];
     match op {
         0x01 => read_integer_constant(at + 1, end),
         0x02 => read_integer_variable(text, file, at + 1, end, shape),
         0x03 => read_status(text, at + 1, end, shape),
-        0x04..=0x05 => match check_int(text, file, at + 1, end, shape, later, depth - 1) {
-            Found::At(m) => check_int(text, file, m, end, shape, later, depth - 1),
-            Found::Bad => Found::Bad,
-        },
+        0x04..=0x05 => {
+            let m = check_int(text, file, at + 1, end, shape, later, depth - 1)?;
+            check_int(text, file, m, end, shape, later, depth - 1)
+        }
         0x06..=0x07 => {
             if !later {
-                return Found::Bad;
+                return None;
             }
             if op == 0x06 {
                 read_integer_variable(text, file, at + 1, end, shape)
@@ -138,11 +127,11 @@ pub fn check_int(
                 read_status(text, at + 1, end, shape)
             }
         }
-        0x08 => match read_integer_constant(at + 1, end) {
-            Found::At(m) => check_int(text, file, m, end, shape, later, depth - 1),
-            Found::Bad => Found::Bad,
-        },
-        _ => Found::Bad,
+        0x08 => {
+            let m = read_integer_constant(at + 1, end)?;
+            check_int(text, file, m, end, shape, later, depth - 1)
+        }
+        _ => None,
     }
 }
 
@@ -155,35 +144,35 @@ pub fn check_bool(
     shape: Shape,
     later: bool,
     depth: usize,
-) -> Found
+) -> Option<usize>
     requires { (end ≤ length text.now) × (3 * shape.variables ≤ length file.now) }
     ensures { result ≡ found (bool_expr text.now (with_later later (names_of file.now shape)) end depth at) }
 {
     if depth == 0 {
-        return Found::Bad;
+        return None;
     }
     if end <= at {
-        return Found::Bad;
+        return None;
     }
     let op = text[at];
     match op {
         0x10 => read_boolean_constant(text, at + 1, end),
         0x11 => read_boolean_variable(text, file, at + 1, end, shape),
         0x12 => check_bool(text, file, at + 1, end, shape, later, depth - 1),
-        0x13..=0x14 => match check_bool(text, file, at + 1, end, shape, later, depth - 1) {
-            Found::At(m) => check_bool(text, file, m, end, shape, later, depth - 1),
-            Found::Bad => Found::Bad,
-        },
-        0x15..=0x16 => match check_int(text, file, at + 1, end, shape, later, depth - 1) {
-            Found::At(m) => check_int(text, file, m, end, shape, later, depth - 1),
-            Found::Bad => Found::Bad,
-        },
+        0x13..=0x14 => {
+            let m = check_bool(text, file, at + 1, end, shape, later, depth - 1)?;
+            check_bool(text, file, m, end, shape, later, depth - 1)
+        }
+        0x15..=0x16 => {
+            let m = check_int(text, file, at + 1, end, shape, later, depth - 1)?;
+            check_int(text, file, m, end, shape, later, depth - 1)
+        }
         0x17 => {
             if !later {
-                return Found::Bad;
+                return None;
             }
             read_boolean_variable(text, file, at + 1, end, shape)
         }
-        _ => Found::Bad,
+        _ => None,
     }
 }

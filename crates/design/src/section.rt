@@ -5,95 +5,78 @@ ghost use Rattle.design.specs.Tree.{BoolExpr};
 ghost use Rattle.design.specs.DesignFile.{items, variable_at, matrix_at, event_at, events_from, cells_from};
 ghost use Rattle.design.specs.Check.{names_of, sections};
 ghost use Rattle.design.specs.Answers.{walked, expressions_at, counted, raises, moves, bodied, SmallCounts, VariablesRight, MatricesRight, EventsRight};
+ghost use Rattle.design.specs.Answer.{told};
 
 use super::bytes::wide;
 use super::cell::check_cell;
-use super::item::{
-    Counted, Walked, check_constraint, check_event, check_invariant, check_matrix, check_variable,
-};
+use super::item::{check_constraint, check_event, check_invariant, check_matrix, check_variable};
+use super::refusal::Refused;
 use super::shape::{Counts, Offsets, Shape, shape_of};
 
 // The variables, from byte 0 on, with the number of externals.
-pub fn check_variables(file: &[u8], end: usize, nv: usize) -> Counted
+pub fn check_variables(file: &[u8], end: usize, nv: usize) -> Result<(usize, usize), Refused>
     requires { (end ≤ length file.now) × (nv < 65536) }
-    ensures { result ≡ counted raises 0 (items (variable_at file.now end) nv 0) }
+    ensures { told result ≡ counted raises 0 (items (variable_at file.now end) nv 0) }
 {
-    let mut left = nv;
     let mut p = 0;
     let mut externals = 0;
-    while 0 < left {
-        match check_variable(file, end, p) {
-            Walked::Past(n) => {
-                if file[p] == 2 {
-                    externals = externals + 1;
-                }
-                p = n;
-                left = left - 1;
-            }
-            Walked::Refused(number, place) => return Counted::Stopped(number, place),
+    for _ in 0..nv {
+        let n = check_variable(file, end, p)?;
+        if file[p] == 2 {
+            externals += 1;
         }
+        p = n;
     }
-    Counted::Passed(p, externals)
+    Ok((p, externals))
 }
 
 // The matrices.
-pub fn check_matrices(file: &[u8], end: usize, nm: usize, at: usize) -> Walked
+pub fn check_matrices(file: &[u8], end: usize, nm: usize, at: usize) -> Result<usize, Refused>
     requires { (at ≤ end) × (end ≤ length file.now) }
-    ensures { result ≡ walked (items (matrix_at file.now end) nm at) }
+    ensures { told result ≡ walked (items (matrix_at file.now end) nm at) }
 {
-    let mut left = nm;
     let mut p = at;
-    while 0 < left {
-        match check_matrix(file, end, p) {
-            Walked::Past(n) => {
-                p = n;
-                left = left - 1;
-            }
-            Walked::Refused(number, place) => return Walked::Refused(number, place),
-        }
+    for _ in 0..nm {
+        p = check_matrix(file, end, p)?;
     }
-    Walked::Past(p)
+    Ok(p)
 }
 
 // The events of one matrix.
-pub fn check_matrix_events(file: &[u8], end: usize, shape: Shape, count: usize, at: usize) -> Walked
+pub fn check_matrix_events(
+    file: &[u8],
+    end: usize,
+    shape: Shape,
+    count: usize,
+    at: usize,
+) -> Result<usize, Refused>
     requires { (at ≤ end) × (end + trailer_bytes ≤ length file.now) × (3 * shape.variables ≤ length file.now) }
-    ensures { result ≡ walked (items (event_at file.now end (names_of file.now shape)) count at) }
+    ensures { told result ≡ walked (items (event_at file.now end (names_of file.now shape)) count at) }
 {
-    let mut left = count;
     let mut p = at;
-    while 0 < left {
-        match check_event(file, end, shape, p) {
-            Walked::Past(n) => {
-                p = n;
-                left = left - 1;
-            }
-            Walked::Refused(number, place) => return Walked::Refused(number, place),
-        }
+    for _ in 0..count {
+        p = check_event(file, end, shape, p)?;
     }
-    Walked::Past(p)
+    Ok(p)
 }
 
 // The events, matrix by matrix.
-pub fn check_events(file: &[u8], end: usize, shape: Shape, mats: usize, at: usize) -> Walked
+pub fn check_events(
+    file: &[u8],
+    end: usize,
+    shape: Shape,
+    mats: usize,
+    at: usize,
+) -> Result<usize, Refused>
     requires { (at ≤ end) × (end + trailer_bytes ≤ length file.now) × (3 * shape.variables ≤ length file.now) × (mats + 2 * shape.matrices ≤ length file.now) }
-    ensures { result ≡ walked (events_from file.now end (names_of file.now shape) mats 0 shape.matrices at) }
+    ensures { told result ≡ walked (events_from file.now end (names_of file.now shape) mats 0 shape.matrices at) }
 {
-    let mut left = shape.matrices;
-    let mut m = 0;
     let mut p = at;
-    while 0 < left {
+    for m in 0..shape.matrices {
         let count = wide(file[mats + 2 * m + 1]);
-        match check_matrix_events(file, end, shape, count, p) {
-            Walked::Past(n) => {
-                p = n;
-                m = m + 1;
-                left = left - 1;
-            }
-            Walked::Refused(number, place) => return Walked::Refused(number, place),
-        }
+        p = check_matrix_events(file, end, shape, count, p)?;
     }
-    Walked::Past(p)
+    Ok(p)
 }
 
 // The cells, with the number of normal ones.
@@ -104,39 +87,31 @@ pub fn check_cells(
     mats: usize,
     count: usize,
     at: usize,
-) -> Counted
+) -> Result<(usize, usize), Refused>
     requires { (at ≤ end) × (count < 65536) × (end + trailer_bytes ≤ length file.now) × (3 * shape.variables ≤ length file.now) × (mats + 2 * shape.matrices ≤ length file.now) }
-    ensures { (f : ℕ → ℕ → BoolExpr) → result ≡ counted moves 0 (cells_from file.now end (names_of file.now shape) mats f count at at) }
+    ensures { (f : ℕ → ℕ → BoolExpr) → told result ≡ counted moves 0 (cells_from file.now end (names_of file.now shape) mats f count at at) }
 {
-    let mut left = count;
     let mut before = at;
     let mut p = at;
     let mut normals = 0;
-    while 0 < left {
-        match check_cell(file, end, shape, mats, before, p) {
-            Walked::Past(n) => {
-                if file[p + 3] == 0 {
-                    normals = normals + 1;
-                }
-                before = p;
-                p = n;
-                left = left - 1;
-            }
-            Walked::Refused(number, place) => return Counted::Stopped(number, place),
+    for _ in 0..count {
+        let n = check_cell(file, end, shape, mats, before, p)?;
+        if file[p + 3] == 0 {
+            normals += 1;
         }
+        before = p;
+        p = n;
     }
-    Counted::Passed(p, normals)
+    Ok((p, normals))
 }
 
 // The invariant, and the constraint behind it.
-pub fn check_last(file: &[u8], end: usize, shape: Shape, offsets: Offsets) -> Walked
+pub fn check_last(file: &[u8], end: usize, shape: Shape, offsets: Offsets) -> Result<usize, Refused>
     requires { (end ≤ length file.now) × (3 * shape.variables ≤ length file.now) }
-    ensures { result ≡ walked (expressions_at file.now end (names_of file.now shape) offsets offsets.invariant) }
+    ensures { told result ≡ walked (expressions_at file.now end (names_of file.now shape) offsets offsets.invariant) }
 {
-    match check_invariant(file, end, shape, offsets.constraint, offsets.invariant) {
-        Walked::Past(p) => check_constraint(file, end, shape, offsets.constrained, p),
-        Walked::Refused(number, place) => Walked::Refused(number, place),
-    }
+    let p = check_invariant(file, end, shape, offsets.constraint, offsets.invariant)?;
+    check_constraint(file, end, shape, offsets.constrained, p)
 }
 
 // The sections from the cells on, where those before are right.
@@ -146,31 +121,25 @@ pub fn check_from_cells(
     counts: Counts,
     offsets: Offsets,
     externals: usize,
-) -> Counted
+) -> Result<(usize, usize), Refused>
     requires room { (end + trailer_bytes ≤ length file.now) × SmallCounts counts }
     requires sections_right { VariablesRight file.now end counts offsets externals × MatricesRight file.now end counts offsets × EventsRight file.now end counts offsets }
-    ensures { result ≡ bodied (sections file.now end counts offsets 0) }
+    ensures { told result ≡ bodied (sections file.now end counts offsets 0) }
 {
     let shape = shape_of(counts);
-    match check_cells(
+    let (p, normals) = check_cells(
         file,
         end,
         shape,
         offsets.matrices,
         counts.cells,
         offsets.cells,
-    ) {
-        Counted::Passed(p, normals) => {
-            if offsets.invariant != p {
-                return Counted::Stopped(4, p);
-            }
-            match check_last(file, end, shape, offsets) {
-                Walked::Past(q) => Counted::Passed(q, normals + externals),
-                Walked::Refused(number, place) => Counted::Stopped(number, place),
-            }
-        }
-        Counted::Stopped(number, place) => Counted::Stopped(number, place),
+    )?;
+    if offsets.invariant != p {
+        return Err(Refused::Offset(p));
     }
+    let q = check_last(file, end, shape, offsets)?;
+    Ok((q, normals + externals))
 }
 
 // The sections from the events on, likewise.
@@ -180,26 +149,17 @@ pub fn check_from_events(
     counts: Counts,
     offsets: Offsets,
     externals: usize,
-) -> Counted
+) -> Result<(usize, usize), Refused>
     requires room { (end + trailer_bytes ≤ length file.now) × SmallCounts counts }
     requires sections_right { VariablesRight file.now end counts offsets externals × MatricesRight file.now end counts offsets }
-    ensures { result ≡ bodied (sections file.now end counts offsets 0) }
+    ensures { told result ≡ bodied (sections file.now end counts offsets 0) }
 {
-    match check_events(
-        file,
-        end,
-        shape_of(counts),
-        offsets.matrices,
-        offsets.events,
-    ) {
-        Walked::Past(p) => {
-            if offsets.cells != p {
-                return Counted::Stopped(4, p);
-            }
-            check_from_cells(file, end, counts, offsets, externals)
-        }
-        Walked::Refused(number, place) => Counted::Stopped(number, place),
+    let shape = shape_of(counts);
+    let p = check_events(file, end, shape, offsets.matrices, offsets.events)?;
+    if offsets.cells != p {
+        return Err(Refused::Offset(p));
     }
+    check_from_cells(file, end, counts, offsets, externals)
 }
 
 // The sections from the matrices on, likewise.
@@ -209,33 +169,30 @@ pub fn check_from_matrices(
     counts: Counts,
     offsets: Offsets,
     externals: usize,
-) -> Counted
+) -> Result<(usize, usize), Refused>
     requires { (end + trailer_bytes ≤ length file.now) × SmallCounts counts × VariablesRight file.now end counts offsets externals }
-    ensures { result ≡ bodied (sections file.now end counts offsets 0) }
+    ensures { told result ≡ bodied (sections file.now end counts offsets 0) }
 {
-    match check_matrices(file, end, counts.matrices, offsets.matrices) {
-        Walked::Past(p) => {
-            if offsets.events != p {
-                return Counted::Stopped(4, p);
-            }
-            check_from_events(file, end, counts, offsets, externals)
-        }
-        Walked::Refused(number, place) => Counted::Stopped(number, place),
+    let p = check_matrices(file, end, counts.matrices, offsets.matrices)?;
+    if offsets.events != p {
+        return Err(Refused::Offset(p));
     }
+    check_from_events(file, end, counts, offsets, externals)
 }
 
 // All sections, each at its offset.
-pub fn check_sections(file: &[u8], end: usize, counts: Counts, offsets: Offsets) -> Counted
+pub fn check_sections(
+    file: &[u8],
+    end: usize,
+    counts: Counts,
+    offsets: Offsets,
+) -> Result<(usize, usize), Refused>
     requires { (end + trailer_bytes ≤ length file.now) × SmallCounts counts }
-    ensures { result ≡ bodied (sections file.now end counts offsets 0) }
+    ensures { told result ≡ bodied (sections file.now end counts offsets 0) }
 {
-    match check_variables(file, end, counts.variables) {
-        Counted::Passed(p, externals) => {
-            if offsets.matrices != p {
-                return Counted::Stopped(4, p);
-            }
-            check_from_matrices(file, end, counts, offsets, externals)
-        }
-        Counted::Stopped(number, place) => Counted::Stopped(number, place),
+    let (p, externals) = check_variables(file, end, counts.variables)?;
+    if offsets.matrices != p {
+        return Err(Refused::Offset(p));
     }
+    check_from_matrices(file, end, counts, offsets, externals)
 }

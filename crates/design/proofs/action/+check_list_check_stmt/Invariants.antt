@@ -3,7 +3,6 @@ use mathlib.Core.Path.{◌≡◌}
 use Rattle.design.specs.Action.{statements, statement as one, list}
 use Rattle.design.specs.Answers.{found}
 use Rattle.design.specs.Check.{names_of}
-use Prim.Native.Nat.{◌<◌}
 use Rattle.design.proofs.action.+check_list_check_stmt.Given as goal
 
 abbrev pub decreases-check_list : goal.decreases-check_list
@@ -12,8 +11,5 @@ decreases-check_list l = l.end - l.at
 abbrev pub decreases-check_stmt : goal.decreases-check_stmt
 decreases-check_stmt l = l.end - l.at
 
-abbrev pub invariant-check_list-loop-left : goal.invariant-check_list-loop-left
-invariant-check_list-loop-left l = (l.at < l.p) × (found (statements l.text (names_of l.file l.shape) l.end (one l.text (names_of l.file l.shape) l.end l.nest) l.left l.p) ≡ found (list l.text (names_of l.file l.shape) l.end l.nest l.at))
-
-abbrev pub decreases-check_list-loop-left : goal.decreases-check_list-loop-left
-decreases-check_list-loop-left l = l.left
+abbrev pub invariant-check_list-loop : goal.invariant-check_list-loop
+invariant-check_list-loop l = (l.at < l.p) × (found (statements l.text (names_of l.file l.shape) l.end (one l.text (names_of l.file l.shape) l.end l.nest) (l.count - l.counter) l.p) ≡ found (list l.text (names_of l.file l.shape) l.end l.nest l.at))

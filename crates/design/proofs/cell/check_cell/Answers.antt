@@ -1,6 +1,6 @@
+use Rattle.design.proofs.Told.{handed_on}
 use native.Mathlib.Omega.{arith}
 use Rattle.design.proofs.Cells.{cell_passes, cell_fields, cell_order, cell_invalid, cell_guard, cell_action}
-use mathlib.Core.Path.{sym, ◌∙◌}
 use Rattle.design.proofs.cell.check_cell.Goals as goal
 
 pub returns-then-end-past : goal.returns-then-end-past
@@ -20,12 +20,12 @@ returns-then-kind-ne0 c =
     λ f. cell_invalid _ _ _ _ f _ _ _ (omega arith) c.if-end-past.false _ _ c.fields_ok.ensures c.if-not-fields_ok.false c.in_order.ensures
     c.if-not-in_order.false c.if-kind-ne0.true
 
-pub returns-in-Past : goal.returns-in-Past
-returns-in-Past c =
+pub returns : goal.returns
+returns c =
     λ f. cell_action _ _ _ _ f _ _ _ (omega arith) c.if-end-past.false _ _ c.fields_ok.ensures c.if-not-fields_ok.false c.in_order.ensures
-    c.if-not-in_order.false _ _ c.if-kind-ne0.false (sym c.in-Past.is ∙ c.check_guard.ensures c.args.end) (c.check_action.ensures c.args.end)
+    c.if-not-in_order.false _ _ c.if-kind-ne0.false (c.in_ok-check_guard.ensures c.args.end) (c.check_action.ensures c.args.end)
 
-pub returns-in-Refused : goal.returns-in-Refused
-returns-in-Refused c =
-    λ f. cell_guard _ _ _ _ f _ _ _ (omega arith) c.if-end-past.false _ _ c.fields_ok.ensures c.if-not-fields_ok.false c.in_order.ensures
-    c.if-not-in_order.false _ _ c.if-kind-ne0.false (sym c.in-Refused.is ∙ c.check_guard.ensures c.args.end)
+pub returns-in_err-check_guard : goal.returns-in_err-check_guard
+returns-in_err-check_guard c =
+    λ f. handed_on _ _ c.from_residual.ensures.1 _ (cell_guard _ _ _ _ f _ _ _ (omega arith) c.if-end-past.false _ _ c.fields_ok.ensures c.if-not-fields_ok.false c.in_order.ensures
+    c.if-not-in_order.false _ _ c.if-kind-ne0.false (c.in_err-check_guard.ensures c.args.end))

@@ -1,5 +1,5 @@
 use native.Mathlib.Omega.{arith}
-use mathlib.Core.Path.{refl, sym, ap, ◌∙◌}
+use mathlib.Core.Path.{refl, ap, ◌∙◌}
 use mathlib.Core.Logic.{inl, inr}
 use Rattle.design.specs.Check.{names_of}
 use Rattle.design.specs.Expression.{with_later, bool_op}
@@ -35,22 +35,22 @@ pub returns-else-not-later : goal.returns-else-not-later
 returns-else-not-later t c =
     bool_later _ _ _ _ _ c.if-depth-eq0.false c.if-end-at.false _ c.in-23.is c.if-not-later.false c.read_boolean_variable-in-23.ensures
 
-pub returns-in-At : goal.returns-in-At
-returns-in-At t c =
-    bool_pair _ _ _ _ _ c.if-depth-eq0.false c.if-end-at.false _ _ (omega arith) c.in-19-to-20.if-op-lt21-own.true (sym c.in-At.is ∙ c.check_bool-in-19-to-20.ensures) c.check_bool-in-At.ensures
+pub returns-in_ok-m-in-19-to-20 : goal.returns-in_ok-m-in-19-to-20
+returns-in_ok-m-in-19-to-20 t c =
+    bool_pair _ _ _ _ _ c.if-depth-eq0.false c.if-end-at.false _ _ (omega arith) c.in-19-to-20.if-op-lt21-own.true (c.in_ok-m-in-19-to-20.ensures) c.check_bool-in-19-to-20-2.ensures
 
-pub returns-in-Bad : goal.returns-in-Bad
-returns-in-Bad t c =
-    bool_pair_bad _ _ _ _ _ c.if-depth-eq0.false c.if-end-at.false (omega arith) c.in-19-to-20.if-op-lt21-own.true (sym c.in-Bad.is ∙ c.check_bool-in-19-to-20.ensures)
+pub returns-in_err-m-in-19-to-20 : goal.returns-in_err-m-in-19-to-20
+returns-in_err-m-in-19-to-20 t c =
+    c.from_residual.ensures ∙ bool_pair_bad _ _ _ _ _ c.if-depth-eq0.false c.if-end-at.false (omega arith) c.in-19-to-20.if-op-lt21-own.true (c.in_err-m-in-19-to-20.ensures)
 
-pub returns-in-At-check_int : goal.returns-in-At-check_int
-returns-in-At-check_int t c =
-    compare_pair _ _ _ _ _ c.if-depth-eq0.false c.if-end-at.false _ _ c.in-21-to-22.if-op-lt21-own.false c.in-21-to-22.if-op-lt23-own.true (sym c.in-At-check_int.is ∙ c.check_int.ensures) c.check_int-in-At-check_int.ensures
+pub returns-in_ok-m-in-21-to-22 : goal.returns-in_ok-m-in-21-to-22
+returns-in_ok-m-in-21-to-22 t c =
+    compare_pair _ _ _ _ _ c.if-depth-eq0.false c.if-end-at.false _ _ c.in-21-to-22.if-op-lt21-own.false c.in-21-to-22.if-op-lt23-own.true (c.in_ok-m-in-21-to-22.ensures) c.check_int-in-21-to-22.ensures
 
-pub returns-in-Bad-check_int : goal.returns-in-Bad-check_int
-returns-in-Bad-check_int t c =
-    compare_bad _ _ _ _ _ c.if-depth-eq0.false c.if-end-at.false c.in-21-to-22.if-op-lt21-own.false c.in-21-to-22.if-op-lt23-own.true
-    (sym c.in-Bad-check_int.is ∙ c.check_int.ensures)
+pub returns-in_err-m-in-21-to-22 : goal.returns-in_err-m-in-21-to-22
+returns-in_err-m-in-21-to-22 t c =
+    c.from_residual-in_err-m-in-21-to-22.ensures ∙ compare_bad _ _ _ _ _ c.if-depth-eq0.false c.if-end-at.false c.in-21-to-22.if-op-lt21-own.false c.in-21-to-22.if-op-lt23-own.true
+    (c.in_err-m-in-21-to-22.ensures)
 
 pub returns-in_default : goal.returns-in_default
 returns-in_default t c =

@@ -1,5 +1,5 @@
 use native.Mathlib.Omega.{arith}
-use mathlib.Core.Path.{refl, sym, ap, ◌∙◌}
+use mathlib.Core.Path.{refl, ap, ◌∙◌}
 use mathlib.Core.Logic.{inl, inr}
 use Rattle.design.specs.Check.{names_of}
 use Rattle.design.specs.Expression.{with_later, int_op}
@@ -31,22 +31,22 @@ unfolding int_op
 returns-in-3 t c =
     int_leaf _ _ _ _ _ c.if-depth-eq0.false c.if-end-at.false _ _ (ap int_op c.in-3.is) (c.read_status.ensures c.args.file.now)
 
-pub returns-in-At : goal.returns-in-At
-returns-in-At t c =
-    int_product _ _ _ _ _ c.if-depth-eq0.false c.if-end-at.false _ _ c.in-8.is (sym c.in-At.is ∙ c.read_integer_constant-in-8.ensures
+pub returns-in_ok-m-in-8 : goal.returns-in_ok-m-in-8
+returns-in_ok-m-in-8 t c =
+    int_product _ _ _ _ _ c.if-depth-eq0.false c.if-end-at.false _ _ c.in-8.is (c.in_ok-m-in-8.ensures
     c.args.text.now (with_later c.args.later (names_of c.args.file.now c.args.shape))) c.check_int.ensures
 
-pub returns-in-Bad : goal.returns-in-Bad
-returns-in-Bad t c =
-    int_product_bad _ _ _ _ _ c.if-depth-eq0.false c.if-end-at.false c.in-8.is (sym c.in-Bad.is ∙ c.read_integer_constant-in-8.ensures c.args.text.now (with_later c.args.later (names_of c.args.file.now c.args.shape)))
+pub returns-in_err-m-in-8 : goal.returns-in_err-m-in-8
+returns-in_err-m-in-8 t c =
+    c.from_residual.ensures ∙ int_product_bad _ _ _ _ _ c.if-depth-eq0.false c.if-end-at.false c.in-8.is (c.in_err-m-in-8.ensures c.args.text.now (with_later c.args.later (names_of c.args.file.now c.args.shape)))
 
-pub returns-in-At-check_int : goal.returns-in-At-check_int
-returns-in-At-check_int t c =
-    int_pair _ _ _ _ _ c.if-depth-eq0.false c.if-end-at.false _ _ (omega arith) c.in-4-to-5.if-op-lt6-own.true (sym c.in-At-check_int.is ∙ c.check_int-in-4-to-5.ensures) c.check_int-in-At-check_int.ensures
+pub returns-in_ok-m-in-4-to-5 : goal.returns-in_ok-m-in-4-to-5
+returns-in_ok-m-in-4-to-5 t c =
+    int_pair _ _ _ _ _ c.if-depth-eq0.false c.if-end-at.false _ _ (omega arith) c.in-4-to-5.if-op-lt6-own.true (c.in_ok-m-in-4-to-5.ensures) c.check_int-in-4-to-5-2.ensures
 
-pub returns-in-Bad-check_int : goal.returns-in-Bad-check_int
-returns-in-Bad-check_int t c =
-    int_pair_bad _ _ _ _ _ c.if-depth-eq0.false c.if-end-at.false (omega arith) c.in-4-to-5.if-op-lt6-own.true (sym c.in-Bad-check_int.is ∙ c.check_int-in-4-to-5.ensures)
+pub returns-in_err-m-in-4-to-5 : goal.returns-in_err-m-in-4-to-5
+returns-in_err-m-in-4-to-5 t c =
+    c.from_residual-in_err-m-in-4-to-5.ensures ∙ int_pair_bad _ _ _ _ _ c.if-depth-eq0.false c.if-end-at.false (omega arith) c.in-4-to-5.if-op-lt6-own.true (c.in_err-m-in-4-to-5.ensures)
 
 pub returns-then-op-eq6 : goal.returns-then-op-eq6
 returns-then-op-eq6 t c =

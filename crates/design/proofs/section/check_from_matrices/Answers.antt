@@ -1,5 +1,5 @@
+use Rattle.design.proofs.Told.{handed_on}
 use native.Mathlib.Omega.{arith}
-use mathlib.Core.Path.{sym, ◌∙◌}
 use Rattle.design.proofs.File.{variables_end, x_matrix, x_events, past_at}
 use Rattle.design.proofs.section.check_from_matrices.Goals as goal
 
@@ -10,20 +10,20 @@ check_matrices-requires c =
 
 pub returns-then-offsets-p : goal.returns-then-offsets-p
 returns-then-offsets-p c =
-    x_events c.args.file.now c.args.end c.args.counts c.args.offsets _ c.requires.2 _ (sym c.in-Past.is ∙ c.check_matrices.ensures) c.if-offsets-p.true
+    x_events c.args.file.now c.args.end c.args.counts c.args.offsets _ c.requires.2 _ (c.in_ok-p.ensures) c.if-offsets-p.true
 
 pub check_from_events-requires : goal.check_from_events-requires
 check_from_events-requires c = record {
   room = (c.requires.0, c.requires.1);
   sections_right = (
     c.requires.2,
-    past_at _ _ _ c.if-offsets-p.false (sym c.in-Past.is ∙ c.check_matrices.ensures),
+    past_at _ _ _ c.if-offsets-p.false (c.in_ok-p.ensures),
   );
 }
 
-pub returns-else-offsets-p : goal.returns-else-offsets-p
-returns-else-offsets-p c = c.check_from_events.ensures
+pub returns : goal.returns
+returns c = c.check_from_events.ensures
 
-pub returns-in-Refused : goal.returns-in-Refused
-returns-in-Refused c =
-    x_matrix c.args.file.now c.args.end c.args.counts c.args.offsets _ c.requires.2 _ _ (sym c.in-Refused.is ∙ c.check_matrices.ensures)
+pub returns-in_err-p : goal.returns-in_err-p
+returns-in_err-p c =
+    handed_on _ _ c.from_residual.ensures.1 _ (x_matrix c.args.file.now c.args.end c.args.counts c.args.offsets _ c.requires.2 _ _ (c.in_err-p.ensures))
