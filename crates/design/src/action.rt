@@ -5,6 +5,7 @@ ghost use Rattle.design.specs.Check.{names_of};
 ghost use Rattle.design.specs.Answers.{found};
 
 use super::expression::{check_bool, check_int};
+use super::kind::Kind;
 use super::limits::MAX_DEPTH;
 use super::shape::Shape;
 
@@ -21,7 +22,7 @@ pub fn check_assign(text: &[u8], file: &[u8], at: usize, end: usize, shape: Shap
         return None;
     }
     let k = file[3 * v];
-    if k == 1 {
+    if k == Kind::Integer as u8 {
         check_int(text, file, at + 1, end, shape, false, MAX_DEPTH)
     } else {
         check_bool(text, file, at + 1, end, shape, false, MAX_DEPTH)

@@ -11,6 +11,7 @@ use super::action::check_list;
 use super::bytes::{wide, word};
 use super::expression::check_bool;
 use super::item::fill_length;
+use super::kind::CellKind;
 use super::limits::{MAX_DEPTH, MAX_NEST};
 use super::refusal::Refused;
 use super::shape::Shape;
@@ -44,10 +45,10 @@ pub fn fields_ok(file: &[u8], shape: Shape, mats: usize, at: usize) -> bool
     }
     let kind = file[at + 3];
     let target = file[at + 4];
-    if kind == 0 {
+    if kind == CellKind::Normal as u8 {
         return target < statuses;
     }
-    if kind != 1 {
+    if kind != CellKind::Invalid as u8 {
         return false;
     }
     if target != 0 {
@@ -78,11 +79,11 @@ pub fn in_order(file: &[u8], before: usize, at: usize) -> bool
         return false;
     }
     let j = file[before + 3];
-    if j != 0 {
+    if j != CellKind::Normal as u8 {
         return false;
     }
     let k = file[at + 3];
-    k == 0
+    k == CellKind::Normal as u8
 }
 
 // The guard, which may be empty.
@@ -139,7 +140,7 @@ pub fn check_cell(
         return Err(Refused::Cell(at));
     }
     let kind = file[at + 3];
-    if kind != 0 {
+    if kind != CellKind::Normal as u8 {
         return Ok(past);
     }
     check_guard(file, shape, at)?;

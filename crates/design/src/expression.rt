@@ -7,6 +7,7 @@ ghost use Rattle.design.specs.Expression.{Names, with_later, int_of, bool_of, in
 ghost use Rattle.design.specs.Check.{names_of};
 ghost use Rattle.design.specs.Answers.{found};
 
+use super::kind::Kind;
 use super::shape::Shape;
 
 // The integer constant at `at`.
@@ -36,7 +37,11 @@ pub fn read_integer_variable(
         return None;
     }
     let k = file[3 * v];
-    if k == 1 { Some(at + 1) } else { None }
+    if k == Kind::Integer as u8 {
+        Some(at + 1)
+    } else {
+        None
+    }
 }
 
 // The matrix whose status is read.
@@ -86,7 +91,11 @@ pub fn read_boolean_variable(
         return None;
     }
     let k = file[3 * v];
-    if k == 1 { None } else { Some(at + 1) }
+    if k == Kind::Integer as u8 {
+        None
+    } else {
+        Some(at + 1)
+    }
 }
 
 // The integer expression at `at`, of depth at most `depth`.

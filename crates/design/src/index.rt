@@ -8,6 +8,7 @@ ghost use Rattle.design.specs.Places.{Accepted, Measured, past_events, externals
 
 use super::bits::state_bits;
 use super::bytes::{wide, word};
+use super::kind::{CellKind, Kind};
 use super::limits::{EVENT_PLACES, EVENT_ROW, MAX_MOVERS, TRAILER, is_constrained, tail_bytes};
 use super::shape::{Counts, Offsets, Shape};
 
@@ -165,7 +166,7 @@ pub fn index_cells(file: &[u8], table: &mut [u16; MAX_MOVERS]) -> usize
     let mut p = trailer_word(file, CELLS_AT);
     let mut normals = 0;
     for _ in 0..count {
-        if file[p + 3] == 0 {
+        if file[p + 3] == CellKind::Normal as u8 {
             table[normals] = p as u16;
             normals += 1;
         }
@@ -181,7 +182,7 @@ pub fn external_count(file: &[u8], variables: usize) -> usize
 {
     let mut count = 0;
     for v in 0..variables {
-        if file[3 * v] == 2 {
+        if file[3 * v] == Kind::External as u8 {
             count += 1;
         }
     }
@@ -195,7 +196,7 @@ pub fn external(file: &[u8], variables: usize, k: usize) -> usize
 {
     let mut left = k;
     for v in 0..variables {
-        if file[3 * v] == 2 {
+        if file[3 * v] == Kind::External as u8 {
             if left == 0 {
                 return v;
             }

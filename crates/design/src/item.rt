@@ -9,6 +9,7 @@ ghost use Rattle.design.specs.Refusal.{number_of, place_of};
 
 use super::bytes::{wide, word};
 use super::expression::check_bool;
+use super::kind::Kind;
 use super::limits::{MAX_DEPTH, MAX_EVENTS, MAX_STATUSES};
 use super::refusal::Refused;
 use super::shape::Shape;
@@ -33,10 +34,10 @@ pub fn check_variable(file: &[u8], end: usize, at: usize) -> Result<usize, Refus
         return Err(Refused::Offset(at));
     }
     let k = file[at];
-    if 2 < k {
+    if k > Kind::External as u8 {
         return Err(Refused::Variable(at));
     }
-    if k == 1 {
+    if k == Kind::Integer as u8 {
         return Ok(at + 3);
     }
     let v = word(file, at + 1);

@@ -8,6 +8,7 @@ mod cell;
 pub mod expression;
 pub mod index;
 mod item;
+pub mod kind;
 pub mod limits;
 pub mod refusal;
 mod section;

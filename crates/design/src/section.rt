@@ -10,6 +10,7 @@ ghost use Rattle.design.specs.Answer.{told};
 use super::bytes::wide;
 use super::cell::check_cell;
 use super::item::{check_constraint, check_event, check_invariant, check_matrix, check_variable};
+use super::kind::{CellKind, Kind};
 use super::refusal::Refused;
 use super::shape::{Counts, Offsets, Shape, shape_of};
 
@@ -22,7 +23,7 @@ pub fn check_variables(file: &[u8], end: usize, nv: usize) -> Result<(usize, usi
     let mut externals = 0;
     for _ in 0..nv {
         let n = check_variable(file, end, p)?;
-        if file[p] == 2 {
+        if file[p] == Kind::External as u8 {
             externals += 1;
         }
         p = n;
@@ -96,7 +97,7 @@ pub fn check_cells(
     let mut normals = 0;
     for _ in 0..count {
         let n = check_cell(file, end, shape, mats, before, p)?;
-        if file[p + 3] == 0 {
+        if file[p + 3] == CellKind::Normal as u8 {
             normals += 1;
         }
         before = p;

@@ -12,10 +12,10 @@ overflow_cast-v c = omega (arith, c.shared_slice_known-3-1.given c.args.at)
 pub returns-then-shape-v : goal.returns-then-shape-v
 returns-then-shape-v c = assign_nothing _ _ _ _ c.if-end-at.false c.if-shape-v.true
 
-pub returns-then-k-eq1 : goal.returns-then-k-eq1
-returns-then-k-eq1 c =
-    c.check_int.ensures ∙ assign_int _ _ _ _ c.if-end-at.false c.if-shape-v.false c.if-k-eq1.true
+pub returns-then-k : goal.returns-then-k
+returns-then-k c =
+    c.check_int.ensures ∙ assign_int _ _ _ _ c.if-end-at.false c.if-shape-v.false c.if-k.true
 
-pub returns-else-k-eq1 : goal.returns-else-k-eq1
-returns-else-k-eq1 c =
-    c.check_bool.ensures ∙ assign_flag _ _ _ _ c.if-end-at.false c.if-shape-v.false c.if-k-eq1.false
+pub returns-else-k : goal.returns-else-k
+returns-else-k c =
+    c.check_bool.ensures ∙ assign_flag _ _ _ _ c.if-end-at.false c.if-shape-v.false c.if-k.false

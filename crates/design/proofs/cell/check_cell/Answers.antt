@@ -15,17 +15,17 @@ returns-then-not-in_order c =
     λ f. cell_order _ _ _ _ f _ _ _ (omega arith) c.if-end-past.false _ _ c.fields_ok.ensures
     c.if-not-fields_ok.false c.in_order.ensures c.if-not-in_order.true
 
-pub returns-then-kind-ne0 : goal.returns-then-kind-ne0
-returns-then-kind-ne0 c =
+pub returns-then-kind : goal.returns-then-kind
+returns-then-kind c =
     λ f. cell_invalid _ _ _ _ f _ _ _ (omega arith) c.if-end-past.false _ _ c.fields_ok.ensures c.if-not-fields_ok.false c.in_order.ensures
-    c.if-not-in_order.false c.if-kind-ne0.true
+    c.if-not-in_order.false c.if-kind.true
 
 pub returns : goal.returns
 returns c =
     λ f. cell_action _ _ _ _ f _ _ _ (omega arith) c.if-end-past.false _ _ c.fields_ok.ensures c.if-not-fields_ok.false c.in_order.ensures
-    c.if-not-in_order.false _ _ c.if-kind-ne0.false (c.in_ok-check_guard.ensures c.args.end) (c.check_action.ensures c.args.end)
+    c.if-not-in_order.false _ _ c.if-kind.false (c.in_ok-check_guard.ensures c.args.end) (c.check_action.ensures c.args.end)
 
 pub returns-in_err-check_guard : goal.returns-in_err-check_guard
 returns-in_err-check_guard c =
     λ f. handed_on _ _ c.from_residual.ensures.1 _ (cell_guard _ _ _ _ f _ _ _ (omega arith) c.if-end-past.false _ _ c.fields_ok.ensures c.if-not-fields_ok.false c.in_order.ensures
-    c.if-not-in_order.false _ _ c.if-kind-ne0.false (c.in_err-check_guard.ensures c.args.end))
+    c.if-not-in_order.false _ _ c.if-kind.false (c.in_err-check_guard.ensures c.args.end))

@@ -11,10 +11,10 @@ overflow_cast-v c = omega (arith, c.shared_slice_known-1.given c.args.at)
 pub returns-then-shape-v : goal.returns-then-shape-v
 returns-then-shape-v c = simp (lt-ltb _ _ c.if-end-at.false, le-ltb _ _ c.if-shape-v.true)
 
-pub returns-then-k-eq1 : goal.returns-then-k-eq1
-returns-then-k-eq1 c =
-    simp (lt-ltb _ _ c.if-end-at.false, lt-ltb _ _ c.if-shape-v.false, eq-eqb _ _ c.if-k-eq1.true)
+pub returns-then-k : goal.returns-then-k
+returns-then-k c =
+    simp (lt-ltb _ _ c.if-end-at.false, lt-ltb _ _ c.if-shape-v.false, eq-eqb _ _ c.if-k.true)
 
-pub returns-else-k-eq1 : goal.returns-else-k-eq1
-returns-else-k-eq1 c =
-    simp (lt-ltb _ _ c.if-end-at.false, lt-ltb _ _ c.if-shape-v.false, ne_eqb _ _ c.if-k-eq1.false)
+pub returns-else-k : goal.returns-else-k
+returns-else-k c =
+    simp (lt-ltb _ _ c.if-end-at.false, lt-ltb _ _ c.if-shape-v.false, ne_eqb _ _ c.if-k.false)

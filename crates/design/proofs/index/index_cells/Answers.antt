@@ -3,7 +3,7 @@ use Prim.Native.Nat.{ℕ, ◌+◌}
 use mathlib.Core.Path.{ap₂}
 use Rattle.design.proofs.Tables.{bounds, cells_start, cell_here, cells_room, cells_normal, cells_invalid, cells_end}
 use Rattle.design.proofs.index.index_cells.Goals as goal
-use Rattle.design.proofs.index.index_cells.Goals.{then-file-p-eq0, else-file-p-eq0}
+use Rattle.design.proofs.index.index_cells.Goals.{then-file-p, else-file-p}
 
 pub trailer_word-count-requires : goal.trailer_word-count-requires
 trailer_word-count-requires c = omega (arith, (bounds _ c.requires.0).long)
@@ -44,7 +44,7 @@ offset_bounds-table-normals c =
     omega (
       arith,
       cells_room _ c.requires.0 _ _ _ _ c.loop.invariant.1
-          (omega arith) c.if-file-p-eq0.true,
+          (omega arith) c.if-file-p.true,
     )
 
 pub bounds-table-normals : goal.bounds-table-normals
@@ -52,7 +52,7 @@ bounds-table-normals c =
     omega (
       arith,
       cells_room _ c.requires.0 _ _ _ _ c.loop.invariant.1
-          (omega arith) c.if-file-p-eq0.true,
+          (omega arith) c.if-file-p.true,
     )
 
 pub overflow_add-normals : goal.overflow_add-normals
@@ -60,7 +60,7 @@ overflow_add-normals c =
     omega (
       arith,
       cells_room _ c.requires.0 _ _ _ _ c.loop.invariant.1
-          (omega arith) c.if-file-p-eq0.true,
+          (omega arith) c.if-file-p.true,
     )
 
 pub overflow_add-p-in-loop : goal.overflow_add-p-in-loop
@@ -127,14 +127,14 @@ overflow_add-p-in-loop-5 c =
 pub loop-preserved : goal.loop-preserved
 loop-preserved c =
     let q = ap₂ (λ (x y : ℕ). c.loop.p + 8 + x + y) c.wide.ensures.0 c.word.ensures.0 in
-    elim c.if-file-p-eq0.branch [
-      | then-file-p-eq0 w ↦ (
+    elim c.if-file-p.branch [
+      | then-file-p w ↦ (
         c.loop.invariant.0,
-        cells_normal _ c.requires.0 _ _ _ _ c.loop.invariant.1 (omega arith) w.if-file-p-eq0.true _ _ _ q w.normals-is w.table-is,
+        cells_normal _ c.requires.0 _ _ _ _ c.loop.invariant.1 (omega arith) w.if-file-p.true _ _ _ q w.normals-is w.table-is,
       )
-      | else-file-p-eq0 w ↦ (
+      | else-file-p w ↦ (
         c.loop.invariant.0,
-        cells_invalid _ c.requires.0 _ _ _ _ c.loop.invariant.1 (omega arith) w.if-file-p-eq0.false _ _ _ q w.normals-is w.table-is,
+        cells_invalid _ c.requires.0 _ _ _ _ c.loop.invariant.1 (omega arith) w.if-file-p.false _ _ _ q w.normals-is w.table-is,
       )
     ]
 

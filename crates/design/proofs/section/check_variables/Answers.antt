@@ -4,7 +4,7 @@ use mathlib.Core.Path.{refl, ◌∙◌}
 use Rattle.design.proofs.Told.{handed_on}
 use Rattle.design.proofs.Items.{count_none, count_refused, variable_next, variable_ends}
 use Rattle.design.proofs.section.check_variables.Goals as goal
-use Rattle.design.proofs.section.check_variables.Goals.{then-file-p-eq2, else-file-p-eq2}
+use Rattle.design.proofs.section.check_variables.Goals.{then-file-p, else-file-p}
 
 pub loop-init : goal.loop-init
 loop-init c = (omega arith, omega arith, simp unary_clauses refl)
@@ -15,16 +15,16 @@ bounds-file-p c = let g = variable_ends _ _ _ _ c.in_ok-n.ensures in omega arith
 pub loop-preserved : goal.loop-preserved
 loop-preserved c =
     let g = variable_ends _ _ _ _ c.in_ok-n.ensures in
-    elim c.if-file-p-eq2.branch [
-      | then-file-p-eq2 w ↦ (
+    elim c.if-file-p.branch [
+      | then-file-p w ↦ (
         g.1,
         omega arith,
-        variable_next _ _ _ _ _ _ _ (omega arith) c.in_ok-n.ensures _ (λ q. omega arith) (λ q. absurd (q w.if-file-p-eq2.true)) ∙ c.loop.invariant.2,
+        variable_next _ _ _ _ _ _ _ (omega arith) c.in_ok-n.ensures _ (λ q. omega arith) (λ q. absurd (q w.if-file-p.true)) ∙ c.loop.invariant.2,
       )
-      | else-file-p-eq2 w ↦ (
+      | else-file-p w ↦ (
         g.1,
         omega arith,
-        variable_next _ _ _ _ _ _ _ (omega arith) c.in_ok-n.ensures _ (λ q. absurd (w.if-file-p-eq2.false q)) (λ q. omega arith) ∙ c.loop.invariant.2,
+        variable_next _ _ _ _ _ _ _ (omega arith) c.in_ok-n.ensures _ (λ q. absurd (w.if-file-p.false q)) (λ q. omega arith) ∙ c.loop.invariant.2,
       )
     ]
 
