@@ -7,14 +7,13 @@ ghost use Rattle.design.specs.Check.{names_of};
 ghost use Rattle.design.specs.Answers.{walked};
 ghost use Rattle.design.specs.Answer.{told};
 
-use super::action::check_list;
 use super::bytes::{wide, word};
-use super::expression::check_bool;
 use super::item::fill_length;
 use super::kind::CellKind;
 use super::limits::{MAX_DEPTH, MAX_NEST};
 use super::refusal::Refused;
 use super::shape::Shape;
+use super::source::Source;
 
 // A cell's place, as a number that ascends.
 pub fn rank_at(file: &[u8], at: usize) -> usize
@@ -97,7 +96,13 @@ pub fn check_guard(file: &[u8], shape: Shape, at: usize) -> Result<usize, Refuse
         return Ok(middle);
     }
     fill_length(
-        check_bool(file, file, at + 8, middle, shape, false, MAX_DEPTH),
+        Source {
+            text: file,
+            end: middle,
+            file,
+            shape,
+        }
+        .check_bool(at + 8, false, MAX_DEPTH),
         middle,
         Refused::Expression(at),
     )
@@ -111,7 +116,13 @@ pub fn check_action(file: &[u8], shape: Shape, at: usize) -> Result<usize, Refus
     let middle = at + 8 + wide(file[at + 5]);
     let past = middle + word(file, at + 6);
     fill_length(
-        check_list(file, file, middle, past, shape, MAX_NEST),
+        Source {
+            text: file,
+            end: past,
+            file,
+            shape,
+        }
+        .check_list(middle, MAX_NEST),
         past,
         Refused::Action(at),
     )

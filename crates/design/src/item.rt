@@ -8,11 +8,11 @@ ghost use Rattle.design.specs.Answer.{told};
 ghost use Rattle.design.specs.Refusal.{number_of, place_of};
 
 use super::bytes::{wide, word};
-use super::expression::check_bool;
 use super::kind::Kind;
 use super::limits::{MAX_DEPTH, MAX_EVENTS, MAX_STATUSES};
 use super::refusal::Refused;
 use super::shape::Shape;
+use super::source::Source;
 
 // What was read must fill its length up to `past`.
 pub fn fill_length(read: Option<usize>, past: usize, refusal: Refused) -> Result<usize, Refused>
@@ -83,7 +83,13 @@ pub fn check_event(file: &[u8], end: usize, shape: Shape, at: usize) -> Result<u
         return Err(Refused::Offset(at));
     }
     fill_length(
-        check_bool(file, file, at + 1, past, shape, false, MAX_DEPTH),
+        Source {
+            text: file,
+            end: past,
+            file,
+            shape,
+        }
+        .check_bool(at + 1, false, MAX_DEPTH),
         past,
         Refused::Expression(at),
     )
@@ -107,7 +113,13 @@ pub fn check_invariant(
         return Err(Refused::Offset(at));
     }
     fill_length(
-        check_bool(file, file, at, past, shape, false, MAX_DEPTH),
+        Source {
+            text: file,
+            end: past,
+            file,
+            shape,
+        }
+        .check_bool(at, false, MAX_DEPTH),
         past,
         Refused::Expression(at),
     )
@@ -128,7 +140,13 @@ pub fn check_constraint(
         return Ok(at);
     }
     fill_length(
-        check_bool(file, file, at, end, shape, true, MAX_DEPTH),
+        Source {
+            text: file,
+            end,
+            file,
+            shape,
+        }
+        .check_bool(at, true, MAX_DEPTH),
         end,
         Refused::Expression(at),
     )

@@ -13,6 +13,7 @@ pub mod limits;
 pub mod refusal;
 mod section;
 pub mod shape;
+pub mod source;
 
 ghost use Rattle.std.specs.Prelude.{◌≡◌};
 ghost use Rattle.design.specs.Check.{check as checked, refused, refusal};
