@@ -55,10 +55,10 @@ module _ (file : List ℕ) (end : ℕ) (names : Names) (at : ℕ) where
   guard_none zero e m h = ap answer h
   guard_none (suc k) e m h = absurd (omega arith)
 
-  pub guard_read : (k : ℕ) → (k ≡ 0 → ⊥) → (m : ℕ) → m ≡ c_middle file at → (f : Option ℕ) (r : Answer ℕ) → r ≡ length_filled 8 at m f → f ≡ found (bool_expr file names m max_depth (at + 8)) → r ≡ walked (guard file end names at k)
-  guard_read zero h m p f r e q = absurd (h refl)
-  guard_read (suc k) h m p f r e q =
-      filled_read 8 at m (bool_expr file names m max_depth (at + 8)) f r e q
+  pub guard_read : (k : ℕ) → (k ≡ 0 → ⊥) → (m : ℕ) → m ≡ c_middle file at → (r : Answer ℕ) → r ≡ walked (filling 8 at m (bool_expr file names m max_depth (at + 8))) → r ≡ walked (guard file end names at k)
+  guard_read zero h m p r e = absurd (h refl)
+  guard_read (suc k) h m p r e =
+      e
       ∙ ap (λ (j : ℕ). walked (filling 8 at j (bool_expr file names j max_depth (at + 8)))) p
 
   pub action_read : (m past : ℕ) → m ≡ c_middle file at → past ≡ c_past file at → (f : Option ℕ) (r : Answer ℕ) → r ≡ length_filled 9 at past f → f ≡ found (list file names past max_nest m) → r ≡ walked (action file end names at)

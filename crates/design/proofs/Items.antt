@@ -123,10 +123,10 @@ module _ (file : List ℕ) (end : ℕ) (names : Names) (at past : ℕ) (p : past
   unfolding event_at
   event_passes h = simp (lt-leb (at + 1 + get_or file at 0) end (omega arith))
 
-  pub event_read : past ≤ end → (f : Option ℕ) (r : Answer ℕ) → r ≡ length_filled 8 at past f → f ≡ found (bool_expr file names past max_depth (at + 1)) → r ≡ walked (event_at file end names at)
+  pub event_read : past ≤ end → (r : Answer ℕ) → r ≡ walked (filling 8 at past (bool_expr file names past max_depth (at + 1))) → r ≡ walked (event_at file end names at)
   unfolding event_at
-  event_read h f r e q =
-      filled_read 8 at past (bool_expr file names past max_depth (at + 1)) f r e q
+  event_read h r e =
+      e
       ∙ ap (λ (j : ℕ). walked (filling 8 at j (bool_expr file names j max_depth (at + 1)))) p
       ∙ sym (ap walked (met (leb (at + 1 + get_or file at 0) end) 4 at _ (le-leb (at + 1 + get_or file at 0) end (omega arith))))
 
@@ -140,18 +140,18 @@ module _ (file : List ℕ) (end : ℕ) (names : Names) where
     unfolding invariant_at
     invariant_passes h l = simp (le-leb at past h, lt-leb past end l)
 
-    pub invariant_read : at ≤ past → past ≤ end → (f : Option ℕ) (r : Answer ℕ) → r ≡ length_filled 8 at past f → f ≡ found (bool_expr file names past max_depth at) → r ≡ walked (invariant_at file end names past at)
+    pub invariant_read : at ≤ past → past ≤ end → (r : Answer ℕ) → r ≡ walked (filling 8 at past (bool_expr file names past max_depth at)) → r ≡ walked (invariant_at file end names past at)
     unfolding invariant_at
-    invariant_read h l f r e q = filled_read 8 at past (bool_expr file names past max_depth at) f r e q ∙ simp (le-leb at past h, le-leb past end l)
+    invariant_read h l r e = e ∙ simp (le-leb at past h, le-leb past end l)
 
   module _ (t : Bool) (at : ℕ) where
     pub constraint_absent : t ≡ false → answer at ≡ walked (constraint_at file end names t at)
     unfolding constraint_at
     constraint_absent h = rw h
 
-    pub constraint_read : t ≡ true → (f : Option ℕ) (r : Answer ℕ) → r ≡ length_filled 8 at end f → f ≡ found (bool_expr file (with_later true names) end max_depth at) → r ≡ walked (constraint_at file end names t at)
+    pub constraint_read : t ≡ true → (r : Answer ℕ) → r ≡ walked (filling 8 at end (bool_expr file (with_later true names) end max_depth at)) → r ≡ walked (constraint_at file end names t at)
     unfolding constraint_at
-    constraint_read h f r e q = filled_read 8 at end (bool_expr file (with_later true names) end max_depth at) f r e q ∙ sym (ap (λ (b : Bool). walked (constraint_at file end names b at)) h)
+    constraint_read h r e = e ∙ sym (ap (λ (b : Bool). walked (constraint_at file end names b at)) h)
 
 -- how far an item goes
 module _ (file : List ℕ) (end : ℕ) where

@@ -10,10 +10,10 @@ ghost use Rattle.design.specs.Answer.{told};
 use super::bytes::{wide, word};
 use super::item::fill_length;
 use super::kind::CellKind;
-use super::limits::{MAX_DEPTH, MAX_NEST};
+use super::limits::MAX_NEST;
 use super::refusal::Refused;
 use super::shape::Shape;
-use super::source::Source;
+use super::source::{Items, Source};
 
 // A cell's place, as a number that ascends.
 pub fn rank_at(file: &[u8], at: usize) -> usize
@@ -85,75 +85,56 @@ pub fn in_order(file: &[u8], before: usize, at: usize) -> bool
     k == CellKind::Normal as u8
 }
 
-// The guard, which may be empty.
-pub fn check_guard(file: &[u8], shape: Shape, at: usize) -> Result<usize, Refused>
-    requires { (c_past file.now at ≤ length file.now) × (3 * shape.variables ≤ length file.now) }
-    ensures { (end : ℕ) → told result ≡ walked (guard file.now end (names_of file.now shape) at (c_guard file.now at)) }
-{
-    let n = file[at + 5];
-    let middle = at + 8 + (n as usize);
-    if n == 0 {
-        return Ok(middle);
-    }
-    fill_length(
-        Source {
-            text: file,
-            end: middle,
-            file,
-            shape,
+impl<'a> Items<'a> {
+    // The guard, which may be empty.
+    pub fn check_guard(self, at: usize) -> Result<usize, Refused>
+        requires { c_past self.file.now at ≤ length self.file.now }
+        ensures { (end : ℕ) → told result ≡ walked (guard self.entry.file.now end (names_of self.entry.file.now self.entry.shape) at (c_guard self.entry.file.now at)) }
+    {
+        let n = self.file[at + 5];
+        let middle = at + 8 + (n as usize);
+        if n == 0 {
+            return Ok(middle);
         }
-        .check_bool(at + 8, false, MAX_DEPTH),
-        middle,
-        Refused::Expression(at),
-    )
-}
+        self.check_filling(at + 8, middle, false, Refused::Expression(at))
+    }
 
-// The action.
-pub fn check_action(file: &[u8], shape: Shape, at: usize) -> Result<usize, Refused>
-    requires { (c_past file.now at ≤ length file.now) × (3 * shape.variables ≤ length file.now) }
-    ensures { (end : ℕ) → told result ≡ walked (action file.now end (names_of file.now shape) at) }
-{
-    let middle = at + 8 + wide(file[at + 5]);
-    let past = middle + word(file, at + 6);
-    fill_length(
-        Source {
-            text: file,
+    // The action.
+    pub fn check_action(self, at: usize) -> Result<usize, Refused>
+        requires { c_past self.file.now at ≤ length self.file.now }
+        ensures { (end : ℕ) → told result ≡ walked (action self.entry.file.now end (names_of self.entry.file.now self.entry.shape) at) }
+    {
+        let middle = at + 8 + wide(self.file[at + 5]);
+        let past = middle + word(self.file, at + 6);
+        let text = Source {
+            text: self.file,
             end: past,
-            file,
-            shape,
-        }
-        .check_list(middle, MAX_NEST),
-        past,
-        Refused::Action(at),
-    )
-}
+            file: self.file,
+            shape: self.shape,
+        };
+        fill_length(text.check_list(middle, MAX_NEST), past, Refused::Action(at))
+    }
 
-// The cell at `at`, after the one at `before`.
-pub fn check_cell(
-    file: &[u8],
-    end: usize,
-    shape: Shape,
-    mats: usize,
-    before: usize,
-    at: usize,
-) -> Result<usize, Refused>
-    requires { (at ≤ end) × (before ≤ end) × (end + trailer_bytes ≤ length file.now) × (3 * shape.variables ≤ length file.now) × (mats + 2 * shape.matrices ≤ length file.now) }
-    ensures { (f : ℕ → ℕ → BoolExpr) → told result ≡ walked (cell_at file.now end (names_of file.now shape) mats f before at) }
-{
-    let past = at + 8 + wide(file[at + 5]) + word(file, at + 6);
-    if end < past {
-        return Err(Refused::Offset(at));
+    // The cell at `at`, after the one at `before`.
+    pub fn check_cell(self, mats: usize, before: usize, at: usize) -> Result<usize, Refused>
+        requires { (at ≤ self.end) × (before ≤ self.end) × (mats + 2 * self.shape.matrices ≤ length self.file.now) }
+        ensures { (f : ℕ → ℕ → BoolExpr) → told result ≡ walked (cell_at self.entry.file.now self.entry.end (names_of self.entry.file.now self.entry.shape) mats f before at) }
+    {
+        let past = at + 8 + wide(self.file[at + 5]) + word(self.file, at + 6);
+        if self.end < past {
+            return Err(Refused::Offset(at));
+        }
+        if !fields_ok(self.file, self.shape, mats, at) {
+            return Err(Refused::Cell(at));
+        }
+        if !in_order(self.file, before, at) {
+            return Err(Refused::Cell(at));
+        }
+        let kind = self.file[at + 3];
+        if kind != CellKind::Normal as u8 {
+            return Ok(past);
+        }
+        self.check_guard(at)?;
+        self.check_action(at)
     }
-    if !fields_ok(file, shape, mats, at) {
-        return Err(Refused::Cell(at));
-    }
-    if !in_order(file, before, at) {
-        return Err(Refused::Cell(at));
-    }
-    let kind = file[at + 3];
-    if kind != CellKind::Normal as u8 {
-        return Ok(past);
-    }
-    check_guard(file, shape, at)?;
-    check_action(file, shape, at)
 }

@@ -1,7 +1,8 @@
 // Items: each is walked from its first byte to the position past it, or refused. `end` is where the items end.
 ghost use Rattle.std.specs.Prelude.{◌≡◌, ◌+◌, ◌*◌, ◌≤◌, length};
-ghost use Rattle.design.specs.Limits.{trailer_bytes};
-ghost use Rattle.design.specs.DesignFile.{variable_at, matrix_at, event_at, invariant_at, constraint_at};
+ghost use Rattle.design.specs.DesignFile.{variable_at, matrix_at, event_at, invariant_at, constraint_at, filling};
+ghost use Rattle.design.specs.Expression.{with_later, bool_expr};
+ghost use Rattle.design.specs.Limits.{max_depth};
 ghost use Rattle.design.specs.Check.{names_of};
 ghost use Rattle.design.specs.Answers.{walked, length_filled};
 ghost use Rattle.design.specs.Answer.{told};
@@ -11,8 +12,7 @@ use super::bytes::{wide, word};
 use super::kind::Kind;
 use super::limits::{MAX_DEPTH, MAX_EVENTS, MAX_STATUSES};
 use super::refusal::Refused;
-use super::shape::Shape;
-use super::source::Source;
+use super::source::{Items, Source};
 
 // What was read must fill its length up to `past`.
 pub fn fill_length(read: Option<usize>, past: usize, refusal: Refused) -> Result<usize, Refused>
@@ -73,81 +73,59 @@ pub fn check_matrix(file: &[u8], end: usize, at: usize) -> Result<usize, Refused
     Ok(at + 2)
 }
 
-// An event: length byte, Boolean expression.
-pub fn check_event(file: &[u8], end: usize, shape: Shape, at: usize) -> Result<usize, Refused>
-    requires { (at ≤ end) × (end + trailer_bytes ≤ length file.now) × (3 * shape.variables ≤ length file.now) }
-    ensures { told result ≡ walked (event_at file.now end (names_of file.now shape) at) }
-{
-    let past = at + 1 + wide(file[at]);
-    if end < past {
-        return Err(Refused::Offset(at));
-    }
-    fill_length(
-        Source {
-            text: file,
+impl<'a> Items<'a> {
+    // One Boolean expression from `at` on that fills its length, up to `past`. `later` says whether it may read the next state.
+    pub fn check_filling(
+        self,
+        at: usize,
+        past: usize,
+        later: bool,
+        refusal: Refused,
+    ) -> Result<usize, Refused>
+        requires { past ≤ length self.file.now }
+        ensures { told result ≡ walked (filling (number_of refusal) (place_of refusal) past (bool_expr self.entry.file.now (with_later later (names_of self.entry.file.now self.entry.shape)) past max_depth at)) }
+    {
+        let text = Source {
+            text: self.file,
             end: past,
-            file,
-            shape,
-        }
-        .check_bool(at + 1, false, MAX_DEPTH),
-        past,
-        Refused::Expression(at),
-    )
-}
+            file: self.file,
+            shape: self.shape,
+        };
+        fill_length(text.check_bool(at, later, MAX_DEPTH), past, refusal)
+    }
 
-// The invariant runs up to `past`, where the constraint starts.
-pub fn check_invariant(
-    file: &[u8],
-    end: usize,
-    shape: Shape,
-    past: usize,
-    at: usize,
-) -> Result<usize, Refused>
-    requires { (end ≤ length file.now) × (3 * shape.variables ≤ length file.now) }
-    ensures { told result ≡ walked (invariant_at file.now end (names_of file.now shape) past at) }
-{
-    if past < at {
-        return Err(Refused::Offset(at));
-    }
-    if end < past {
-        return Err(Refused::Offset(at));
-    }
-    fill_length(
-        Source {
-            text: file,
-            end: past,
-            file,
-            shape,
+    // An event: length byte, Boolean expression.
+    pub fn check_event(self, at: usize) -> Result<usize, Refused>
+        requires { at ≤ self.end }
+        ensures { told result ≡ walked (event_at self.entry.file.now self.entry.end (names_of self.entry.file.now self.entry.shape) at) }
+    {
+        let past = at + 1 + wide(self.file[at]);
+        if self.end < past {
+            return Err(Refused::Offset(at));
         }
-        .check_bool(at, false, MAX_DEPTH),
-        past,
-        Refused::Expression(at),
-    )
-}
+        self.check_filling(at + 1, past, false, Refused::Expression(at))
+    }
 
-// The constraint, if there is one, runs up to `end`.
-pub fn check_constraint(
-    file: &[u8],
-    end: usize,
-    shape: Shape,
-    constrained: bool,
-    at: usize,
-) -> Result<usize, Refused>
-    requires { (end ≤ length file.now) × (3 * shape.variables ≤ length file.now) }
-    ensures { told result ≡ walked (constraint_at file.now end (names_of file.now shape) constrained at) }
-{
-    if !constrained {
-        return Ok(at);
-    }
-    fill_length(
-        Source {
-            text: file,
-            end,
-            file,
-            shape,
+    // The invariant runs up to `past`, where the constraint starts.
+    pub fn check_invariant(self, past: usize, at: usize) -> Result<usize, Refused>
+        ensures { told result ≡ walked (invariant_at self.entry.file.now self.entry.end (names_of self.entry.file.now self.entry.shape) past at) }
+    {
+        if past < at {
+            return Err(Refused::Offset(at));
         }
-        .check_bool(at, true, MAX_DEPTH),
-        end,
-        Refused::Expression(at),
-    )
+        if self.end < past {
+            return Err(Refused::Offset(at));
+        }
+        self.check_filling(at, past, false, Refused::Expression(at))
+    }
+
+    // The constraint, if there is one, runs up to the end.
+    pub fn check_constraint(self, constrained: bool, at: usize) -> Result<usize, Refused>
+        ensures { told result ≡ walked (constraint_at self.entry.file.now self.entry.end (names_of self.entry.file.now self.entry.shape) constrained at) }
+    {
+        if !constrained {
+            return Ok(at);
+        }
+        self.check_filling(at, self.end, true, Refused::Expression(at))
+    }
 }

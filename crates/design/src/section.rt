@@ -8,11 +8,11 @@ ghost use Rattle.design.specs.Answers.{walked, expressions_at, counted, raises, 
 ghost use Rattle.design.specs.Answer.{told};
 
 use super::bytes::wide;
-use super::cell::check_cell;
-use super::item::{check_constraint, check_event, check_invariant, check_matrix, check_variable};
+use super::item::{check_matrix, check_variable};
 use super::kind::{CellKind, Kind};
 use super::refusal::Refused;
-use super::shape::{Counts, Offsets, Shape, shape_of};
+use super::shape::{Counts, Offsets, shape_of};
+use super::source::Items;
 
 // The variables, from byte 0 on, with the number of externals.
 pub fn check_variables(file: &[u8], end: usize, nv: usize) -> Result<(usize, usize), Refused>
@@ -43,76 +43,63 @@ pub fn check_matrices(file: &[u8], end: usize, nm: usize, at: usize) -> Result<u
     Ok(p)
 }
 
-// The events of one matrix.
-pub fn check_matrix_events(
-    file: &[u8],
-    end: usize,
-    shape: Shape,
-    count: usize,
-    at: usize,
-) -> Result<usize, Refused>
-    requires { (at ≤ end) × (end + trailer_bytes ≤ length file.now) × (3 * shape.variables ≤ length file.now) }
-    ensures { told result ≡ walked (items (event_at file.now end (names_of file.now shape)) count at) }
-{
-    let mut p = at;
-    for _ in 0..count {
-        p = check_event(file, end, shape, p)?;
-    }
-    Ok(p)
-}
-
-// The events, matrix by matrix.
-pub fn check_events(
-    file: &[u8],
-    end: usize,
-    shape: Shape,
-    mats: usize,
-    at: usize,
-) -> Result<usize, Refused>
-    requires { (at ≤ end) × (end + trailer_bytes ≤ length file.now) × (3 * shape.variables ≤ length file.now) × (mats + 2 * shape.matrices ≤ length file.now) }
-    ensures { told result ≡ walked (events_from file.now end (names_of file.now shape) mats 0 shape.matrices at) }
-{
-    let mut p = at;
-    for m in 0..shape.matrices {
-        let count = wide(file[mats + 2 * m + 1]);
-        p = check_matrix_events(file, end, shape, count, p)?;
-    }
-    Ok(p)
-}
-
-// The cells, with the number of normal ones.
-pub fn check_cells(
-    file: &[u8],
-    end: usize,
-    shape: Shape,
-    mats: usize,
-    count: usize,
-    at: usize,
-) -> Result<(usize, usize), Refused>
-    requires { (at ≤ end) × (count < 65536) × (end + trailer_bytes ≤ length file.now) × (3 * shape.variables ≤ length file.now) × (mats + 2 * shape.matrices ≤ length file.now) }
-    ensures { (f : ℕ → ℕ → BoolExpr) → told result ≡ counted moves 0 (cells_from file.now end (names_of file.now shape) mats f count at at) }
-{
-    let mut before = at;
-    let mut p = at;
-    let mut normals = 0;
-    for _ in 0..count {
-        let n = check_cell(file, end, shape, mats, before, p)?;
-        if file[p + 3] == CellKind::Normal as u8 {
-            normals += 1;
+impl<'a> Items<'a> {
+    // The events of one matrix.
+    pub fn check_matrix_events(self, count: usize, at: usize) -> Result<usize, Refused>
+        requires { at ≤ self.end }
+        ensures { told result ≡ walked (items (event_at self.entry.file.now self.entry.end (names_of self.entry.file.now self.entry.shape)) count at) }
+    {
+        let mut p = at;
+        for _ in 0..count {
+            p = self.check_event(p)?;
         }
-        before = p;
-        p = n;
+        Ok(p)
     }
-    Ok((p, normals))
-}
 
-// The invariant, and the constraint behind it.
-pub fn check_last(file: &[u8], end: usize, shape: Shape, offsets: Offsets) -> Result<usize, Refused>
-    requires { (end ≤ length file.now) × (3 * shape.variables ≤ length file.now) }
-    ensures { told result ≡ walked (expressions_at file.now end (names_of file.now shape) offsets offsets.invariant) }
-{
-    let p = check_invariant(file, end, shape, offsets.constraint, offsets.invariant)?;
-    check_constraint(file, end, shape, offsets.constrained, p)
+    // The events, matrix by matrix.
+    pub fn check_events(self, mats: usize, at: usize) -> Result<usize, Refused>
+        requires { (at ≤ self.end) × (mats + 2 * self.shape.matrices ≤ length self.file.now) }
+        ensures { told result ≡ walked (events_from self.entry.file.now self.entry.end (names_of self.entry.file.now self.entry.shape) mats 0 self.entry.shape.matrices at) }
+    {
+        let mut p = at;
+        for m in 0..self.shape.matrices {
+            let count = wide(self.file[mats + 2 * m + 1]);
+            p = self.check_matrix_events(count, p)?;
+        }
+        Ok(p)
+    }
+
+    // The cells, with the number of normal ones.
+    pub fn check_cells(
+        self,
+        mats: usize,
+        count: usize,
+        at: usize,
+    ) -> Result<(usize, usize), Refused>
+        requires { (at ≤ self.end) × (count < 65536) × (mats + 2 * self.shape.matrices ≤ length self.file.now) }
+        ensures { (f : ℕ → ℕ → BoolExpr) → told result ≡ counted moves 0 (cells_from self.entry.file.now self.entry.end (names_of self.entry.file.now self.entry.shape) mats f count at at) }
+    {
+        let mut before = at;
+        let mut p = at;
+        let mut normals = 0;
+        for _ in 0..count {
+            let n = self.check_cell(mats, before, p)?;
+            if self.file[p + 3] == CellKind::Normal as u8 {
+                normals += 1;
+            }
+            before = p;
+            p = n;
+        }
+        Ok((p, normals))
+    }
+
+    // The invariant, and the constraint behind it.
+    pub fn check_last(self, offsets: Offsets) -> Result<usize, Refused>
+        ensures { told result ≡ walked (expressions_at self.entry.file.now self.entry.end (names_of self.entry.file.now self.entry.shape) offsets offsets.invariant) }
+    {
+        let p = self.check_invariant(offsets.constraint, offsets.invariant)?;
+        self.check_constraint(offsets.constrained, p)
+    }
 }
 
 // The sections from the cells on, where those before are right.
@@ -128,18 +115,12 @@ pub fn check_from_cells(
     ensures { told result ≡ bodied (sections file.now end counts offsets 0) }
 {
     let shape = shape_of(counts);
-    let (p, normals) = check_cells(
-        file,
-        end,
-        shape,
-        offsets.matrices,
-        counts.cells,
-        offsets.cells,
-    )?;
+    let items = Items { file, end, shape };
+    let (p, normals) = items.check_cells(offsets.matrices, counts.cells, offsets.cells)?;
     if offsets.invariant != p {
         return Err(Refused::Offset(p));
     }
-    let q = check_last(file, end, shape, offsets)?;
+    let q = items.check_last(offsets)?;
     Ok((q, normals + externals))
 }
 
@@ -156,7 +137,8 @@ pub fn check_from_events(
     ensures { told result ≡ bodied (sections file.now end counts offsets 0) }
 {
     let shape = shape_of(counts);
-    let p = check_events(file, end, shape, offsets.matrices, offsets.events)?;
+    let items = Items { file, end, shape };
+    let p = items.check_events(offsets.matrices, offsets.events)?;
     if offsets.cells != p {
         return Err(Refused::Offset(p));
     }

@@ -5,6 +5,12 @@ use Rattle.design.specs.declared.shape.Shape.{Shape}
 use Rattle.design.proofs.File.{cells_of, expressions_of, passed_at, before_cells, few_movers, x_cell, x_invariants, x_expressions, all_passed}
 use Rattle.design.proofs.section.check_from_cells.Goals as goal
 
+pub invariant_of-items : goal.invariant_of-items
+invariant_of-items c =
+    let a = before_cells c.args.file.now c.args.end c.args.counts c.args.offsets _ c.requires.sections_right.0 c.requires.sections_right.1 c.requires.sections_right.2 in
+    let v = ap (λ (s : Shape). s.variables) c.shape_of-shape.ensures in
+    record { room = c.requires.room.0; kinds = omega arith }
+
 pub check_cells-requires : goal.check_cells-requires
 check_cells-requires c =
     let a = before_cells c.args.file.now c.args.end c.args.counts c.args.offsets _ c.requires.sections_right.0 c.requires.sections_right.1

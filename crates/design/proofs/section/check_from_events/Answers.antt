@@ -5,6 +5,12 @@ use Rattle.design.specs.declared.shape.Shape.{Shape}
 use Rattle.design.proofs.File.{events_of, before_events, x_event, x_cells, past_at}
 use Rattle.design.proofs.section.check_from_events.Goals as goal
 
+pub invariant_of-items : goal.invariant_of-items
+invariant_of-items c =
+    let a = before_events c.args.file.now c.args.end c.args.counts c.args.offsets _ c.requires.sections_right.0 c.requires.sections_right.1 in
+    let v = ap (λ (s : Shape). s.variables) c.shape_of-shape.ensures in
+    record { room = c.requires.room.0; kinds = omega arith }
+
 pub check_events-requires : goal.check_events-requires
 check_events-requires c =
     let a = before_events c.args.file.now c.args.end c.args.counts c.args.offsets _ c.requires.sections_right.0 c.requires.sections_right.1 in let v = ap (λ (s : Shape). s.variables) c.shape_of-shape.ensures

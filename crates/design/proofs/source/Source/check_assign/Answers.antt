@@ -1,4 +1,3 @@
-use native.Mathlib.Omega.{arith}
 use Rattle.design.proofs.Readers.{assign_past, assign_nothing, assign_int, assign_flag}
 use mathlib.Core.Path.{◌∙◌}
 use Rattle.design.proofs.source.Source.check_assign.Goals as goal

@@ -5,8 +5,8 @@ use Rattle.design.proofs.Told.{handed_on}
 use Rattle.design.specs.Tree.{constant_b}
 use Rattle.design.proofs.Cells.{cells_none, cells_refused, cells_next, cell_ends}
 use mathlib.Core.Bool.{true}
-use Rattle.design.proofs.section.check_cells.Goals as goal
-use Rattle.design.proofs.section.check_cells.Goals.{then-file-p, else-file-p}
+use Rattle.design.proofs.source.Items.check_cells.Goals as goal
+use Rattle.design.proofs.source.Items.check_cells.Goals.{then-self-p, else-self-p}
 
 pub loop-init : goal.loop-init
 loop-init c = (omega arith, omega arith, omega arith, λ f. simp unary_clauses refl)
@@ -14,18 +14,18 @@ loop-init c = (omega arith, omega arith, omega arith, λ f. simp unary_clauses r
 pub loop-preserved : goal.loop-preserved
 loop-preserved c =
     let g = cell_ends _ _ _ _ (λ m x. constant_b true) _ _ _ (c.in_ok-n.ensures (λ m x. constant_b true)) in
-    elim c.if-file-p.branch [
-      | then-file-p w ↦ (
+    elim c.if-self-p.branch [
+      | then-self-p w ↦ (
         omega arith,
         g.1,
         omega arith,
-        λ f. cells_next _ _ _ _ f _ _ _ _ _ (omega arith) _ _ (c.in_ok-n.ensures f) (λ q. omega arith) (λ q. absurd (q w.if-file-p.true)) ∙ c.loop.invariant.3 f,
+        λ f. cells_next _ _ _ _ f _ _ _ _ _ (omega arith) _ _ (c.in_ok-n.ensures f) (λ q. omega arith) (λ q. absurd (q w.if-self-p.true)) ∙ c.loop.invariant.3 f,
       )
-      | else-file-p w ↦ (
+      | else-self-p w ↦ (
         omega arith,
         g.1,
         omega arith,
-        λ f. cells_next _ _ _ _ f _ _ _ _ _ (omega arith) _ _ (c.in_ok-n.ensures f) (λ q. absurd (w.if-file-p.false q)) (λ q. omega arith) ∙ c.loop.invariant.3 f,
+        λ f. cells_next _ _ _ _ f _ _ _ _ _ (omega arith) _ _ (c.in_ok-n.ensures f) (λ q. absurd (w.if-self-p.false q)) (λ q. omega arith) ∙ c.loop.invariant.3 f,
       )
     ]
 
