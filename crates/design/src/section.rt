@@ -102,68 +102,7 @@ impl<'a> Items<'a> {
     }
 }
 
-// The sections from the cells on, where those before are right.
-pub fn check_from_cells(
-    file: &[u8],
-    end: usize,
-    counts: Counts,
-    offsets: Offsets,
-    externals: usize,
-) -> Result<(usize, usize), Refused>
-    requires room { (end + trailer_bytes ≤ length file.now) × SmallCounts counts }
-    requires sections_right { VariablesRight file.now end counts offsets externals × MatricesRight file.now end counts offsets × EventsRight file.now end counts offsets }
-    ensures { told result ≡ bodied (sections file.now end counts offsets 0) }
-{
-    let shape = shape_of(counts);
-    let items = Items { file, end, shape };
-    let (p, normals) = items.check_cells(offsets.matrices, counts.cells, offsets.cells)?;
-    if offsets.invariant != p {
-        return Err(Refused::Offset(p));
-    }
-    let q = items.check_last(offsets)?;
-    Ok((q, normals + externals))
-}
-
-// The sections from the events on, likewise.
-pub fn check_from_events(
-    file: &[u8],
-    end: usize,
-    counts: Counts,
-    offsets: Offsets,
-    externals: usize,
-) -> Result<(usize, usize), Refused>
-    requires room { (end + trailer_bytes ≤ length file.now) × SmallCounts counts }
-    requires sections_right { VariablesRight file.now end counts offsets externals × MatricesRight file.now end counts offsets }
-    ensures { told result ≡ bodied (sections file.now end counts offsets 0) }
-{
-    let shape = shape_of(counts);
-    let items = Items { file, end, shape };
-    let p = items.check_events(offsets.matrices, offsets.events)?;
-    if offsets.cells != p {
-        return Err(Refused::Offset(p));
-    }
-    check_from_cells(file, end, counts, offsets, externals)
-}
-
-// The sections from the matrices on, likewise.
-pub fn check_from_matrices(
-    file: &[u8],
-    end: usize,
-    counts: Counts,
-    offsets: Offsets,
-    externals: usize,
-) -> Result<(usize, usize), Refused>
-    requires { (end + trailer_bytes ≤ length file.now) × SmallCounts counts × VariablesRight file.now end counts offsets externals }
-    ensures { told result ≡ bodied (sections file.now end counts offsets 0) }
-{
-    let p = check_matrices(file, end, counts.matrices, offsets.matrices)?;
-    if offsets.events != p {
-        return Err(Refused::Offset(p));
-    }
-    check_from_events(file, end, counts, offsets, externals)
-}
-
-// All sections, each at its offset.
+// All sections, each at its offset: the position past them, and the number of movers.
 pub fn check_sections(
     file: &[u8],
     end: usize,
@@ -173,9 +112,24 @@ pub fn check_sections(
     requires { (end + trailer_bytes ≤ length file.now) × SmallCounts counts }
     ensures { told result ≡ bodied (sections file.now end counts offsets 0) }
 {
-    let (p, externals) = check_variables(file, end, counts.variables)?;
-    if offsets.matrices != p {
-        return Err(Refused::Offset(p));
+    let (matrices, externals) = check_variables(file, end, counts.variables)?;
+    if offsets.matrices != matrices {
+        return Err(Refused::Offset(matrices));
     }
-    check_from_matrices(file, end, counts, offsets, externals)
+    let events = check_matrices(file, end, counts.matrices, offsets.matrices)?;
+    if offsets.events != events {
+        return Err(Refused::Offset(events));
+    }
+    let shape = shape_of(counts);
+    let items = Items { file, end, shape };
+    let cells = items.check_events(offsets.matrices, offsets.events)?;
+    if offsets.cells != cells {
+        return Err(Refused::Offset(cells));
+    }
+    let (invariant, normals) = items.check_cells(offsets.matrices, counts.cells, offsets.cells)?;
+    if offsets.invariant != invariant {
+        return Err(Refused::Offset(invariant));
+    }
+    let past = items.check_last(offsets)?;
+    Ok((past, normals + externals))
 }
