@@ -9,7 +9,7 @@ use lib.ListN.{length, length-append, length-map}
 use lib.Dec.{leb, eqb}
 use borrow.Author.Tests.{leb-true, le-leb, lt-leb, eq-eqb, ne_eqb}
 use Rattle.design.specs.Tree.{BoolExpr, Variable, Kind, boolean, integer, external, if_external, externals, Design, cell, raise, movers}
-use Rattle.design.specs.Limits.{max_bytes, trailer_bytes, last_version, constrained, offset_bytes, tail_bytes, max_variables, max_matrices, max_cells, max_movers, length_right, version_right, counts_right, movers_right}
+use Rattle.design.specs.Limits.{max_bytes, trailer_bytes, constrained, offset_bytes, tail_bytes, length_right, version_right, counts_right, movers_right}
 use Rattle.design.specs.Expression.{Names}
 use Rattle.design.specs.DesignFile.{Item, item, refused, Walk, need, after, items, offset, at16, Matrix, Entry, normal, invalid, variable_at, matrix_at, event_at, events, events_from, cell_at, cells_from, invariant_at, constraint_at}
 use Rattle.design.specs.Check.{event_in, normals, invalids, sections, trailer, version, has_constraint, items_end, constraint_offset, variable_count, matrix_count, cell_count, body, last, check, refusal, names_of, names_by, trailer_counts, trailer_offsets}
