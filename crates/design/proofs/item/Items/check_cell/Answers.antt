@@ -1,7 +1,7 @@
 use Rattle.design.proofs.Told.{handed_on}
 use native.Mathlib.Omega.{arith}
 use Rattle.design.proofs.Cells.{cell_passes, cell_fields, cell_order, cell_invalid, cell_guard, cell_action}
-use Rattle.design.proofs.source.Items.check_cell.Goals as goal
+use Rattle.design.proofs.item.Items.check_cell.Goals as goal
 
 pub returns-then-self-past : goal.returns-then-self-past
 returns-then-self-past c = λ f. cell_passes _ _ _ _ f _ _ _ (omega arith) c.if-self-past.true

@@ -5,8 +5,8 @@ use Rattle.design.proofs.Told.{handed_on}
 use Rattle.design.specs.Tree.{constant_b}
 use Rattle.design.proofs.Cells.{cells_none, cells_refused, cells_next, cell_ends}
 use mathlib.Core.Bool.{true}
-use Rattle.design.proofs.source.Items.check_cells.Goals as goal
-use Rattle.design.proofs.source.Items.check_cells.Goals.{then-self-p, else-self-p}
+use Rattle.design.proofs.item.Items.check_cells.Goals as goal
+use Rattle.design.proofs.item.Items.check_cells.Goals.{then-self-p, else-self-p}
 
 pub loop-init : goal.loop-init
 loop-init c = (omega arith, omega arith, omega arith, λ f. simp unary_clauses refl)

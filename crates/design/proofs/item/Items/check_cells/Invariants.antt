@@ -4,7 +4,7 @@ use Rattle.design.specs.Tree.{BoolExpr}
 use Rattle.design.specs.DesignFile.{cells_from}
 use Rattle.design.specs.Check.{names_of}
 use Rattle.design.specs.Answers.{counted, moves}
-use Rattle.design.proofs.source.Items.check_cells.Given as goal
+use Rattle.design.proofs.item.Items.check_cells.Given as goal
 
 abbrev pub invariant-loop : goal.invariant-loop
 invariant-loop l = (l.before ≤ l.self.end) × (l.p ≤ l.self.end) × (l.normals ≤ l.counter) ×

@@ -4,7 +4,7 @@ use native.Mathlib.Numerals.{unary_clauses}
 use mathlib.Core.Path.{refl, ◌∙◌}
 use Rattle.design.proofs.Told.{handed_on}
 use Rattle.design.proofs.Items.{rows_none, rows_refused, rows_next, row_ends}
-use Rattle.design.proofs.source.Items.check_events.Goals as goal
+use Rattle.design.proofs.item.Items.check_events.Goals as goal
 
 pub loop-m-init : goal.loop-m-init
 loop-m-init c = (omega arith, simp unary_clauses refl)

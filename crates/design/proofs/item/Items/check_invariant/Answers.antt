@@ -1,5 +1,5 @@
 use Rattle.design.proofs.Items.{invariant_before, invariant_passes, invariant_read}
-use Rattle.design.proofs.source.Items.check_invariant.Goals as goal
+use Rattle.design.proofs.item.Items.check_invariant.Goals as goal
 
 pub returns-then-past-at : goal.returns-then-past-at
 returns-then-past-at c = invariant_before _ _ _ _ _ c.if-past-at.true

@@ -3,7 +3,7 @@ use native.Mathlib.Numerals.{unary_clauses}
 use mathlib.Core.Path.{refl, ◌∙◌}
 use Rattle.design.proofs.Told.{handed_on}
 use Rattle.design.proofs.Items.{items_none, items_refused, items_next, event_ends}
-use Rattle.design.proofs.source.Items.check_matrix_events.Goals as goal
+use Rattle.design.proofs.item.Items.check_matrix_events.Goals as goal
 
 pub loop-init : goal.loop-init
 loop-init c = (omega arith, simp unary_clauses refl)

@@ -3,7 +3,7 @@ use mathlib.Core.Path.{◌≡◌}
 use Rattle.design.specs.DesignFile.{events_from}
 use Rattle.design.specs.Check.{names_of}
 use Rattle.design.specs.Answers.{walked}
-use Rattle.design.proofs.source.Items.check_events.Given as goal
+use Rattle.design.proofs.item.Items.check_events.Given as goal
 
 abbrev pub invariant-loop-m : goal.invariant-loop-m
 invariant-loop-m l = (l.p ≤ l.self.end) ×
