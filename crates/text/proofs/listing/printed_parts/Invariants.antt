@@ -6,6 +6,3 @@ use Rattle.text.proofs.listing.printed_parts.Given as goal
 
 abbrev pub invariant-loop-i : goal.invariant-loop-i
 invariant-loop-i l = Fine l.file l.property l.bound l.i × (length l.words ≡ length l.initial.words)
-
-abbrev pub decreases-loop-i : goal.decreases-loop-i
-decreases-loop-i l = l.bound + 3 - l.i

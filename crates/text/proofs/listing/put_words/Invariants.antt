@@ -5,6 +5,3 @@ use Rattle.text.proofs.listing.put_words.Given as goal
 
 abbrev pub invariant-loop-i : goal.invariant-loop-i
 invariant-loop-i l = WordsLeft l.words l.i l.initial.out l.out l.p × (l.i ≤ length l.words)
-
-abbrev pub decreases-loop-i : goal.decreases-loop-i
-decreases-loop-i l = length l.words - l.i
