@@ -1,5 +1,4 @@
 use mathlib.Core.Path.{◌≡◌}
-use Prim.Native.Nat.{◌+◌, ◌-◌}
 use lib.ListN.{length}
 use Rattle.text.proofs.Parts.{Fine}
 use Rattle.text.proofs.listing.printed_parts.Given as goal

@@ -1,4 +1,4 @@
-use Prim.Native.Nat.{◌≤◌, ◌-◌}
+use Prim.Native.Nat.{◌≤◌}
 use lib.ListN.{length}
 use Rattle.text.proofs.Parts.{WordsLeft}
 use Rattle.text.proofs.listing.put_words.Given as goal

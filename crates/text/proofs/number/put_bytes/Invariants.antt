@@ -1,4 +1,4 @@
-use Prim.Native.Nat.{◌≤◌, ◌-◌}
+use Prim.Native.Nat.{◌≤◌}
 use lib.ListN.{length, drop}
 use Rattle.text.proofs.Putting.{Rest}
 use Rattle.text.proofs.number.put_bytes.Given as goal
