@@ -29,9 +29,8 @@ pub fn judge<'a>(
         ≡ exit (verdict_of file.now piece.now property bound budget
         (record { clauses = clauses.old; values = values.old; trail = trail.old; choices = choices.old })) }
 {
-    let mut i: u64 = 0;
     let mut tries: u64 = 0;
-    loop {
+    for i in 0..=bound {
         let f = write_formula(file, piece, property, i, clauses);
         let m = f.words;
         let n = f.variables;
@@ -42,8 +41,7 @@ pub fn judge<'a>(
             budget - tries,
         );
         tries += r.tries;
-        let a = r.answer;
-        match a {
+        match r.answer {
             Answered::Sat => {
                 decode(file, piece, property, i, values, choices);
                 return Told {
@@ -57,15 +55,11 @@ pub fn judge<'a>(
                     tries,
                 };
             }
-            Answered::Unsat => {
-                if i == bound {
-                    return Told {
-                        verdict: Verdict::Clean,
-                        tries,
-                    };
-                }
-            }
+            Answered::Unsat => {}
         }
-        i += 1;
+    }
+    Told {
+        verdict: Verdict::Clean,
+        tries,
     }
 }

@@ -97,13 +97,11 @@ fn each_owner<'a>(
         (take count (owners_of (map (λ x. x.now) pieces.now) budgets.now (map (λ x. x.now) choices.old))) (map (λ x. x.now) choices.old))
         (map (λ x. x.ref_ptr) choices.old) answers.old }
 {
-    let mut i = 0;
-    while i < count {
+    for i in 0..count {
         let r = one_owner(
             file, pieces[i], bound, budgets[i], clauses, values, trail, choices[i],
         );
         answers[i] = owner_words(r);
-        i += 1;
     }
 }
 
