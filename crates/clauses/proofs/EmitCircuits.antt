@@ -7,7 +7,7 @@ use Rattle.clauses.specs.Circuit.{Build, give, ◌>>=◌, and!, xor!, or!, Bits,
 use Rattle.clauses.specs.Writing.{from_code, from_codes, Emits}
 use Rattle.clauses.specs.Builders.{SumBit, sum_bit! }
 use Rattle.clauses.proofs.EmitWords.{append-nil, code_no}
-use Rattle.clauses.proofs.EmitLists.{drop_one, drop_all, drop_none, take_all, codes_more}
+use Rattle.clauses.proofs.EmitLists.{drop_one, drop_all, take_all, codes_more}
 use Rattle.clauses.proofs.EmitBuilds.{emits_same, emits_result, emits_give, emits_bind, emits_map, Left, left_start, left_on, left_map, left_same, left_result, left_end}
 
 pub bit_emits : (n : ℕ) (a b c p s u t k : Literal) {xs x1 x2 x3 x4 x5 : List ℤ} {c0 c1 c2 c3 c4 c5 v1 v2 v3 v4 v5 : ℕ}

@@ -1,5 +1,5 @@
 -- The flat state: a slot set, and all bits muxed. Assumes nothing.
-use Rattle.std.proofs.Common.{◌≡◌, ℕ, zero, suc, ◌+◌, ◌-◌, ◌*◌, ◌<◌, ◌≤◌, Bool, false, cond, eqb, List, [], ◌∷◌, ◌++◌, length, get_or, take, drop, set, ℤ, sym, refl, ap, ◌∙◌, ap₂, append_assoc, add-one, arith, length-append, length-drop, length-set, take-append-drop, length-take-le, drop-cons, get_or-set_other, get_or-take, take-suc, drop-drop, take_at, take-add, drop_at}
+use Rattle.std.proofs.Common.{◌≡◌, ℕ, zero, suc, ◌+◌, ◌-◌, ◌*◌, ◌<◌, ◌≤◌, Bool, false, cond, eqb, List, [], ◌∷◌, ◌++◌, length, get_or, take, drop, set, ℤ, sym, refl, ap, ◌∙◌, ap₂, append_assoc, add-one, arith, length-append, length-drop, length-set, length-take-le, get_or-set_other, get_or-take, drop-drop, take_at, take-add, drop_at}
 use lib.Seq.{set_split}
 use borrow.Rule.Slice.PartMut.{put_mid}
 use Rattle.design.specs.declared.shape.Shape.{Shape}
@@ -15,7 +15,7 @@ use Rattle.clauses.proofs.EmitWords.{append-nil}
 use Rattle.clauses.proofs.EmitLists.{codes_append, codes_length, codes_take, codes_drop, take_all, take_none}
 use Rattle.clauses.proofs.EmitBuilds.{emits_same, emits_result, emits_map}
 use Rattle.clauses.proofs.EmitCircuits.{Row, Rowing, rowing_start, rowing_on, rowing_end}
-use Rattle.clauses.proofs.EmitSlots.{set_seam, variable_width, variable_start, variable_room, integer_width, boolean_width, status_width_lem, status_start, mark_width_lem, mark_start, widths_length}
+use Rattle.clauses.proofs.EmitSlots.{variable_width, variable_start, variable_room, integer_width, boolean_width, status_width_lem, status_start, mark_width_lem, mark_start, widths_length}
 
 pub cut_set : (ws : List ℕ) (v : ℕ) (xs g : List Literal) → v < length ws → length g ≡ get_or ws v 0 → total ws ≤ length xs
     → cut ws (take (total (take v ws)) xs ++ (g ++ drop (total (take v ws) + length g) xs)) ≡ set (cut ws xs) v g

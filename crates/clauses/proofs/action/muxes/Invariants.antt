@@ -1,4 +1,4 @@
-use Rattle.std.proofs.Common.{◌≡◌, ◌-◌, length}
+use Rattle.std.proofs.Common.{◌≡◌, length}
 use Rattle.clauses.specs.Writing.{from_code}
 use Rattle.clauses.proofs.EmitStates.{Muxing}
 use Rattle.clauses.proofs.action.muxes.Given as goal

@@ -1,8 +1,7 @@
-use Rattle.std.proofs.Common.{◌≡◌, ◌-◌, length}
+use Rattle.std.proofs.Common.{◌≡◌, length}
 use Rattle.clauses.specs.Writing.{from_code}
 use Rattle.clauses.proofs.EmitCircuits.{Chaining}
 use Rattle.clauses.proofs.circuit.chain.Given as goal
 
 abbrev pub invariant-loop-l : goal.invariant-loop-l
 invariant-loop-l l = Chaining l.fn.x (from_code l.c) l.var l.initial.buf l.cur l.buf (from_code l.part.lit) l.part.cur l.part.var l.l-index × (length l.buf ≡ length l.initial.buf)
-

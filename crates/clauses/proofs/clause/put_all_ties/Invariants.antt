@@ -1,4 +1,4 @@
-use Rattle.std.proofs.Common.{◌≡◌, ◌-◌, length}
+use Rattle.std.proofs.Common.{◌≡◌, length}
 use Rattle.clauses.proofs.EmitFrames.{Tied}
 use Rattle.clauses.proofs.clause.put_all_ties.Given as goal
 

@@ -1,4 +1,4 @@
-use Rattle.std.proofs.Common.{◌≡◌, ◌-◌, length}
+use Rattle.std.proofs.Common.{◌≡◌, length}
 use Rattle.clauses.specs.Words.{clause_words}
 use Rattle.clauses.proofs.EmitClauses.{Putting}
 use Rattle.clauses.proofs.clause.put_any.Given as goal

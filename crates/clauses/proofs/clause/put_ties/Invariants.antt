@@ -1,4 +1,4 @@
-use Rattle.std.proofs.Common.{◌≡◌, ◌+◌, ◌-◌, ◌≤◌, length}
+use Rattle.std.proofs.Common.{◌≡◌, ◌+◌, ◌≤◌, length}
 use Rattle.clauses.specs.Writing.{variable_limit}
 use Rattle.clauses.specs.Literal.{positive}
 use Rattle.clauses.proofs.EmitClauses.{Tying}

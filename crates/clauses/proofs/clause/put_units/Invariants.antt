@@ -1,4 +1,4 @@
-use Rattle.std.proofs.Common.{◌≡◌, ◌-◌, length}
+use Rattle.std.proofs.Common.{◌≡◌, length}
 use Rattle.clauses.proofs.EmitClauses.{Giving}
 use Rattle.clauses.proofs.clause.put_units.Given as goal
 

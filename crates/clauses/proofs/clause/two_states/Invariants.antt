@@ -1,4 +1,3 @@
-use Rattle.std.proofs.Common.{◌-◌}
 use Rattle.clauses.proofs.EmitClauses.{TwoRuns}
 use Rattle.clauses.proofs.clause.two_states.Given as goal
 

@@ -1,4 +1,3 @@
-use Rattle.std.proofs.Common.{◌-◌}
 use Rattle.clauses.proofs.EmitClauses.{Listing}
 use Rattle.clauses.proofs.clause.variables.Given as goal
 

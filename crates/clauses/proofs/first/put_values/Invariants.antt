@@ -1,4 +1,4 @@
-use Rattle.std.proofs.Common.{◌≡◌, ◌-◌, length}
+use Rattle.std.proofs.Common.{◌≡◌, length}
 use Rattle.clauses.proofs.EmitParts.{Valuing}
 use Rattle.clauses.proofs.first.put_values.Given as goal
 

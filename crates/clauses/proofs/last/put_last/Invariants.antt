@@ -1,4 +1,4 @@
-use Rattle.std.proofs.Common.{◌≡◌, ◌-◌, length}
+use Rattle.std.proofs.Common.{◌≡◌, length}
 use Rattle.clauses.proofs.EmitParts.{Closing}
 use Rattle.clauses.proofs.last.put_last.Given as goal
 

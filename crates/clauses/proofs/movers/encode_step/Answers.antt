@@ -55,8 +55,8 @@ loop-i-preserved c =
     let total = mover_total shaped c.requires.2 in
     let slots = slots_of c.args.file.now c.args.shape c.args.bits.now in (
       elim c.if-i-shape.branch [
-        then-i-shape w ↦ rw (w.t-is, w.buf-is) (moving_on c.args.file.now c.args.shape c.args.bits.now _ c.loop-i-test.true few total c.loop-i.invariant.0 _ (cell_is shaped c.requires.2 (layout_of c.args.shape) slots c.loop-i.i w.if-i-shape.true w.encode_cell-t.ensures))
-      | else-i-shape w ↦ rw (w.t-is, w.buf-is) (moving_on c.args.file.now c.args.shape c.args.bits.now _ c.loop-i-test.true few total c.loop-i.invariant.0 _ (external_is shaped c.requires.2 (layout_of c.args.shape) slots c.loop-i.i w.if-i-shape.false _ w.external-v.ensures.0 c.loop-i-test.true w.encode_external-t.ensures))
+        | then-i-shape w ↦ rw (w.t-is, w.buf-is) (moving_on c.args.file.now c.args.shape c.args.bits.now _ c.loop-i-test.true few total c.loop-i.invariant.0 _ (cell_is shaped c.requires.2 (layout_of c.args.shape) slots c.loop-i.i w.if-i-shape.true w.encode_cell-t.ensures))
+        | else-i-shape w ↦ rw (w.t-is, w.buf-is) (moving_on c.args.file.now c.args.shape c.args.bits.now _ c.loop-i-test.true few total c.loop-i.invariant.0 _ (external_is shaped c.requires.2 (layout_of c.args.shape) slots c.loop-i.i w.if-i-shape.false _ w.external-v.ensures.0 c.loop-i-test.true w.encode_external-t.ensures))
       ],
       omega arith,
     )

@@ -1,4 +1,4 @@
-use Rattle.std.proofs.Common.{◌≡◌, ◌+◌, ◌-◌, length}
+use Rattle.std.proofs.Common.{◌≡◌, length}
 use Rattle.clauses.proofs.EmitSteps.{Moving}
 use Rattle.clauses.proofs.movers.encode_step.Given as goal
 

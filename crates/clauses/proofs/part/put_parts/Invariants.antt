@@ -1,4 +1,3 @@
-use Rattle.std.proofs.Common.{◌+◌, ◌-◌}
 use Rattle.clauses.proofs.EmitFormula.{PartsLeft}
 use Rattle.clauses.proofs.part.put_parts.Given as goal
 

@@ -1,4 +1,4 @@
-use Rattle.std.proofs.Common.{◌≡◌, ◌-◌, length}
+use Rattle.std.proofs.Common.{◌≡◌, length}
 use Rattle.clauses.specs.Writing.{from_code}
 use Rattle.clauses.proofs.EmitSteps.{Scanning}
 use Rattle.clauses.proofs.property.encode_invalid.Given as goal
