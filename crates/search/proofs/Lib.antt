@@ -20,7 +20,6 @@ pub mod Scanning
 pub mod Prefixes
 pub mod Seeking
 pub mod State
-pub mod Filling
 pub mod Steps
 pub mod Branching
 pub mod Running

@@ -9,20 +9,17 @@ use lib.IntN.{ℤ, pos}
 use lib.ListN.{length, get_or, drop, take, replicate, length-replicate, drop_of_length-le}
 use lib.Seq.{length-take-le}
 use borrow.Author.Tests.{lt-ltb, le-ltb, not-true, not-false}
+use Rattle.std.specs.Prelude.{Option, None, Some}
 use Rattle.clauses.specs.Literal.{Literal, Clause}
 use Rattle.clauses.specs.Meaning.{Within}
 use Rattle.clauses.specs.Words.{is_end, clauses_of}
-use Rattle.search.specs.Search.{Place, none, at}
-use Rattle.search.specs.Answers.{declared_spot}
 use Rattle.search.specs.Solve.{outside, bad_word, at_place}
 use Rattle.search.specs.Refutation.{set_false, reaches, holds_both, follows, judged, AfterRefute, refuses, refute, Refutes, Right}
 use Rattle.search.specs.Memory.{AllIn, first_clause, has_end, rest_words, Past, AllUnset, Denied, Two, both_of, Reaches, ReadTo, follows_at}
 use Rattle.search.proofs.Reading.{inside_end, inside_next, within_words}
 use Rattle.search.proofs.Prefixes.{clause_at, next_place, read_next, clauses_next, inside_take}
 use Rattle.search.proofs.BadWords.{good_words}
-use Rattle.search.proofs.Solving.{no_place}
 use Rattle.search.proofs.Refutations.{follows_from, from_follows, refutes_none, accepted_refutes, refutes_accepted}
-use Rattle.search.specs.declared.words.Spot.TheVariants.{Nowhere, At}
 use Rattle.search.specs.declared.refute.Judged.{Judged}
 use Rattle.search.specs.declared.refute.Judged.TheVariants.{Accepted, Word, Ended}
 use Rattle.search.specs.declared.refute.Reply.TheVariants.{Refused, Done}
@@ -117,21 +114,17 @@ module _ {n : ℕ} {ws ds : List ℤ} {i : ℕ} (h : Judging n ws ds i) where
           go (m ∷ ms) q e = rw e
 
 -- a place of a word lies within the words
-pub word_low : (n : ℕ) (ws : List ℤ) {i : ℕ} → At i ≡ declared_spot (bad_word n 0 false ws) → i ≤ length ws
-word_low n ws {i} e = go (bad_word n 0 false ws) refl e
+pub word_low : (n : ℕ) (ws : List ℤ) {i : ℕ} → Some i ≡ bad_word n 0 false ws → i ≤ length ws
+word_low n ws {i} e = let h = low 0 false ws i (sym e) in omega arith
   where
-    low : (j : ℕ) (begun : Bool) (ws : List ℤ) (k : ℕ) → bad_word n j begun ws ≡ at k → k ≤ j + length ws
+    low : (j : ℕ) (begun : Bool) (ws : List ℤ) (k : ℕ) → bad_word n j begun ws ≡ Some k → k ≤ j + length ws
     low j true [] k e = let q : j ≡ k = cc in omega arith
     low j false [] k e = absurd (let z : ◌≡◌ {A = ℕ} 0 1 = cc in omega arith)
     low j begun (w ∷ ws) k e = pick (outside n w) e (low (suc j) (not (is_end w)) ws k)
       where
-        pick : (b : Bool) → cond b (at j) (bad_word n (suc j) (not (is_end w)) ws) ≡ at k → (bad_word n (suc j) (not (is_end w)) ws ≡ at k → k ≤ suc j + length ws) → k ≤ j + suc (length ws)
+        pick : (b : Bool) → cond b (Some j) (bad_word n (suc j) (not (is_end w)) ws) ≡ Some k → (bad_word n (suc j) (not (is_end w)) ws ≡ Some k → k ≤ suc j + length ws) → k ≤ j + suc (length ws)
         pick true e h = let q : j ≡ k = cc in omega arith
         pick false e h = let q = h e in omega arith
-
-    go : (p : Place) → bad_word n 0 false ws ≡ p → At i ≡ declared_spot p → i ≤ length ws
-    go none q e = absurd (let z : ◌≡◌ {A = ℕ} 0 1 = cc in omega arith)
-    go (at j) q e = let x : i ≡ j = cc in let h = low 0 false ws j q in omega arith
 
 -- REFUTE's cases. Past the refusals of n and of the words, and past those of n and of the list:
 abbrev rest : ℕ → List ℤ → List ℤ → List ℕ → AfterRefute
@@ -146,29 +139,21 @@ module _ (n : ℕ) (ws ds : List ℤ) (vs : List ℕ) where
   refute_large h = rw (lt-ltb 2147483647 n h)
 
   module _ (small : n ≤ 2147483647) where
-    pub refute_list : {i : ℕ} → At i ≡ declared_spot (bad_word n 0 false ws) → refuses 17 i vs ≡ refute n ws ds vs
+    pub refute_list : {i : ℕ} → Some i ≡ bad_word n 0 false ws → refuses 17 i vs ≡ refute n ws ds vs
     unfolding refute
-    refute_list {i} e = rw (le-ltb 2147483647 n small) (go (bad_word n 0 false ws) e)
-      where
-        go : (p : Place) → At i ≡ declared_spot p → refuses 17 i vs ≡ at_place p (λ i. refuses 17 i vs) (listed n ws ds vs)
-        go none e = absurd (let z : ◌≡◌ {A = ℕ} 0 1 = cc in omega arith)
-        go (at j) e = let q : i ≡ j = cc in ap (λ (x : ℕ). refuses 17 x vs) q
+    refute_list e = rw (le-ltb 2147483647 n small, ← e)
 
-    module _ (good : Nowhere ≡ declared_spot (bad_word n 0 false ws)) where
+    module _ (good : None ≡ bad_word n 0 false ws) where
       past_list : listed n ws ds vs ≡ refute n ws ds vs
       unfolding refute
-      past_list = rw (le-ltb 2147483647 n small, no_place (bad_word n 0 false ws) good)
+      past_list = rw (le-ltb 2147483647 n small, ← good)
 
-      pub refute_refutation : {i : ℕ} → At i ≡ declared_spot (bad_word n 0 false ds) → refuses 17 (length ws + i) vs ≡ refute n ws ds vs
-      refute_refutation {i} e = go (bad_word n 0 false ds) e ∙ past_list
-        where
-          go : (p : Place) → At i ≡ declared_spot p → refuses 17 (length ws + i) vs ≡ at_place p (λ i. refuses 17 (length ws + i) vs) (rest n ws ds vs)
-          go none e = absurd (let z : ◌≡◌ {A = ℕ} 0 1 = cc in omega arith)
-          go (at j) e = let q : i ≡ j = cc in ap (λ (x : ℕ). refuses 17 (length ws + x) vs) q
+      pub refute_refutation : {i : ℕ} → Some i ≡ bad_word n 0 false ds → refuses 17 (length ws + i) vs ≡ refute n ws ds vs
+      refute_refutation {i} e = (let g : refuses 17 (length ws + i) vs ≡ listed n ws ds vs = rw (← e) in g) ∙ past_list
 
-      module _ (good₂ : Nowhere ≡ declared_spot (bad_word n 0 false ds)) where
+      module _ (good₂ : None ≡ bad_word n 0 false ds) where
         past : rest n ws ds vs ≡ refute n ws ds vs
-        past = (let g : rest n ws ds vs ≡ listed n ws ds vs = rw (no_place (bad_word n 0 false ds) good₂) in g) ∙ past_list
+        past = (let g : rest n ws ds vs ≡ listed n ws ds vs = rw (← good₂) in g) ∙ past_list
 
         pub refute_values : length vs < n → refuses 16 0 vs ≡ refute n ws ds vs
         refute_values l = (let g : refuses 16 0 vs ≡ rest n ws ds vs = rw (lt-ltb (length vs) n l) in g) ∙ past
@@ -176,8 +161,8 @@ module _ (n : ℕ) (ws ds : List ℤ) (vs : List ℕ) where
         module _ (long : n ≤ length vs) where
           pub refute_two : Two (length (take n vs)) ws ds
           refute_two =
-              let g = good_words n 0 false ws (no_place (bad_word n 0 false ws) good) in
-              let h = good_words n 0 false ds (no_place (bad_word n 0 false ds) good₂) in
+              let g = good_words n 0 false ws (sym good) in
+              let h = good_words n 0 false ds (sym good₂) in
               rw (length-take-le n vs long) (record { inside = g.0; closes = g.1; inside₂ = h.0; closes₂ = h.1 })
 
           pub refute_done : {r : Judged} {vs₃ : List ℕ} → r ≡ judged (length (take n vs)) 0 (clauses_of ws) (clauses_of ds) → vs₃ ≡ replicate (length (take n vs)) 0
@@ -201,7 +186,7 @@ answers n ws ds vs j e = large (ltb (2 ^ 31 - 1) n) e
     refused : {i k : ℕ} → Refused i k ≡ Done j → ⊥
     refused e = let z : ◌≡◌ {A = ℕ} 0 1 = cc in omega arith
 
-    short : bad_word n 0 false ws ≡ none → bad_word n 0 false ds ≡ none → (b : Bool)
+    short : bad_word n 0 false ws ≡ None → bad_word n 0 false ds ≡ None → (b : Bool)
         → (cond b (refuses 16 0 vs) (record { reply = Done (judged n 0 (clauses_of ws) (clauses_of ds)); values = replicate n 0 ++ drop n vs })).reply ≡ Done j → Answers n ws ds j
     short p q true e = absurd (refused e)
     short p q false e =
@@ -211,13 +196,13 @@ answers n ws ds vs j e = large (ltb (2 ^ 31 - 1) n) e
           judges = (let k : judged n 0 (clauses_of ws) (clauses_of ds) ≡ j = cc in sym k);
         }
 
-    second : bad_word n 0 false ws ≡ none → (p : Place) → bad_word n 0 false ds ≡ p → (at_place p (λ i. refuses 17 (length ws + i) vs) (rest n ws ds vs)).reply ≡ Done j → Answers n ws ds j
-    second p none q e = short p q (ltb (length vs) n) e
-    second p (at i) q e = absurd (refused e)
+    second : bad_word n 0 false ws ≡ None → (p : Option ℕ) → bad_word n 0 false ds ≡ p → (at_place p (λ i. refuses 17 (length ws + i) vs) (rest n ws ds vs)).reply ≡ Done j → Answers n ws ds j
+    second p None q e = short p q (ltb (length vs) n) e
+    second p (Some i) q e = absurd (refused e)
 
-    first : (p : Place) → bad_word n 0 false ws ≡ p → (at_place p (λ i. refuses 17 i vs) (listed n ws ds vs)).reply ≡ Done j → Answers n ws ds j
-    first none p e = second p (bad_word n 0 false ds) refl e
-    first (at i) p e = absurd (refused e)
+    first : (p : Option ℕ) → bad_word n 0 false ws ≡ p → (at_place p (λ i. refuses 17 i vs) (listed n ws ds vs)).reply ≡ Done j → Answers n ws ds j
+    first None p e = second p (bad_word n 0 false ds) refl e
+    first (Some i) p e = absurd (refused e)
 
     large : (b : Bool) → (cond b (refuses 17 0 vs) (at_place (bad_word n 0 false ws) (λ i. refuses 17 i vs) (listed n ws ds vs))).reply ≡ Done j → Answers n ws ds j
     large true e = absurd (refused e)

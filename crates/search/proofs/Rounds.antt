@@ -57,13 +57,19 @@ after_unit {base} {ws} {next = next} f =
     let e : next ≡ base + next - base = omega arith in
     record { unit = f.unit; bit = f.bit; starts = (omega arith, subst (Starts ws) e f.starts) }
 
+-- what is found away from a unit says nothing of places
+pub elsewhere : (P Q : ℕ → Type 0) (σ : Values) (cs : List Clause) (r : Found) → ((v b next : ℕ) → r ≡ UnitAt v b next → ⊥) → Finds P σ cs r → Finds Q σ cs r
+elsewhere P Q σ cs Nothing n f = f
+elsewhere P Q σ cs Conflict n f = f
+elsewhere P Q σ cs (UnitAt v b next) n f = absurd (n v b next refl)
+
 found_among : (P Q : ℕ → Type 0) (σ : Values) (cs ds : List Clause) → ((i : ℕ) → P i → Q i) → Quiet σ cs → (r : Found) → Finds P σ ds r → Finds Q σ (cs ++ ds) r
 found_among P Q σ cs ds h q Nothing f = quiet_both σ cs ds q f
 found_among P Q σ cs ds h q Conflict f = conflict_after σ cs ds f
 found_among P Q σ cs ds h q (UnitAt v b next) f = record { unit = unit_after σ cs ds (literal_from v b) f.unit; bit = f.bit; starts = h next f.starts }
 
 found_before : (P Q : ℕ → Type 0) (σ : Values) (cs ds : List Clause) → ((i : ℕ) → P i → Q i) → (r : Found) → Some r → Finds P σ cs r → Finds Q σ (cs ++ ds) r
-found_before P Q σ cs ds h Nothing s f = absurd s
+found_before P Q σ cs ds h Nothing s f = absurd (s refl)
 found_before P Q σ cs ds h Conflict s f = conflict_before σ cs ds f
 found_before P Q σ cs ds h (UnitAt v b next) s f = record { unit = unit_before σ cs ds (literal_from v b) f.unit; bit = f.bit; starts = h next f.starts }
 

@@ -10,8 +10,6 @@ use native.Mathlib.Numerals.{add-one}
 use lib.IntN.{ℤ, pos, negsuc, nat_abs}
 use lib.ListN.{length, get_or, drop, drop_of_length-le}
 use borrow.Author.Tests.{lt-ltb, not-true, not-false}
-use types.Run.{OneOf, miss}
-use denote.Enum.Declared.{tag_of}
 use Rattle.clauses.specs.Literal.{Literal, Clause}
 use Rattle.clauses.specs.Words.{is_end, literal_of_word, clauses_of}
 use Rattle.search.specs.Search.{Value, unset, is, Values, literal_value, Scan, all_false, unit, some_true, several, scan_one, join, scan, is_false, conflict, nothing, or_else, first_unit}
@@ -20,7 +18,6 @@ use Rattle.search.specs.Memory.{AllIn, first_clause, has_end, rest_words, Past, 
 use Rattle.search.proofs.Reading.{inside_low, inside_next, inside_end, Passing, passing_start, passing_next_lem, Clause₁, a_clause, starts_past}
 use Rattle.search.specs.declared.scan.Found.{Found}
 use Rattle.search.specs.declared.scan.Found.TheVariants.{Nothing, Conflict, Unit as UnitAt}
-use Rattle.search.specs.contracts.scan.Found.{the_type}
 
 -- a literal's value, by its variable's byte
 
@@ -266,17 +263,10 @@ module _ {ws : List ℤ} {vs : List ℕ} {from i : ℕ} {found : Found} (h : Out
 
 -- what is found from a place on is found in the whole list
 abbrev pub Some : Found → Type 0
-Some Nothing = ⊥
-Some Conflict = Unit {0}
-Some (UnitAt v b next) = Unit {0}
-
-pub some_found : (r : Found) → OneOf (1 ∷ 2 ∷ []) (tag_of the_type r) → Some r
-some_found Nothing o = miss (1 ∷ 2 ∷ []) 0 tt o
-some_found Conflict o = tt
-some_found (UnitAt v b next) o = tt
+Some r = r ≡ Nothing → ⊥
 
 pub found_after : (P : ℕ → Type 0) (σ : Values) (cs ds : List Clause) (r : Found) → Some r → Finds P σ ds r → Finds P σ (cs ++ ds) r
-found_after P σ cs ds Nothing s f = absurd s
+found_after P σ cs ds Nothing s f = absurd (s refl)
 found_after P σ cs ds Conflict s f = conflict_after σ cs ds f
 found_after P σ cs ds (UnitAt v b next) s f = record { unit = unit_after σ cs ds (literal_from v b) f.unit; bit = f.bit; starts = f.starts }
 

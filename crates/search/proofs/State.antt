@@ -4,6 +4,7 @@ use mathlib.Core.Bool.{Bool, true, false, cond}
 use mathlib.Core.List.{List, ◌∷◌}
 use Prim.Native.Nat.{ℕ, zero, suc, ◌+◌, ◌*◌, ◌-◌, ◌/◌, ◌%◌, ◌<◌, ◌≤◌}
 use native.Mathlib.Omega.{arith}
+use native.Mathlib.Numerals.{add-one}
 use native.Mathlib.Nat.{le_refl}
 use lib.Dec.{eqb}
 use lib.ListN.{length, get_or, set, length-set}
@@ -207,11 +208,11 @@ undo_pop' n ss vs tr zero l u = absurd (omega arith)
 undo_pop' n ss vs tr (suc k) l u = rw (less_one k) (undo_pop n ss vs tr k u)
 
 pub undo_flip' : (n : ℕ) (ss : Settings) (vs tr : List ℕ) (k : ℕ) → 0 < k → Undoing n ss vs tr k → get_or tr (k - 1) 0 % 2 ≡ 1
-    → Undone n ss k (set vs (get_or tr (k - 1) 0 / 2 - 1) 1) (set tr (k - 1) (get_or tr (k - 1) 0 - 1))
+    → Undone n ss (k - 1 + 1) (set vs (get_or tr (k - 1) 0 / 2 - 1) 1) (set tr (k - 1) (get_or tr (k - 1) 0 - 1))
 undo_flip' n ss vs tr zero l u = absurd (omega arith)
 undo_flip' n ss vs tr (suc k) l u =
-    subst (λ (j : ℕ). get_or tr j 0 % 2 ≡ 1 → Undone n ss (suc k) (set vs (get_or tr j 0 / 2 - 1) 1) (set tr j (get_or tr j 0 - 1)))
-    (sym (less_one k)) (undo_flip n ss vs tr k u)
+    subst (λ (j : ℕ). get_or tr j 0 % 2 ≡ 1 → Undone n ss (j + 1) (set vs (get_or tr j 0 / 2 - 1) 1) (set tr j (get_or tr j 0 - 1)))
+    (sym (less_one k)) (rw (add-one k) (undo_flip n ss vs tr k u))
 
 pub record Named (n : ℕ) (vs tr : List ℕ) (k : ℕ) : Type 0 where
   pub low : 0 < get_or tr (k - 1) 0 / 2

@@ -1,8 +1,8 @@
 -- SOLVE (document 01, "Turned-back calls"): its refusals, its answer, and what it leaves in lent memory.
-use Rattle.std.specs.Prelude.{Bool, true, false, not, ◌||◌, cond, List, [], ◌∷◌, ◌++◌, ℕ, zero, suc, ◌-◌, ◌^◌, ltb, eqb, ℤ, nat_abs, length, get_or, drop, replicate}
+use Rattle.std.specs.Prelude.{Bool, true, false, not, ◌||◌, cond, List, [], ◌∷◌, ◌++◌, ℕ, zero, suc, ◌-◌, ◌^◌, ltb, eqb, ℤ, nat_abs, length, get_or, drop, replicate, Option, None, Some}
 use Rattle.clauses.specs.Meaning.{Assignment}
 use Rattle.clauses.specs.Words.{words, is_end, clauses_of}
-use Rattle.search.specs.Search.{Value, unset, is, Settings, value_of, Place, none, at, up_to, Answer, SAT, UNSAT, SPENT, Outcome, solved}
+use Rattle.search.specs.Search.{Value, unset, is, Settings, value_of, up_to, Answer, SAT, UNSAT, SPENT, Outcome, solved}
 use Rattle.search.specs.Answers.{declared_solved}
 use Rattle.search.specs.declared.Reply.{Reply}
 use Rattle.search.specs.declared.Reply.TheVariants.{Refused, Done}
@@ -11,9 +11,9 @@ use Rattle.search.specs.declared.Reply.TheVariants.{Refused, Done}
 abbrev pub outside : ℕ → ℤ → Bool
 outside n w = ltb n (nat_abs w)
 
-abbrev pub bad_word : ℕ → ℕ → Bool → List ℤ → Place
-bad_word n i begun [] = cond begun (at i) none
-bad_word n i begun (w ∷ ws) = cond (outside n w) (at i) (bad_word n (suc i) (not (is_end w)) ws)
+abbrev pub bad_word : ℕ → ℕ → Bool → List ℤ → Option ℕ
+bad_word n i begun [] = cond begun (Some i) None
+bad_word n i begun (w ∷ ws) = cond (outside n w) (Some i) (bad_word n (suc i) (not (is_end w)) ws)
 
 -- "SOLVE leaves the first n values 0/1 on SAT, else 0, and n trail words 0." Variable v's value is byte v - 1
 abbrev pub bit_of : Value → ℕ
@@ -54,9 +54,9 @@ leaves n o values trail =
       trail = replicate n 0 ++ drop n trail;
     }
 
-abbrev pub at_place : {A : Type 0} → Place → (ℕ → A) → A → A
-at_place none f a = a
-at_place (at i) f a = f i
+abbrev pub at_place : {A : Type 0} → Option ℕ → (ℕ → A) → A → A
+at_place None f a = a
+at_place (Some i) f a = f i
 
 -- "SOLVE: 17 n over 2^31-1 (place 0), a literal outside -n..n or no closing 0 (place: word, or length); 16 values or trail under n."
 unfoldable pub solve : ℕ → List ℤ → List ℕ → List ℕ → ℕ → After

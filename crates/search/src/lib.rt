@@ -10,18 +10,16 @@ mod reader; // a clause list read forward
 mod scan; // the scan for units and conflicts
 mod trail; // setting a variable, the lowest unset one, undoing
 mod run; // the turns
-pub mod fill; // filling lent memory
 pub mod refute; // REFUTE
 
-use fill::{fill8, fill32};
 use run::run as run_turns;
-use words::{Spot, bad_word};
+use words::bad_word;
 
 // A word names a variable by an i32.
 const MAX_VARIABLE: u64 = 2147483647;
 
 // The search's answer.
-#[derive(Clone, Copy)]
+#[derive(Clone, Copy, PartialEq, Eq)]
 pub enum Answered {
     Sat,
     Unsat,
@@ -46,14 +44,12 @@ pub fn search(words: &[i32], values: &mut [u8], trail: &mut [u32], budget: u64) 
     requires { Fresh words.now values.old trail.old }
     ensures { Leaves (outcome values.old words.now budget) (length values.old) result values.new trail.new }
 {
-    fill8(values, 2);
+    values.fill(2);
     let r = run_turns(words, values, trail, budget);
-    fill32(trail, 0);
-    let a = r.answer;
-    if let Answered::Sat = a {
-        return r;
+    trail.fill(0);
+    if r.answer != Answered::Sat {
+        values.fill(0);
     }
-    fill8(values, 0);
     r
 }
 
@@ -67,7 +63,7 @@ pub fn solve(n: u64, words: &[i32], values: &mut [u8], trail: &mut [u32], budget
             place: 0,
         };
     }
-    if let Spot::At(i) = bad_word(n, words) {
+    if let Some(i) = bad_word(n, words) {
         return Reply::Refused {
             number: 17,
             place: i,

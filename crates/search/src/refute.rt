@@ -5,10 +5,9 @@ ghost use Rattle.search.specs.Refutation.{judged, refute as refute_of};
 ghost use Rattle.search.specs.Memory.{AllIn, has_end, first_clause, Starts, value_at, AllUnset, Finds, Denied, Two, StartsAfter, StartsTwo, clauses_from, both_of, ReadTo, Reaches, follows_at};
 
 use super::MAX_VARIABLE;
-use super::fill::fill8;
 use super::reader::after_clause;
 use super::scan::{Found, scan_from};
-use super::words::{Spot, bad_word, ends, sign, variable};
+use super::words::{bad_word, ends, sign, variable};
 
 // Every clause follows up to an empty one; the word at which the first clause begins that does not; or no empty clause.
 #[derive(Clone, Copy)]
@@ -50,13 +49,12 @@ pub fn scan_after(words: &[i32], values: &[u8], from: usize, base: usize) -> Fou
     ensures { Finds (StartsAfter base words.now) (value_at values.now) (clauses_of (drop from words.now)) result }
 {
     match scan_from(words, values, from) {
-        Found::Nothing => Found::Nothing,
-        Found::Conflict => Found::Conflict,
         Found::Unit { var, value, next } => Found::Unit {
             var,
             value,
             next: base + next,
         },
+        found => found,
     }
 }
 
@@ -69,11 +67,10 @@ pub fn scan_two(list: &[i32], earlier: &[i32], values: &[u8], from: usize) -> Fo
     if from >= here {
         return scan_after(earlier, values, from - here, here);
     }
-    let found = scan_from(list, values, from);
-    if let Found::Nothing = found {
-        return scan_after(earlier, values, 0, here);
+    match scan_from(list, values, from) {
+        Found::Nothing => scan_after(earlier, values, 0, here),
+        found => found,
     }
-    found
 }
 
 // The same among all clauses of both, those from `from` on first: as in the search, a scan goes on where the last unit
@@ -82,14 +79,10 @@ pub fn scan_round(list: &[i32], earlier: &[i32], values: &[u8], from: usize) -> 
     requires { Two (length values.now) list.now earlier.now × StartsTwo list.now earlier.now from }
     ensures { Finds (StartsTwo list.now earlier.now) (value_at values.now) (both_of list.now earlier.now) result }
 {
-    let found = scan_two(list, earlier, values, from);
-    if from == 0 {
-        return found;
+    match scan_two(list, earlier, values, from) {
+        Found::Nothing if from > 0 => scan_two(list, earlier, values, 0),
+        found => found,
     }
-    if let Found::Nothing = found {
-        return scan_two(list, earlier, values, 0);
-    }
-    found
 }
 
 // Whether unit setting over both lists, from the values given, reaches a clause that is all false.
@@ -119,7 +112,7 @@ pub fn follows(list: &[i32], refutation: &[i32], at: usize, values: &mut [u8]) -
     requires { Two (length values.old) list.now refutation.now × ReadTo refutation.now at × (at < length refutation.now) }
     ensures { result ≡ follows_at (length values.old) list.now refutation.now at }
 {
-    fill8(values, 2);
+    values.fill(2);
     if deny(refutation, values, at) {
         return true;
     }
@@ -151,7 +144,7 @@ pub fn judge(list: &[i32], refutation: &[i32], values: &mut [u8]) -> Judged
         × (values.new ≡ replicate (length values.old) 0) }
 {
     let found = read(list, refutation, values);
-    fill8(values, 0);
+    values.fill(0);
     found
 }
 
@@ -165,13 +158,13 @@ pub fn refute(n: u64, list: &[i32], refutation: &[i32], values: &mut [u8]) -> Re
             place: 0,
         };
     }
-    if let Spot::At(i) = bad_word(n, list) {
+    if let Some(i) = bad_word(n, list) {
         return Reply::Refused {
             number: 17,
             place: i,
         };
     }
-    if let Spot::At(i) = bad_word(n, refutation) {
+    if let Some(i) = bad_word(n, refutation) {
         return Reply::Refused {
             number: 17,
             place: list.len() + i,

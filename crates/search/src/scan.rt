@@ -78,12 +78,8 @@ pub fn scan(words: &[i32], values: &[u8], from: usize) -> Found
     requires { AllIn (length values.now) words.now × Starts words.now from × (closed words.now ≡ true) }
     ensures { Finds (Starts words.now) (value_at values.now) (clauses_of words.now) result }
 {
-    let found = scan_from(words, values, from);
-    if from == 0 {
-        return found;
+    match scan_from(words, values, from) {
+        Found::Nothing if from > 0 => scan_from(words, values, 0),
+        found => found,
     }
-    if let Found::Nothing = found {
-        return scan_from(words, values, 0);
-    }
-    found
 }

@@ -7,9 +7,9 @@ pub returns-then-n-gt-MAX_VARIABLE : goal.returns-then-n-gt-MAX_VARIABLE
 returns-then-n-gt-MAX_VARIABLE c =
     solve_large c.args.n c.args.words.now c.args.values.now c.args.trail.now c.args.budget c.if-n-gt-MAX_VARIABLE.true
 
-pub returns-in-At : goal.returns-in-At
-returns-in-At c =
-    solve_word c.args.n c.args.words.now c.args.values.now c.args.trail.now c.args.budget c.if-n-gt-MAX_VARIABLE.false (sym c.in-At.is ∙ c.bad_word.ensures)
+pub returns-in-Some : goal.returns-in-Some
+returns-in-Some c =
+    solve_word c.args.n c.args.words.now c.args.values.now c.args.trail.now c.args.budget c.if-n-gt-MAX_VARIABLE.false (sym c.in-Some.is ∙ c.bad_word.ensures)
 
 pub returns-then-values-k : goal.returns-then-values-k
 returns-then-values-k c =

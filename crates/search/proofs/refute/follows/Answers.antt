@@ -5,11 +5,11 @@ use Rattle.search.proofs.refute.follows.Goals as goal
 
 pub deny-requires : goal.deny-requires
 deny-requires c =
-    deny_ready c.requires.0 c.requires.1 c.requires.2 c.fill8.ensures
+    deny_ready c.requires.0 c.requires.1 c.requires.2 (c.fill.ensures.after (λ y e. e))
 
 pub returns-then-deny : goal.returns-then-deny
 returns-then-deny c =
-    follows_both c.requires.0 c.requires.1 c.requires.2 c.fill8.ensures c.deny.new.values c.deny.auto.values c.deny.result c.deny.ensures c.if-deny.true
+    follows_both c.requires.0 c.requires.1 c.requires.2 (c.fill.ensures.after (λ y e. e)) c.deny.new.values c.deny.auto.values c.deny.result c.deny.ensures c.if-deny.true
 
 pub slice_bounds-reaches-end : goal.slice_bounds-reaches-end
 slice_bounds-reaches-end c =
@@ -17,11 +17,11 @@ slice_bounds-reaches-end c =
 
 pub reaches-requires : goal.reaches-requires
 reaches-requires c =
-    reaches_ready c.requires.0 c.requires.1 c.requires.2 c.fill8.ensures c.deny.new.values c.deny.auto.values
+    reaches_ready c.requires.0 c.requires.1 c.requires.2 (c.fill.ensures.after (λ y e. e)) c.deny.new.values c.deny.auto.values
     c.deny.result c.deny.ensures
 
 pub returns : goal.returns
 returns c =
-    follows_reached c.requires.0 c.requires.1 c.requires.2 c.fill8.ensures c.deny.new.values c.deny.auto.values
+    follows_reached c.requires.0 c.requires.1 c.requires.2 (c.fill.ensures.after (λ y e. e)) c.deny.new.values c.deny.auto.values
     c.deny.result c.deny.ensures c.if-deny.false c.reaches.result
     c.reaches.ensures

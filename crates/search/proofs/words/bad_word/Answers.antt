@@ -1,10 +1,7 @@
-use mathlib.Core.Path.{◌≡◌, sym, subst}
-use mathlib.Core.Bool.{false, not, cond}
+use mathlib.Core.Path.{sym, subst, ◌∙◌}
+use mathlib.Core.Bool.{not}
 use Prim.Native.Nat.{◌+◌}
 use native.Mathlib.Omega.{arith}
-use Rattle.search.specs.Search.{none, at}
-use Rattle.search.specs.Answers.{declared_spot}
-use Rattle.search.specs.Solve.{bad_word}
 use Rattle.search.proofs.BadWords.{Reads, reads_start, reads_next, reads_bad, reads_all}
 use Rattle.search.proofs.words.bad_word.Goals as goal
 
@@ -25,12 +22,6 @@ pub loop-i-preserved : goal.loop-i-preserved
 loop-i-preserved c =
     subst (λ b. Reads c.args.n c.args.words.now (c.loop-i.i + 1) (not b)) (sym c.ends-begun.ensures) (reads_next _ _ _ _ c.loop-i.invariant c.loop-i-test.true (omega arith))
 
-pub returns-then-begun : goal.returns-then-begun
-returns-then-begun c =
-    subst (λ b. declared_spot (cond b (at c.loop-i.i) none) ≡ declared_spot (bad_word c.args.n 0 false c.args.words.now)) c.if-begun.true
-    (reads_all _ _ _ _ c.loop-i.invariant c.loop-i-test.false)
-
-pub returns-else-begun : goal.returns-else-begun
-returns-else-begun c =
-    subst (λ b. declared_spot (cond b (at c.loop-i.i) none) ≡ declared_spot (bad_word c.args.n 0 false c.args.words.now)) c.if-begun.false
-    (reads_all _ _ _ _ c.loop-i.invariant c.loop-i-test.false)
+pub returns : goal.returns
+returns c =
+    c.then_some.ensures ∙ reads_all _ _ _ _ c.loop-i.invariant c.loop-i-test.false
