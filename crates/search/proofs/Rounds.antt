@@ -16,7 +16,7 @@ use Rattle.search.specs.AnyOrder.{IsUnit, Quiet, Settles, done, more}
 use Rattle.search.specs.Memory.{Starts, value_of_byte, value_at, literal_from, bit, UnitFound, Finds, Agrees, Two, StartsAfter, StartsTwo, clauses_from, both_of, Reaches}
 use Rattle.search.proofs.Scans.{Free, unit_free}
 use Rattle.search.proofs.Reading.{starts_zero, within_words}
-use Rattle.search.proofs.Scanning.{Skipped, AllSkipped, skipped_quiet, conflict_after, unit_after, Some, found_after}
+use Rattle.search.proofs.Scanning.{Skipped, AllSkipped, skipped_quiet, conflict_after, unit_after, Finding, found_after}
 use Rattle.search.proofs.State.{byte_bit}
 use Rattle.search.proofs.Steps.{conflict_ext, is_unit_ext, quiet_ext, variable_is}
 use Rattle.search.proofs.Denying.{set_agrees}
@@ -68,7 +68,7 @@ found_among P Q σ cs ds h q Nothing f = quiet_both σ cs ds q f
 found_among P Q σ cs ds h q Conflict f = conflict_after σ cs ds f
 found_among P Q σ cs ds h q (UnitAt v b next) f = record { unit = unit_after σ cs ds (literal_from v b) f.unit; bit = f.bit; starts = h next f.starts }
 
-found_before : (P Q : ℕ → Type 0) (σ : Values) (cs ds : List Clause) → ((i : ℕ) → P i → Q i) → (r : Found) → Some r → Finds P σ cs r → Finds Q σ (cs ++ ds) r
+found_before : (P Q : ℕ → Type 0) (σ : Values) (cs ds : List Clause) → ((i : ℕ) → P i → Q i) → (r : Found) → Finding r → Finds P σ cs r → Finds Q σ (cs ++ ds) r
 found_before P Q σ cs ds h Nothing s f = absurd (s refl)
 found_before P Q σ cs ds h Conflict s f = conflict_before σ cs ds f
 found_before P Q σ cs ds h (UnitAt v b next) s f = record { unit = unit_before σ cs ds (literal_from v b) f.unit; bit = f.bit; starts = h next f.starts }
@@ -91,7 +91,7 @@ module _ {n : ℕ} {ws ds : List ℤ} (two : Two n ws ds) where
         subst (λ (x : List ℤ). Finds (StartsTwo ws ds) σ (clauses_of x ++ clauses_of (drop (from - length ws) ds)) r) (sym (drop_of_length-le ws {i = from} l))
         (found_among (StartsAfter (length ws) ds) (StartsTwo ws ds) σ [] (clauses_of (drop (from - length ws) ds)) of_second (record { calm = refl; closed = refl }) r f)
 
-    pub two_first : Some r → Finds (Starts ws) σ (clauses_of (drop from ws)) r → Finds (StartsTwo ws ds) σ (clauses_from ws ds from) r
+    pub two_first : Finding r → Finds (Starts ws) σ (clauses_of (drop from ws)) r → Finds (StartsTwo ws ds) σ (clauses_from ws ds from) r
     two_first s f = found_before (Starts ws) (StartsTwo ws ds) σ (clauses_of (drop from ws)) (clauses_of (drop (from - length ws) ds)) of_first r s f
 
     pub two_on : from < length ws → Quiet σ (clauses_of (drop from ws)) → Finds (StartsAfter (length ws) ds) σ (clauses_of (drop 0 ds)) r → Finds (StartsTwo ws ds) σ (clauses_from ws ds from) r
@@ -124,7 +124,7 @@ module _ {n : ℕ} {ws ds : List ℤ} (two : Two n ws ds) where
     pub round_zero : from ≡ 0 → Finds (StartsTwo ws ds) σ (clauses_from ws ds from) r → Finds (StartsTwo ws ds) σ (both_of ws ds) r
     round_zero e f = subst (λ (cs : List Clause). Finds (StartsTwo ws ds) σ cs r) (ap (clauses_from ws ds) e ∙ from_start) f
 
-    pub round_some : StartsTwo ws ds from → Some r → Finds (StartsTwo ws ds) σ (clauses_from ws ds from) r → Finds (StartsTwo ws ds) σ (both_of ws ds) r
+    pub round_some : StartsTwo ws ds from → Finding r → Finds (StartsTwo ws ds) σ (clauses_from ws ds from) r → Finds (StartsTwo ws ds) σ (both_of ws ds) r
     round_some s k f =
         let b = clauses_from_lem from s in
         subst (λ (cs : List Clause). Finds (StartsTwo ws ds) σ cs r) (sym b.1) (found_after (StartsTwo ws ds) σ b.0 (clauses_from ws ds from) r k f)

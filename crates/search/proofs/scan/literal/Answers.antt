@@ -1,7 +1,7 @@
 use native.Mathlib.Omega.{arith}
 use lib.IntN.{pos}
 use lib.ListN.{get_or}
-use Rattle.search.proofs.Scanning.{literal_low, literal_unset, literal_true_lem, literal_false}
+use Rattle.search.proofs.Scanning.{literal_low, literal_unset, literal_set}
 use Rattle.search.proofs.scan.literal.Goals as goal
 
 pub overflow_sub-x : goal.overflow_sub-x
@@ -19,10 +19,6 @@ pub returns-then-x-gt1 : goal.returns-then-x-gt1
 returns-then-x-gt1 c =
     literal_unset c.args.values.now (get_or c.args.words.now c.args.at (pos 0)) _ c.variable-v.ensures c.if-x-gt1.true
 
-pub returns-then-sign-x : goal.returns-then-sign-x
-returns-then-sign-x c =
-    literal_true_lem c.args.values.now (get_or c.args.words.now c.args.at (pos 0)) _ _ c.variable-v.ensures c.sign.ensures c.if-sign-x.true
-
-pub returns-else-sign-x : goal.returns-else-sign-x
-returns-else-sign-x c =
-    literal_false c.args.values.now (get_or c.args.words.now c.args.at (pos 0)) _ _ c.variable-v.ensures c.sign.ensures c.if-x-gt1.false c.if-sign-x.false
+pub returns-else-x-gt1 : goal.returns-else-x-gt1
+returns-else-x-gt1 c =
+    literal_set c.args.values.now (get_or c.args.words.now c.args.at (pos 0)) _ _ c.variable-v.ensures c.sign.ensures c.if-x-gt1.false
