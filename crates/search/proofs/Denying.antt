@@ -1,6 +1,6 @@
 -- A clause's literals set false, one after the other.
 use mathlib.Core.Path.{◌≡◌, refl, sym, ap, ap₂, ◌∙◌, subst, subst₂}
-use mathlib.Core.Bool.{Bool, true, false, not, ◌||◌, cond}
+use mathlib.Core.Bool.{Bool, true, false, ◌||◌, cond}
 use mathlib.Core.List.{List, [], ◌∷◌}
 use Prim.Native.Nat.{ℕ, zero, suc, ◌+◌, ◌-◌, ◌<◌, ◌≤◌}
 use native.Mathlib.Omega.{arith}
@@ -8,7 +8,7 @@ use native.Mathlib.Numerals.{add-one}
 use lib.Dec.{eqb}
 use lib.IntN.{ℤ, pos, negsuc, nat_abs}
 use lib.ListN.{length, get_or, drop, set, length-set, get_or-replicate}
-use borrow.Author.Tests.{eqb-true, eqb-false, eq-eqb, ne_eqb, lt-ltb, not-true, not-false}
+use borrow.Author.Tests.{eqb-true, eqb-false, eq-eqb, ne_eqb, lt-ltb}
 use Rattle.clauses.specs.Literal.{Literal, positive, negative, negate, Clause}
 use Rattle.clauses.specs.Words.{is_end, literal_of_word}
 use Rattle.search.specs.Search.{is, Setting, Settings, value_of, opposite, literal_value, forced}
@@ -143,10 +143,7 @@ module _ {ws : List ℤ} {vs : List ℕ} {n from i : ℕ} (h : Denying ws vs n f
   pub denying_low : i < length ws
   denying_low = inside_low ws i h.passing.ends
 
-  module _ {ended : Bool} (word : ended ≡ is_end (get_or ws i (pos 0))) (goes : not ended ≡ true) (inside : AllIn n ws) {v : ℕ} (name : v ≡ nat_abs (get_or ws i (pos 0))) where
-    literal : is_end (get_or ws i (pos 0)) ≡ false
-    literal = sym word ∙ not-true ended goes
-
+  module _ (literal : is_end (get_or ws i (pos 0)) ≡ false) (inside : AllIn n ws) {v : ℕ} (name : v ≡ nat_abs (get_or ws i (pos 0))) where
     pub denying_named : 0 < v
     denying_named = literal_low (get_or ws i (pos 0)) v literal name
 
@@ -190,9 +187,8 @@ module _ {ws : List ℤ} {vs : List ℕ} {n from i : ℕ} (h : Denying ws vs n f
             both = sym (held_next h.settings l (first_clause (drop (suc i) ws)) u) ∙ ap (held h.settings) (sym first) ∙ h.both;
           })
 
-  pub denying_end : {ended : Bool} → ended ≡ is_end (get_or ws i (pos 0)) → not ended ≡ false → Denied (first_clause (drop from ws)) false vs
-  denying_end {ended} word stops =
-      let g : is_end (get_or ws i (pos 0)) ≡ true = sym word ∙ not-false ended stops in
+  pub denying_end : is_end (get_or ws i (pos 0)) ≡ true → Denied (first_clause (drop from ws)) false vs
+  denying_end g =
       let e : first_clause (drop i ws) ≡ [] = (inside_end ws i h.passing.ends g).1 in (
         sym h.both ∙ ap (held h.settings) e,
         subst (λ (ss : Settings). Agrees ss vs) (ap (set_false h.settings) (sym e) ∙ h.sets) h.agrees,

@@ -30,15 +30,16 @@ pub fn deny(words: &[i32], values: &mut [u8], from: usize) -> bool
     requires { AllIn (length values.old) words.now × AllUnset values.old × (has_end (drop from words.now) ≡ true) }
     ensures { Denied (first_clause (drop from words.now)) result values.new }
 {
-    let mut i = from;
-    while !ends(words, i) {
+    for i in from..words.len() {
+        if ends(words, i) {
+            break;
+        }
         let v = variable(words, i);
         let x = sign(words, i);
         if values[v - 1] == x {
             return true;
         }
         values[v - 1] = 1 - x;
-        i += 1;
     }
     false
 }

@@ -1,5 +1,4 @@
 use mathlib.Core.Path.{sym, ◌∙◌}
-use lib.Seq.{length-take-le}
 use Rattle.search.proofs.Solving.{solve_large, solve_word, solve_values, solve_trail, solve_fresh, solve_done}
 use Rattle.search.proofs.solve.Goals as goal
 
@@ -18,14 +17,6 @@ returns-then-values-k c =
 pub returns-then-trail-k : goal.returns-then-trail-k
 returns-then-trail-k c =
     solve_trail c.args.n c.args.words.now c.args.values.now c.args.trail.now c.args.budget c.if-n-gt-MAX_VARIABLE.false (sym c.in_default.is ∙ c.bad_word.ensures) c.if-values-k.false c.if-trail-k.true
-
-pub slice_bounds-search-end-2 : goal.slice_bounds-search-end-2
-slice_bounds-search-end-2 c =
-    sym (length-take-le c.args.n c.args.values.now c.if-values-k.false)
-
-pub slice_bounds-search-end-4 : goal.slice_bounds-search-end-4
-slice_bounds-search-end-4 c =
-    sym (length-take-le c.args.n c.args.trail.now c.if-trail-k.false)
 
 pub search-requires : goal.search-requires
 search-requires c =

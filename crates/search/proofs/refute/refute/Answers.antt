@@ -1,6 +1,5 @@
 use mathlib.Core.Path.{sym, ◌∙◌}
 use native.Mathlib.Omega.{arith}
-use lib.Seq.{length-take-le}
 use Rattle.search.proofs.Refuting.{word_low, refute_large, refute_list, refute_refutation, refute_values, refute_two, refute_done}
 use Rattle.search.proofs.refute.refute.Goals as goal
 
@@ -28,10 +27,6 @@ returns-in-Some-bad_word c =
 pub returns-then-values-k : goal.returns-then-values-k
 returns-then-values-k c =
     refute_values c.args.n c.args.list.now c.args.refutation.now c.args.values.now c.if-n-gt-MAX_VARIABLE.false (sym c.in_default.is ∙ c.bad_word.ensures) (sym c.in_default-bad_word.is ∙ c.bad_word-2.ensures) c.if-values-k.true
-
-pub slice_bounds-judge-end-2 : goal.slice_bounds-judge-end-2
-slice_bounds-judge-end-2 c =
-    sym (length-take-le c.args.n c.args.values.now c.if-values-k.false)
 
 pub judge-requires : goal.judge-requires
 judge-requires c =
