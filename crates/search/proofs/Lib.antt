@@ -13,7 +13,6 @@ pub mod Order
 -- refutations
 pub mod Refutations
 -- the code's words, scan, memory and turns
-pub mod Signed
 pub mod Reading
 pub mod BadWords
 pub mod Scanning

@@ -6,9 +6,9 @@ use Prim.Native.Nat.{ℕ, suc, ◌+◌, ◌-◌, ◌^◌, ◌<◌, ◌≤◌}
 use native.Mathlib.Omega.{arith}
 use lib.Dec.{ltb}
 use lib.IntN.{ℤ, pos}
-use lib.ListN.{length, get_or, drop, take, replicate, length-replicate, drop_of_length-le}
+use lib.ListN.{length, get_or, drop, take, replicate, length-replicate}
 use lib.Seq.{length-take-le}
-use borrow.Author.Tests.{lt-ltb, le-ltb, not-true, not-false}
+use borrow.Author.Tests.{lt-ltb, le-ltb}
 use Rattle.std.specs.Prelude.{Option, None, Some}
 use Rattle.clauses.specs.Literal.{Literal, Clause}
 use Rattle.clauses.specs.Meaning.{Within}
@@ -16,12 +16,12 @@ use Rattle.clauses.specs.Words.{is_end, clauses_of}
 use Rattle.search.specs.Solve.{outside, bad_word, at_place}
 use Rattle.search.specs.Refutation.{set_false, reaches, holds_both, follows, judged, AfterRefute, refuses, refute, Refutes, Right}
 use Rattle.search.specs.Memory.{AllIn, first_clause, has_end, rest_words, Past, AllUnset, Denied, Two, both_of, Reaches, ReadTo, follows_at}
-use Rattle.search.proofs.Reading.{inside_end, inside_next, within_words}
-use Rattle.search.proofs.Prefixes.{clause_at, next_place, read_next, clauses_next, inside_take}
+use Rattle.search.proofs.Reading.{inside_next, within_words}
+use Rattle.search.proofs.Prefixes.{clause_at, next_place, read_next, clauses_next}
 use Rattle.search.proofs.BadWords.{good_words}
 use Rattle.search.proofs.Refutations.{follows_from, from_follows, refutes_none, accepted_refutes, refutes_accepted}
 use Rattle.search.specs.declared.refute.Judged.{Judged}
-use Rattle.search.specs.declared.refute.Judged.TheVariants.{Accepted, Word, Ended}
+use Rattle.search.specs.declared.refute.Judged.TheVariants.{Accepted, Word}
 use Rattle.search.specs.declared.refute.Reply.TheVariants.{Refused, Done}
 
 -- one clause: the values are set anew, its literals set false, and units set
@@ -39,11 +39,6 @@ module _ {n : ℕ} {ws ds : List ℤ} {vs₂ : List ℕ} {i : ℕ} (two : Two n 
     follows_both e =
         let h : holds_both (first_clause (drop i ds)) ≡ true = subst (λ (b : Bool). Denied (first_clause (drop i ds)) b vs₃) e d in
         rw h
-
-    pub reaches_ready : Two (length vs₃) ws (take i ds)
-    reaches_ready =
-        let e : length vs₃ ≡ n = same ∙ wide in
-        rw e (record { inside = two.inside; closes = two.closes; inside₂ = inside_take n i ds read.low two.inside₂; closes₂ = read.before })
 
     pub follows_reached : r ≡ false → (q : Bool) → Reaches (both_of ws (take i ds)) vs₃ q → q ≡ follows_at n ws ds i
     unfolding follows
@@ -65,9 +60,6 @@ judging_start {n} {ws} {ds} t =
     }
 
 module _ {n : ℕ} {ws ds : List ℤ} {i : ℕ} (h : Judging n ws ds i) where
-  pub judging_end : length ds ≤ i → Ended ≡ judged n 0 (clauses_of ws) (clauses_of ds)
-  judging_end l = (ap (λ (x : List ℤ). judged n i (both_of ws (take i ds)) (clauses_of x)) (sym (drop_of_length-le ds {i = i} l)) ∙ h.same)
-
   -- at a clause, where r tells whether it follows
   module _ (l : i < length ds) {m : ℕ} (wide : m ≡ n) {r : Bool} (found : r ≡ follows_at m ws ds i) where
     f : r ≡ follows_at n ws ds i
@@ -77,25 +69,16 @@ module _ {n : ℕ} {ws ds : List ℤ} {i : ℕ} (h : Judging n ws ds i) where
     apart : judged n i (both_of ws (take i ds)) (first_clause (drop i ds) ∷ clauses_of (rest_words (drop i ds))) ≡ judged n 0 (clauses_of ws) (clauses_of ds)
     apart = ap (judged n i (both_of ws (take i ds))) (sym (clause_at ds i h.read l).split) ∙ h.same
 
-    pub judging_stops : not r ≡ true → Word i ≡ judged n 0 (clauses_of ws) (clauses_of ds)
-    judging_stops e = (go (first_clause (drop i ds)) (sym f ∙ not-true r e) ∙ apart)
+    pub judging_stops : r ≡ false → Word i ≡ judged n 0 (clauses_of ws) (clauses_of ds)
+    judging_stops e = (go (first_clause (drop i ds)) (sym f ∙ e) ∙ apart)
       where
         go : (c : Clause) → follows n (both_of ws (take i ds)) c ≡ false → Word i ≡ judged n i (both_of ws (take i ds)) (c ∷ clauses_of (rest_words (drop i ds)))
         go [] e = rw e
         go (m ∷ ms) e = rw e
 
-    module _ (goes : not r ≡ false) {ended : Bool} (word : ended ≡ is_end (get_or ds i (pos 0))) where
+    module _ (goes : r ≡ true) {ended : Bool} (word : ended ≡ is_end (get_or ds i (pos 0))) where
       holds : follows_at n ws ds i ≡ true
-      holds = sym f ∙ not-false r goes
-
-      pub judging_accepts : ended ≡ true → Accepted ≡ judged n 0 (clauses_of ws) (clauses_of ds)
-      judging_accepts e =
-          let c : first_clause (drop i ds) ≡ [] = (inside_end ds i (clause_at ds i h.read l).ends (sym word ∙ e)).1 in
-          (go (first_clause (drop i ds)) c holds ∙ apart)
-        where
-          go : (c : Clause) → c ≡ [] → follows n (both_of ws (take i ds)) c ≡ true → Accepted ≡ judged n i (both_of ws (take i ds)) (c ∷ clauses_of (rest_words (drop i ds)))
-          go [] q e = rw e
-          go (m ∷ ms) q e = absurd (let z : ◌≡◌ {A = ℕ} 0 1 = cc in omega arith)
+      holds = sym f ∙ goes
 
       pub judging_next : ended ≡ false → (j : ℕ) → Past ds i j → Judging n ws ds j
       judging_next e j p =

@@ -3,20 +3,18 @@ use mathlib.Core.Path.{◌≡◌, refl, sym, ap, ap₂, ◌∙◌, subst}
 use mathlib.Core.Logic.{inl, inr}
 use mathlib.Core.Bool.{Bool, true, false, ◌||◌, true≢false}
 use mathlib.Core.List.{List, [], ◌∷◌, ◌++◌, append_assoc}
-use Prim.Native.Nat.{ℕ, zero, suc, ◌+◌, ◌-◌, ◌<◌, ◌≤◌}
+use Prim.Native.Nat.{ℕ, zero, suc, ◌+◌, ◌<◌, ◌≤◌}
 use native.Mathlib.Omega.{arith}
 use native.Mathlib.Nat.{le_refl}
 use native.Mathlib.Numerals.{add-one}
-use lib.Dec.{eqb}
 use lib.IntN.{ℤ, pos, negsuc, nat_abs}
 use lib.ListN.{length, get_or, drop, drop_of_length-le}
-use borrow.Author.Tests.{lt-ltb}
 use Rattle.std.specs.Prelude.{Option, None, Some, is_some}
 use Rattle.clauses.specs.Literal.{Literal, Clause}
 use Rattle.clauses.specs.Words.{is_end, literal_of_word, clauses_of}
-use Rattle.search.specs.Search.{Value, unset, is, Values, opposite, literal_value, Scan, all_false, unit, some_true, several, scan_one, join, scan, is_false, conflict, nothing, or_else, first_unit}
+use Rattle.search.specs.Search.{Value, unset, is, Values, literal_value, Scan, all_false, unit, some_true, several, scan_one, join, scan, is_false, conflict, nothing, or_else, first_unit}
 use Rattle.search.specs.AnyOrder.{IsUnit, Quiet}
-use Rattle.search.specs.Memory.{AllIn, first_clause, has_end, rest_words, Past, Starts, sign_of, Named, value_of_byte, value_at, known, literal_from, UnitFound, Finds}
+use Rattle.search.specs.Memory.{AllIn, first_clause, has_end, rest_words, Past, Starts, sign_of, Named, value_at, known, literal_from, UnitFound, Finds}
 use Rattle.search.proofs.Reading.{inside_low, inside_next, inside_end, Passing, passing_start, passing_next_lem, Clause₁, a_clause, starts_past}
 use Rattle.search.specs.declared.scan.Found.{Found}
 use Rattle.search.specs.declared.scan.Found.TheVariants.{Nothing, Conflict, Unit as UnitAt}
@@ -27,31 +25,6 @@ pub literal_low : (z : ℤ) (v : ℕ) → is_end z ≡ false → v ≡ nat_abs z
 literal_low (pos zero) v e q = absurd (true≢false e)
 literal_low (pos (suc n)) v e q = omega arith
 literal_low (negsuc n) v e q = omega arith
-
-module _ (vs : List ℕ) where
-  unset_is : (z : ℤ) → 1 < get_or vs (nat_abs z - 1) 0 → None ≡ known (literal_value (value_at vs) (literal_of_word z))
-  unset_is (pos v) h = rw (lt-ltb 1 (get_or vs (v - 1) 0) h)
-  unset_is (negsuc v) h = rw (lt-ltb 1 (get_or vs (suc v - 1) 0) h)
-
-  set_is : (z : ℤ) → get_or vs (nat_abs z - 1) 0 ≤ 1 → Some (eqb (sign_of z) (get_or vs (nat_abs z - 1) 0)) ≡ known (literal_value (value_at vs) (literal_of_word z))
-  set_is (pos v) h = go (get_or vs (v - 1) 0) h
-    where
-      go : (x : ℕ) → x ≤ 1 → Some (eqb 1 x) ≡ known (value_of_byte x)
-      go zero h = refl
-      go (suc zero) h = refl
-      go (suc (suc x)) h = absurd (omega arith)
-  set_is (negsuc v) h = go (get_or vs (suc v - 1) 0) h
-    where
-      go : (x : ℕ) → x ≤ 1 → Some (eqb 0 x) ≡ known (opposite (value_of_byte x))
-      go zero h = refl
-      go (suc zero) h = refl
-      go (suc (suc x)) h = absurd (omega arith)
-
-  pub literal_unset : (z : ℤ) (v : ℕ) → v ≡ nat_abs z → 1 < get_or vs (v - 1) 0 → None ≡ known (literal_value (value_at vs) (literal_of_word z))
-  literal_unset z v q h = unset_is z (subst (λ (k : ℕ). 1 < get_or vs (k - 1) 0) q h)
-
-  pub literal_set : (z : ℤ) (v b : ℕ) → v ≡ nat_abs z → b ≡ sign_of z → get_or vs (v - 1) 0 ≤ 1 → Some (eqb b (get_or vs (v - 1) 0)) ≡ known (literal_value (value_at vs) (literal_of_word z))
-  literal_set z v b q p h = rw (q, p) (set_is z (subst (λ (k : ℕ). get_or vs (k - 1) 0 ≤ 1) q h))
 
 is_known : (x : Value) (b : Bool) → Some b ≡ known x → x ≡ is b
 is_known unset b e = absurd (let z : ◌≡◌ {A = ℕ} 0 1 = cc in omega arith)
@@ -257,8 +230,5 @@ found_after P σ cs ds Conflict s f = conflict_after σ cs ds f
 found_after P σ cs ds (UnitAt v b next) s f = record { unit = unit_after σ cs ds (literal_from v b) f.unit; bit = f.bit; starts = f.starts }
 
 module _ (ws : List ℤ) (vs : List ℕ) (from : ℕ) (r : Found) where
-  pub finds_zero : from ≡ 0 → Finds (Starts ws) (value_at vs) (clauses_of (drop from ws)) r → Finds (Starts ws) (value_at vs) (clauses_of ws) r
-  finds_zero e f = subst (λ (k : ℕ). Finds (Starts ws) (value_at vs) (clauses_of (drop k ws)) r) e f
-
   pub finds_whole : Starts ws from → Finding r → Finds (Starts ws) (value_at vs) (clauses_of (drop from ws)) r → Finds (Starts ws) (value_at vs) (clauses_of ws) r
   finds_whole s k f = subst (λ (cs : List Clause). Finds (Starts ws) (value_at vs) cs r) (sym s.split) (found_after (Starts ws) (value_at vs) s.before (clauses_of (drop from ws)) r k f)

@@ -6,8 +6,8 @@ use Prim.Native.Nat.{ℕ, zero, suc, ◌+◌, ◌-◌, ◌<◌, ◌≤◌}
 use native.Mathlib.Omega.{arith}
 use native.Mathlib.Numerals.{add-one}
 use lib.ListN.{length, get_or}
-use borrow.Author.Tests.{lt-ltb, le-ltb}
-use Rattle.std.specs.Prelude.{None, Some}
+use borrow.Author.Tests.{le-ltb}
+use Rattle.std.specs.Prelude.{Some}
 use Rattle.search.specs.Search.{Value, is_unset, lowest_unset}
 use Rattle.search.specs.Memory.{value_of_byte, value_at, SetTo}
 
@@ -41,11 +41,3 @@ pub seeks_start : (vs : List ℕ) (low : ℕ) → SetTo low vs → Seeks vs low
 seeks_start vs zero h = seeks_zero vs
 seeks_start vs (suc i) h =
     seeks_suc vs i (seeks_start vs i (record { within = omega (arith, h.within); bits = λ j l. h.bits j (omega arith) })) h.within (h.bits i (omega arith))
-
-pub seeks_here : (vs : List ℕ) (i : ℕ) → Seeks vs i → i < length vs → 1 < get_or vs i 0 → Some (i + 1) ≡ lowest_unset (value_at vs) 1 (length vs)
-seeks_here vs i s l h =
-    ap Some (add-one i) ∙ (sym (seeks_one vs i l ∙ (let e : cond (is_unset (value_of_byte (get_or vs i 0))) (Some (suc i)) (lowest_unset (value_at vs) (suc (suc i)) (length vs - suc i)) ≡ Some (suc i) = rw (lt-ltb 1 (get_or vs i 0) h) in e)) ∙ s.same)
-
-pub seeks_none : (vs : List ℕ) (i : ℕ) → Seeks vs i → length vs ≤ i → None ≡ lowest_unset (value_at vs) 1 (length vs)
-seeks_none vs i s l =
-    ((let e : lowest_unset (value_at vs) (suc i) 0 ≡ lowest_unset (value_at vs) (suc i) (length vs - i) = ap (lowest_unset (value_at vs) (suc i)) (let q : 0 ≡ length vs - i = omega arith in q) in e) ∙ s.same)

@@ -10,7 +10,7 @@ use lib.Dec.{eqb}
 use lib.ListN.{length, get_or, set, length-set}
 use lib.Seq.{get_or-set_same, get_or-set_other, set-set}
 use borrow.Author.Tests.{eqb-true, eqb-false, eq-eqb, ne_eqb}
-use Rattle.search.specs.Search.{unset, is, Setting, Settings, value_of, takes, refuted, undo}
+use Rattle.search.specs.Search.{unset, is, Setting, Settings, value_of, takes, undo}
 use Rattle.search.specs.Memory.{value_of_byte, value_at, setting_at, settings_of, Proper₁, Proper, unset_count, TrailAgrees, Assigned, Undone}
 use Rattle.search.proofs.Counting.{value_of_other, value_of_same, count_set}
 
@@ -164,13 +164,6 @@ shrink n vs tr t h =
 pub record Undoing (n : ℕ) (ss : Settings) (vs tr : List ℕ) (k : ℕ) : Type 0 where
   pub shaped : TrailAgrees n vs tr k
   pub same : undo ss ≡ undo (settings_of vs tr k)
-
-pub undo_start : (n : ℕ) (vs tr : List ℕ) (t : ℕ) → TrailAgrees n vs tr t → Undoing n (settings_of vs tr t) vs tr t
-undo_start n vs tr t h = record { shaped = h; same = refl }
-
-pub undo_none : (n : ℕ) (ss : Settings) (vs tr : List ℕ) (k : ℕ) → Undoing n ss vs tr k → k ≤ 0 → undo ss ≡ refuted
-undo_none n ss vs tr zero u l = u.same
-undo_none n ss vs tr (suc k) u l = absurd (omega arith)
 
 pub undo_pop : (n : ℕ) (ss : Settings) (vs tr : List ℕ) (k : ℕ) → Undoing n ss vs tr (suc k) → (get_or tr k 0 % 2 ≡ 1 → ⊥) → Undoing n ss (set vs (get_or tr k 0 / 2 - 1) 2) tr k
 undo_pop n ss vs tr k u h =

@@ -16,7 +16,7 @@ use run::run as run_turns;
 use words::bad_word;
 
 // A word names a variable by an i32.
-const MAX_VARIABLE: u64 = 2147483647;
+const MAX_VARIABLE: u64 = i32::MAX as u64;
 
 // The search's answer.
 #[derive(Clone, Copy, PartialEq, Eq)]

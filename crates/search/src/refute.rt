@@ -94,12 +94,8 @@ pub fn reaches(list: &[i32], earlier: &[i32], values: &mut [u8]) -> bool
     let mut from: usize = 0;
     loop {
         match scan_round(list, earlier, values, from) {
-            Found::Nothing => {
-                return false;
-            }
-            Found::Conflict => {
-                return true;
-            }
+            Found::Nothing => return false,
+            Found::Conflict => return true,
             Found::Unit { var, value, next } => {
                 values[var - 1] = value;
                 from = next;

@@ -69,8 +69,10 @@ pub fn run(words: &[i32], values: &mut [u8], trail: &mut [u32], budget: u64) -> 
             }
             Step::Tries(k) => {
                 if tries >= budget {
-                    let answer = Answered::Spent;
-                    return Solved { answer, tries };
+                    return Solved {
+                        answer: Answered::Spent,
+                        tries,
+                    };
                 }
                 tries += 1;
                 t = k;
@@ -78,12 +80,16 @@ pub fn run(words: &[i32], values: &mut [u8], trail: &mut [u32], budget: u64) -> 
                 low = latest(trail, k);
             }
             Step::Sat => {
-                let answer = Answered::Sat;
-                return Solved { answer, tries };
+                return Solved {
+                    answer: Answered::Sat,
+                    tries,
+                };
             }
             Step::Unsat => {
-                let answer = Answered::Unsat;
-                return Solved { answer, tries };
+                return Solved {
+                    answer: Answered::Unsat,
+                    tries,
+                };
             }
         }
     }
