@@ -8,8 +8,10 @@ ghost use Rattle.design.specs.Places.{Accepted, Measured, past_events, externals
 
 use super::bits::state_bits;
 use super::bytes::{wide, word};
+use super::kind::{CellKind, Kind};
 use super::limits::{EVENT_PLACES, EVENT_ROW, MAX_MOVERS, TRAILER, is_constrained, tail_bytes};
 use super::shape::{Counts, Offsets, Shape};
+use std::ops::Range;
 
 // Where the trailer holds its numbers.
 pub const VERSION: usize = 0;
@@ -92,33 +94,20 @@ pub fn trailer_offsets(file: &[u8]) -> Offsets
     }
 }
 
-// Where an expression stands: from `at` up to `end`.
-#[derive(Clone, Copy)]
-pub struct Extent {
-    pub at: usize,
-    pub end: usize,
-}
-
 // Where the invariant stands: up to the constraint.
-pub fn invariant(file: &[u8]) -> Extent
+pub fn invariant(file: &[u8]) -> Range<usize>
     requires { tail_bytes (version file.now) ≤ length file.now }
-    ensures { (result.at ≡ invariant_offset file.now) × (result.end ≡ constraint_offset file.now) }
+    ensures { (result.start ≡ invariant_offset file.now) × (result.end ≡ constraint_offset file.now) }
 {
-    Extent {
-        at: trailer_word(file, INVARIANT_AT),
-        end: constraint_offset(file),
-    }
+    trailer_word(file, INVARIANT_AT)..constraint_offset(file)
 }
 
 // Where the constraint stands: up to the end of the items.
-pub fn constraint(file: &[u8]) -> Extent
+pub fn constraint(file: &[u8]) -> Range<usize>
     requires { tail_bytes (version file.now) ≤ length file.now }
-    ensures { (result.at ≡ constraint_offset file.now) × (result.end ≡ items_end file.now) }
+    ensures { (result.start ≡ constraint_offset file.now) × (result.end ≡ items_end file.now) }
 {
-    Extent {
-        at: constraint_offset(file),
-        end: items_end(file),
-    }
+    constraint_offset(file)..items_end(file)
 }
 
 // The events of matrix m, of which the first stands at `at`; answers the position past them.
@@ -129,53 +118,46 @@ pub fn index_row(
     m: usize,
     table: &mut [u16; EVENT_PLACES],
 ) -> usize
-    requires { (count ≤ max_events) × (m < max_matrices) × (length file.now ≤ max_bytes) × (length table.old ≡ event_places) × ((i : ℕ) → i < count
+    requires { (count ≤ max_events) × (m < max_matrices) × (length file.now ≤ max_bytes) × ((i : ℕ) → i < count
         → past_events file.now i at < length file.now) }
     ensures { (result ≡ past_events file.now count at) × ((i : ℕ) → i < count → get_or table.new (max_events * m + i) 0
-        ≡ past_events file.now i at) × ((i : ℕ) → i < max_events * m → get_or table.new i 0 ≡ get_or table.old i 0)
-        × (length table.new ≡ event_places) }
+        ≡ past_events file.now i at) × ((i : ℕ) → i < max_events * m → get_or table.new i 0 ≡ get_or table.old i 0) }
 {
     let mut p = at;
-    let mut i = 0;
-    while i < count {
+    for i in 0..count {
         table[EVENT_ROW * m + i] = p as u16;
         p = p + 1 + wide(file[p]);
-        i = i + 1;
     }
     p
 }
 
 // The events of all matrices.
 pub fn index_events(file: &[u8], table: &mut [u16; EVENT_PLACES])
-    requires { Accepted file.now × (length table.old ≡ event_places) }
+    requires { Accepted file.now }
     ensures { EventsIndexed file.now table.new }
 {
     let mats = trailer_word(file, MATRICES_AT);
     let nm = trailer_word(file, MATRICES);
     let mut p = trailer_word(file, EVENTS_AT);
-    let mut m = 0;
-    while m < nm {
+    for m in 0..nm {
         p = index_row(file, p, wide(file[mats + 2 * m + 1]), m, table);
-        m = m + 1;
     }
 }
 
 // The normal cells; answers how many there are.
 pub fn index_cells(file: &[u8], table: &mut [u16; MAX_MOVERS]) -> usize
-    requires { Accepted file.now × (length table.old ≡ max_movers) }
+    requires { Accepted file.now }
     ensures { CellsIndexed file.now table.new result }
 {
     let count = trailer_word(file, CELLS);
     let mut p = trailer_word(file, CELLS_AT);
-    let mut i = 0;
     let mut normals = 0;
-    while i < count {
-        if file[p + 3] == 0 {
+    for _ in 0..count {
+        if file[p + 3] == CellKind::Normal as u8 {
             table[normals] = p as u16;
-            normals = normals + 1;
+            normals += 1;
         }
         p = p + 8 + wide(file[p + 5]) + word(file, p + 6);
-        i = i + 1;
     }
     normals
 }
@@ -185,13 +167,11 @@ pub fn external_count(file: &[u8], variables: usize) -> usize
     requires { 3 * variables ≤ length file.now }
     ensures { (result ≡ length (externals_from file.now 0 variables)) × (result ≤ variables) }
 {
-    let mut v = 0;
     let mut count = 0;
-    while v < variables {
-        if file[3 * v] == 2 {
-            count = count + 1;
+    for v in 0..variables {
+        if file[3 * v] == Kind::External as u8 {
+            count += 1;
         }
-        v = v + 1;
     }
     count
 }
@@ -201,18 +181,16 @@ pub fn external(file: &[u8], variables: usize, k: usize) -> usize
     requires { (3 * variables ≤ length file.now) × (k < length (externals_from file.now 0 variables)) }
     ensures { (result ≡ get_or (externals_from file.now 0 variables) k 0) × (result < variables) }
 {
-    let mut v = 0;
     let mut left = k;
-    while v < variables {
-        if file[3 * v] == 2 {
+    for v in 0..variables {
+        if file[3 * v] == Kind::External as u8 {
             if left == 0 {
                 return v;
             }
-            left = left - 1;
+            left -= 1;
         }
-        v = v + 1;
     }
-    v
+    variables
 }
 
 // The shape of a file with so many normal cells.
