@@ -10,6 +10,7 @@ use lib.ListN.{length, get_or, drop, take, replicate, length-replicate}
 use lib.Seq.{length-take-le}
 use borrow.Author.Tests.{lt-ltb, le-ltb}
 use Rattle.std.specs.Prelude.{Option, None, Some}
+use Rattle.design.specs.Answer.{refused, answer}
 use Rattle.clauses.specs.Literal.{Literal, Clause}
 use Rattle.clauses.specs.Meaning.{Within}
 use Rattle.clauses.specs.Words.{is_end, clauses_of}
@@ -22,7 +23,6 @@ use Rattle.search.proofs.BadWords.{good_words}
 use Rattle.search.proofs.Refutations.{follows_from, from_follows, refutes_none, accepted_refutes, refutes_accepted}
 use Rattle.search.specs.declared.refute.Judged.{Judged}
 use Rattle.search.specs.declared.refute.Judged.TheVariants.{Accepted, Word}
-use Rattle.search.specs.declared.refute.Reply.TheVariants.{Refused, Done}
 
 -- one clause: the values are set anew, its literals set false, and units set
 module _ {n : ℕ} {ws ds : List ℤ} {vs₂ : List ℕ} {i : ℕ} (two : Two n ws ds) (read : ReadTo ds i) (l : i < length ds) (filled : vs₂ ≡ replicate n 2) where
@@ -111,7 +111,7 @@ word_low n ws {i} e = let h = low 0 false ws i (sym e) in omega arith
 
 -- REFUTE's cases. Past the refusals of n and of the words, and past those of n and of the list:
 abbrev rest : ℕ → List ℤ → List ℤ → List ℕ → AfterRefute
-rest n ws ds vs = cond (ltb (length vs) n) (refuses 16 0 vs) (record { reply = Done (judged n 0 (clauses_of ws) (clauses_of ds)); values = replicate n 0 ++ drop n vs })
+rest n ws ds vs = cond (ltb (length vs) n) (refuses 16 0 vs) (record { reply = answer (judged n 0 (clauses_of ws) (clauses_of ds)); values = replicate n 0 ++ drop n vs })
 
 abbrev listed : ℕ → List ℤ → List ℤ → List ℕ → AfterRefute
 listed n ws ds vs = at_place (bad_word n 0 false ds) (λ i. refuses 17 (length ws + i) vs) (rest n ws ds vs)
@@ -149,12 +149,12 @@ module _ (n : ℕ) (ws ds : List ℤ) (vs : List ℕ) where
               rw (length-take-le n vs long) (record { inside = g.0; closes = g.1; inside₂ = h.0; closes₂ = h.1 })
 
           pub refute_done : {r : Judged} {vs₃ : List ℕ} → r ≡ judged (length (take n vs)) 0 (clauses_of ws) (clauses_of ds) → vs₃ ≡ replicate (length (take n vs)) 0
-              → record { reply = Done r; values = vs₃ ++ drop n vs } ≡ refute n ws ds vs
+              → record { reply = answer r; values = vs₃ ++ drop n vs } ≡ refute n ws ds vs
           refute_done {r} e z =
               let a : r ≡ judged n 0 (clauses_of ws) (clauses_of ds) = e ∙ ap (λ (k : ℕ). judged k 0 (clauses_of ws) (clauses_of ds)) (length-take-le n vs long) in
               let b = z ∙ ap (λ (k : ℕ). replicate k 0) (length-take-le n vs long) in
-              (λ i. record { reply = Done (a i); values = b i ++ drop n vs })
-              ∙ (let g : record { reply = Done (judged n 0 (clauses_of ws) (clauses_of ds)); values = replicate n 0 ++ drop n vs } ≡ rest n ws ds vs = rw (le-ltb (length vs) n long) in g) ∙ past
+              (λ i. record { reply = answer (a i); values = b i ++ drop n vs })
+              ∙ (let g : record { reply = answer (judged n 0 (clauses_of ws) (clauses_of ds)); values = replicate n 0 ++ drop n vs } ≡ rest n ws ds vs = rw (le-ltb (length vs) n long) in g) ∙ past
 
 -- what an answer tells of the call
 pub record Answers (n : ℕ) (ws ds : List ℤ) (j : Judged) : Type 0 where
@@ -162,16 +162,16 @@ pub record Answers (n : ℕ) (ws ds : List ℤ) (j : Judged) : Type 0 where
   pub refutation : Within n (clauses_of ds)
   pub judges : j ≡ judged n 0 (clauses_of ws) (clauses_of ds)
 
-pub answers : (n : ℕ) (ws ds : List ℤ) (vs : List ℕ) (j : Judged) → (refute n ws ds vs).reply ≡ Done j → Answers n ws ds j
+pub answers : (n : ℕ) (ws ds : List ℤ) (vs : List ℕ) (j : Judged) → (refute n ws ds vs).reply ≡ answer j → Answers n ws ds j
 unfolding refute
 answers n ws ds vs j e = large (ltb (2 ^ 31 - 1) n) e
   where
-    refused : {i k : ℕ} → Refused i k ≡ Done j → ⊥
-    refused e = let z : ◌≡◌ {A = ℕ} 0 1 = cc in omega arith
+    turned : {i k : ℕ} → refused i k ≡ answer j → ⊥
+    turned e = let z : ◌≡◌ {A = ℕ} 0 1 = cc in omega arith
 
     short : bad_word n 0 false ws ≡ None → bad_word n 0 false ds ≡ None → (b : Bool)
-        → (cond b (refuses 16 0 vs) (record { reply = Done (judged n 0 (clauses_of ws) (clauses_of ds)); values = replicate n 0 ++ drop n vs })).reply ≡ Done j → Answers n ws ds j
-    short p q true e = absurd (refused e)
+        → (cond b (refuses 16 0 vs) (record { reply = answer (judged n 0 (clauses_of ws) (clauses_of ds)); values = replicate n 0 ++ drop n vs })).reply ≡ answer j → Answers n ws ds j
+    short p q true e = absurd (turned e)
     short p q false e =
         record {
           list = within_words n ws (good_words n 0 false ws p).0;
@@ -179,16 +179,16 @@ answers n ws ds vs j e = large (ltb (2 ^ 31 - 1) n) e
           judges = (let k : judged n 0 (clauses_of ws) (clauses_of ds) ≡ j = cc in sym k);
         }
 
-    second : bad_word n 0 false ws ≡ None → (p : Option ℕ) → bad_word n 0 false ds ≡ p → (at_place p (λ i. refuses 17 (length ws + i) vs) (rest n ws ds vs)).reply ≡ Done j → Answers n ws ds j
+    second : bad_word n 0 false ws ≡ None → (p : Option ℕ) → bad_word n 0 false ds ≡ p → (at_place p (λ i. refuses 17 (length ws + i) vs) (rest n ws ds vs)).reply ≡ answer j → Answers n ws ds j
     second p None q e = short p q (ltb (length vs) n) e
-    second p (Some i) q e = absurd (refused e)
+    second p (Some i) q e = absurd (turned e)
 
-    first : (p : Option ℕ) → bad_word n 0 false ws ≡ p → (at_place p (λ i. refuses 17 i vs) (listed n ws ds vs)).reply ≡ Done j → Answers n ws ds j
+    first : (p : Option ℕ) → bad_word n 0 false ws ≡ p → (at_place p (λ i. refuses 17 i vs) (listed n ws ds vs)).reply ≡ answer j → Answers n ws ds j
     first None p e = second p (bad_word n 0 false ds) refl e
-    first (Some i) p e = absurd (refused e)
+    first (Some i) p e = absurd (turned e)
 
-    large : (b : Bool) → (cond b (refuses 17 0 vs) (at_place (bad_word n 0 false ws) (λ i. refuses 17 i vs) (listed n ws ds vs))).reply ≡ Done j → Answers n ws ds j
-    large true e = absurd (refused e)
+    large : (b : Bool) → (cond b (refuses 17 0 vs) (at_place (bad_word n 0 false ws) (λ i. refuses 17 i vs) (listed n ws ds vs))).reply ≡ answer j → Answers n ws ds j
+    large true e = absurd (turned e)
     large false e = first (bad_word n 0 false ws) refl e
 
 -- R-7's sentences about the answer
@@ -201,7 +201,7 @@ refute_right n list refutation values =
       complete = λ j e r. let h = answers n list refutation values j e in h.judges ∙ refutes_accepted n 0 h.list h.refutation r;
     }
   where
-    meets : (refute n list refutation values).reply ≡ Done Accepted → Refutes (clauses_of list) (clauses_of refutation)
+    meets : (refute n list refutation values).reply ≡ answer Accepted → Refutes (clauses_of list) (clauses_of refutation)
     meets e =
         let h = answers n list refutation values Accepted e in
         accepted_refutes n 0 (clauses_of list) (clauses_of refutation) h.list h.refutation (sym h.judges)

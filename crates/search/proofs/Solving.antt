@@ -10,13 +10,13 @@ use lib.ListN.{length, drop, take, replicate, length-replicate}
 use lib.Seq.{length-take-le}
 use borrow.Author.Tests.{lt-ltb, le-ltb}
 use Rattle.std.specs.Prelude.{None, Some}
+use Rattle.design.specs.Answer.{answer}
 use Rattle.clauses.specs.Words.{clauses_of}
 use Rattle.search.specs.Search.{up_to, solved}
 use Rattle.search.specs.Solve.{bad_word, After, refuses, leaves, solve}
 use Rattle.search.specs.Memory.{Fresh, outcome, Ran, Leaves}
 use Rattle.search.proofs.BadWords.{good_words}
 use Rattle.search.specs.declared.Solved.{Solved}
-use Rattle.search.specs.declared.Reply.TheVariants.{Done}
 
 -- the test of the answer, as `==` puts it
 -- the search's steps: the values filled with 2, the run, the trail cleared, and the values too where the answer is not SAT
@@ -71,7 +71,7 @@ module _ (n : ℕ) (ws : List ℤ) (vs tr : List ℕ) (b : ℕ) where
         solve_leaves l = (let g : leaves n (solved n (clauses_of ws) (up_to b)) vs tr ≡ rest = rw (le-ltb (length vs) n values, le-ltb (length tr) n l) in g) ∙ past
 
         pub solve_done : {vs₂ tr₂ : List ℕ} {r : Solved} → n ≤ length tr → Leaves (outcome (take n vs) ws b) (length (take n vs)) r vs₂ tr₂
-            → record { reply = Done r; values = vs₂ ++ drop n vs; trail = tr₂ ++ drop n tr } ≡ solve n ws vs tr b
+            → record { reply = answer r; values = vs₂ ++ drop n vs; trail = tr₂ ++ drop n tr } ≡ solve n ws vs tr b
         solve_done {vs₂} {tr₂} {r} l m =
             let g : Leaves (solved n (clauses_of ws) (up_to b)) n r vs₂ tr₂ = subst (λ (j : ℕ). Leaves (solved j (clauses_of ws) (up_to b)) j r vs₂ tr₂) (length-take-le n vs values) m in
-            (λ i. record { reply = Done (g.result i); values = g.values i ++ drop n vs; trail = g.trail i ++ drop n tr }) ∙ solve_leaves l
+            (λ i. record { reply = answer (g.result i); values = g.values i ++ drop n vs; trail = g.trail i ++ drop n tr }) ∙ solve_leaves l

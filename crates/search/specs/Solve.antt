@@ -1,11 +1,11 @@
 -- SOLVE (document 01, "Turned-back calls"): its refusals, its answer, and what it leaves in lent memory.
 use Rattle.std.specs.Prelude.{Bool, true, false, not, ◌||◌, cond, List, [], ◌∷◌, ◌++◌, ℕ, zero, suc, ◌-◌, ◌^◌, ltb, eqb, ℤ, nat_abs, length, get_or, drop, replicate, Option, None, Some}
+use Rattle.design.specs.Answer as call
 use Rattle.clauses.specs.Meaning.{Assignment}
 use Rattle.clauses.specs.Words.{words, is_end, clauses_of}
 use Rattle.search.specs.Search.{Value, unset, is, Settings, value_of, up_to, Answer, SAT, UNSAT, SPENT, Outcome, solved}
 use Rattle.search.specs.Answers.{declared_solved}
-use Rattle.search.specs.declared.Reply.{Reply}
-use Rattle.search.specs.declared.Reply.TheVariants.{Refused, Done}
+use Rattle.search.specs.declared.Solved.{Solved}
 
 -- "a literal outside -n..n or no closing 0 (place: word, or length)": the first such place. i words were read; begun: a clause is begun
 abbrev pub outside : ℕ → ℤ → Bool
@@ -37,19 +37,19 @@ assigned values v = eqb (get_or values (v - 1) 0) 1
 
 -- the reply, and lent memory after the call
 pub record After : Type 0 where
-  pub reply : Reply
+  pub reply : call.Answer Solved
   pub values : List ℕ
   pub trail : List ℕ
 
 -- "Each refusal is a number and a place and leaves all lent memory unchanged"
 abbrev pub refuses : ℕ → ℕ → List ℕ → List ℕ → After
-refuses number place values trail = record { reply = Refused number place; values = values; trail = trail }
+refuses number place values trail = record { reply = call.refused number place; values = values; trail = trail }
 
 -- "All else keeps."
 abbrev pub leaves : ℕ → Outcome → List ℕ → List ℕ → After
 leaves n o values trail =
     record {
-      reply = Done (declared_solved o);
+      reply = call.answer (declared_solved o);
       values = values_left n o.answer ++ drop n values;
       trail = replicate n 0 ++ drop n trail;
     }

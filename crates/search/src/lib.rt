@@ -2,6 +2,7 @@
 #![tactic(auto)]
 
 ghost use Rattle.std.specs.Prelude.{◌≡◌, length};
+ghost use Rattle.design.specs.Answer.{told};
 ghost use Rattle.search.specs.Solve.{solve as solve_of};
 ghost use Rattle.search.specs.Memory.{Fresh, outcome, Leaves};
 
@@ -12,6 +13,7 @@ mod trail; // setting a variable, the lowest unset one, undoing
 mod run; // the turns
 pub mod refute; // REFUTE
 
+use design::refusal::Refused;
 use run::run as run_turns;
 use words::bad_word;
 
@@ -32,13 +34,6 @@ pub struct Solved {
     pub tries: u64,
 }
 
-// What SOLVE answers: a refusal's number and place, or the search's answer and tries.
-#[derive(Clone, Copy)]
-pub enum Reply {
-    Refused { number: u8, place: usize },
-    Done(Solved),
-}
-
 // The search on values and a trail of just n entries, and what it leaves there.
 pub fn search(words: &[i32], values: &mut [u8], trail: &mut [u32], budget: u64) -> Solved
     requires { Fresh words.now values.old trail.old }
@@ -54,33 +49,24 @@ pub fn search(words: &[i32], values: &mut [u8], trail: &mut [u32], budget: u64) 
 }
 
 // SOLVE: n variables, the clauses as words, memory for values and the trail, and the budget.
-pub fn solve(n: u64, words: &[i32], values: &mut [u8], trail: &mut [u32], budget: u64) -> Reply
-    ensures { record { reply = result; values = values.new; trail = trail.new } ≡ solve_of n words.now values.old trail.old budget }
+pub fn solve(
+    n: u64,
+    words: &[i32],
+    values: &mut [u8],
+    trail: &mut [u32],
+    budget: u64,
+) -> Result<Solved, Refused>
+    ensures { record { reply = told result; values = values.new; trail = trail.new } ≡ solve_of n words.now values.old trail.old budget }
 {
     if n > MAX_VARIABLE {
-        return Reply::Refused {
-            number: 17,
-            place: 0,
-        };
+        return Err(Refused::Clauses(0));
     }
     if let Some(i) = bad_word(n, words) {
-        return Reply::Refused {
-            number: 17,
-            place: i,
-        };
+        return Err(Refused::Clauses(i));
     }
     let k = n as usize;
-    if values.len() < k {
-        return Reply::Refused {
-            number: 16,
-            place: 0,
-        };
+    if values.len() < k || trail.len() < k {
+        return Err(Refused::Memory);
     }
-    if trail.len() < k {
-        return Reply::Refused {
-            number: 16,
-            place: 0,
-        };
-    }
-    Reply::Done(search(words, &mut values[..k], &mut trail[..k], budget))
+    Ok(search(words, &mut values[..k], &mut trail[..k], budget))
 }

@@ -1,5 +1,6 @@
 // REFUTE: whether every clause of a refutation follows from a clause list and the clauses before it, up to an empty one.
 ghost use Rattle.std.specs.Prelude.{◌≡◌, true, ◌+◌, ◌^◌, ◌<◌, length, drop, replicate};
+ghost use Rattle.design.specs.Answer.{told};
 ghost use Rattle.clauses.specs.Words.{clauses_of};
 ghost use Rattle.search.specs.Refutation.{judged, refute as refute_of};
 ghost use Rattle.search.specs.Memory.{AllIn, has_end, first_clause, Starts, value_at, AllUnset, Finds, Denied, Two, StartsAfter, StartsTwo, clauses_from, both_of, ReadTo, Reaches, follows_at};
@@ -8,6 +9,7 @@ use super::MAX_VARIABLE;
 use super::reader::after_clause;
 use super::scan::{Found, scan_from};
 use super::words::{bad_word, ends, sign, variable};
+use design::refusal::Refused;
 
 // Every clause follows up to an empty one; the word at which the first clause begins that does not; or no empty clause.
 #[derive(Clone, Copy)]
@@ -15,13 +17,6 @@ pub enum Judged {
     Accepted,
     Word(usize),
     Ended,
-}
-
-// What REFUTE answers: a refusal's number and place, or what it found.
-#[derive(Clone, Copy)]
-pub enum Reply {
-    Refused { number: u8, place: usize },
-    Done(Judged),
 }
 
 // Sets the literals of the clause at `from` false, where all values are unset. It is left with true at a literal that an
@@ -146,33 +141,26 @@ pub fn judge(list: &[i32], refutation: &[i32], values: &mut [u8]) -> Judged
 }
 
 // REFUTE: n variables, the clauses and the refutation as words, and memory for values.
-pub fn refute(n: u64, list: &[i32], refutation: &[i32], values: &mut [u8]) -> Reply
-    ensures { record { reply = result; values = values.new } ≡ refute_of n list.now refutation.now values.old }
+pub fn refute(
+    n: u64,
+    list: &[i32],
+    refutation: &[i32],
+    values: &mut [u8],
+) -> Result<Judged, Refused>
+    ensures { record { reply = told result; values = values.new } ≡ refute_of n list.now refutation.now values.old }
 {
     if n > MAX_VARIABLE {
-        return Reply::Refused {
-            number: 17,
-            place: 0,
-        };
+        return Err(Refused::Clauses(0));
     }
     if let Some(i) = bad_word(n, list) {
-        return Reply::Refused {
-            number: 17,
-            place: i,
-        };
+        return Err(Refused::Clauses(i));
     }
     if let Some(i) = bad_word(n, refutation) {
-        return Reply::Refused {
-            number: 17,
-            place: list.len() + i,
-        };
+        return Err(Refused::Clauses(list.len() + i));
     }
     let k = n as usize;
     if values.len() < k {
-        return Reply::Refused {
-            number: 16,
-            place: 0,
-        };
+        return Err(Refused::Memory);
     }
-    Reply::Done(judge(list, refutation, &mut values[..k]))
+    Ok(judge(list, refutation, &mut values[..k]))
 }

@@ -1,6 +1,7 @@
 use mathlib.Core.Path.{sym, ◌∙◌}
 use Rattle.search.proofs.Solving.{solve_large, solve_word, solve_values, solve_trail, solve_fresh, solve_done}
 use Rattle.search.proofs.solve.Goals as goal
+use Rattle.search.proofs.solve.Goals.{then-values-k-via-then-values-k, then-values-k-via-else-values-k+then-trail-k}
 
 pub returns-then-n-gt-MAX_VARIABLE : goal.returns-then-n-gt-MAX_VARIABLE
 returns-then-n-gt-MAX_VARIABLE c =
@@ -12,11 +13,10 @@ returns-in-Some c =
 
 pub returns-then-values-k : goal.returns-then-values-k
 returns-then-values-k c =
-    solve_values c.args.n c.args.words.now c.args.values.now c.args.trail.now c.args.budget c.if-n-gt-MAX_VARIABLE.false (sym c.in_default.is ∙ c.bad_word.ensures) c.if-values-k.true
-
-pub returns-then-trail-k : goal.returns-then-trail-k
-returns-then-trail-k c =
-    solve_trail c.args.n c.args.words.now c.args.values.now c.args.trail.now c.args.budget c.if-n-gt-MAX_VARIABLE.false (sym c.in_default.is ∙ c.bad_word.ensures) c.if-values-k.false c.if-trail-k.true
+    elim c.then-values-k.branch [
+      | then-values-k-via-then-values-k w ↦ solve_values c.args.n c.args.words.now c.args.values.now c.args.trail.now c.args.budget c.if-n-gt-MAX_VARIABLE.false (sym c.in_default.is ∙ c.bad_word.ensures) w.if-values-k.true
+      | then-values-k-via-else-values-k+then-trail-k w ↦ solve_trail c.args.n c.args.words.now c.args.values.now c.args.trail.now c.args.budget c.if-n-gt-MAX_VARIABLE.false (sym c.in_default.is ∙ c.bad_word.ensures) w.if-values-k.false w.if-trail-k.true
+    ]
 
 pub search-requires : goal.search-requires
 search-requires c =
