@@ -52,7 +52,6 @@ unit_before σ (c ∷ cs) ds l (inl e) = inl e
 unit_before σ (c ∷ cs) ds l (inr u) = inr (unit_before σ cs ds l u)
 
 -- what a scan finds, told of other places and of more clauses
--- what is found away from a unit says nothing of places
 found_among : (P Q : ℕ → Type 0) (σ : Values) (cs ds : List Clause) → ((i : ℕ) → P i → Q i) → Quiet σ cs → (r : Found) → Finds P σ ds r → Finds Q σ (cs ++ ds) r
 found_among P Q σ cs ds h q Nothing f = quiet_both σ cs ds q f
 found_among P Q σ cs ds h q Conflict f = conflict_after σ cs ds f
@@ -74,7 +73,7 @@ module _ {n : ℕ} {ws ds : List ℤ} (two : Two n ws ds) where
   of_second : (i : ℕ) → StartsAfter (length ws) ds i → StartsTwo ws ds i
   of_second i s = ((λ l. absurd (let h = s.0 in omega arith)), λ l. s.1)
 
-  -- the scan from a place of the second list on, from one of the first on that finds something, and from there into the second
+  -- the scan from a place of the first list on that finds something, and from there into the second
   module _ (σ : Values) (from : ℕ) (r : Found) where
     pub two_first : Finding r → Finds (Starts ws) σ (clauses_of (drop from ws)) r → Finds (StartsTwo ws ds) σ (clauses_from ws ds from) r
     two_first s f = found_before (Starts ws) (StartsTwo ws ds) σ (clauses_of (drop from ws)) (clauses_of (drop (from - length ws) ds)) of_first r s f

@@ -19,8 +19,7 @@ use Rattle.search.proofs.Reading.{inside_low, inside_next, inside_end, Passing, 
 use Rattle.search.specs.declared.scan.Found.{Found}
 use Rattle.search.specs.declared.scan.Found.TheVariants.{Nothing, Conflict, Unit as UnitAt}
 
--- a literal's value, by its variable's byte
-
+-- a literal's variable is not 0
 pub literal_low : (z : ℤ) (v : ℕ) → is_end z ≡ false → v ≡ nat_abs z → 0 < v
 literal_low (pos zero) v e q = absurd (true≢false e)
 literal_low (pos (suc n)) v e q = omega arith

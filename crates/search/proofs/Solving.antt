@@ -1,12 +1,12 @@
 -- SOLVE: what its steps leave, and its cases.
-use mathlib.Core.Path.{◌≡◌, sym, ap, ◌∙◌, subst}
+use mathlib.Core.Path.{◌≡◌, sym, ◌∙◌, subst}
 use mathlib.Core.Bool.{false, ◌||◌, cond}
 use mathlib.Core.List.{List, ◌++◌}
 use Prim.Native.Nat.{ℕ, ◌<◌, ◌≤◌}
 use native.Mathlib.Omega.{arith}
 use lib.Dec.{ltb}
 use lib.IntN.{ℤ}
-use lib.ListN.{length, drop, take, replicate, length-replicate}
+use lib.ListN.{length, drop, take}
 use lib.Seq.{length-take-le}
 use borrow.Author.Tests.{lt-ltb, le-ltb}
 use Rattle.std.specs.Prelude.{None, Some}
@@ -14,21 +14,9 @@ use Rattle.design.specs.Answer.{answer}
 use Rattle.clauses.specs.Words.{clauses_of}
 use Rattle.search.specs.Search.{up_to, solved}
 use Rattle.search.specs.Solve.{bad_word, After, refuses, leaves, solve}
-use Rattle.search.specs.Memory.{Fresh, outcome, Ran, Leaves}
+use Rattle.search.specs.Memory.{Fresh, outcome, Leaves}
 use Rattle.search.proofs.BadWords.{good_words}
 use Rattle.search.specs.declared.Solved.{Solved}
-
--- the test of the answer, as `==` puts it
--- the search's steps: the values filled with 2, the run, the trail cleared, and the values too where the answer is not SAT
-module _
-    (n : ℕ) (ws : List ℤ) (b : ℕ) (vs₂ vs₃ tr₂ tr₃ : List ℕ) (r : Solved)
-    (unset : vs₂ ≡ replicate n 2) (ran : Ran (outcome vs₂ ws b) (length vs₂) r vs₃) (cleared : tr₃ ≡ replicate (length tr₂) 0) (wide : length tr₂ ≡ n)
-  where
-    here : Ran (solved n (clauses_of ws) (up_to b)) n r vs₃
-    here = subst (λ (k : ℕ). Ran (solved k (clauses_of ws) (up_to b)) k r vs₃) (ap length unset ∙ length-replicate n 2) ran
-
-    trail : tr₃ ≡ replicate n 0
-    trail = cleared ∙ ap (λ (k : ℕ). replicate k 0) wide
 
 -- SOLVE's cases
 module _ (n : ℕ) (ws : List ℤ) (vs tr : List ℕ) (b : ℕ) where
