@@ -43,7 +43,7 @@ fn past_clause(words: &[i32], from: usize) -> usize
     requires { has_end (drop from words.now) ≡ true }
     ensures { Past words.now from result }
 {
-    // Kept: one test a word, since the list has an end; `for` and `position` test the length too.
+    // Kept: a word ends the clause, not a count; with a `for` the search was slower.
     let mut i = from;
     while !ends(words, i) {
         i += 1;
