@@ -10,7 +10,6 @@ use super::answer::{ANSWER_WORDS, Reply, Verdict, owner_words};
 use super::verdict;
 use clauses::size::{SizeReply, size};
 use design::Refusal;
-use search::fill::{fill8, zero_words};
 
 // "Up to four"
 pub const MOST_OWNERS: usize = 4;
@@ -39,8 +38,8 @@ fn clear<'a>(file: &'a [u8], piece: &'a [u8], bound: u64, clauses: &mut [i32], v
     if let SizeReply::Sized(s) = size(file, piece, 0, bound) {
         let m = s.words as usize;
         let n = s.variables as usize;
-        zero_words(&mut clauses[..m]);
-        fill8(&mut values[..n], 0);
+        clauses[..m].fill(0);
+        values[..n].fill(0);
     }
 }
 
