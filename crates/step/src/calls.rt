@@ -149,8 +149,7 @@ pub fn step_accepted(
         statuses,
         mark,
     };
-    let wrong = wrong_entry(file, shape, entries);
-    if wrong < MAX_SLOTS {
+    if let Some(wrong) = wrong_entry(file, shape, entries) {
         return refuse_step(11, wrong);
     }
     let c = choice as usize;
@@ -209,8 +208,7 @@ pub fn holds_accepted(
         statuses,
         mark,
     };
-    let wrong = wrong_entry(file, shape, entries);
-    if wrong < MAX_SLOTS {
+    if let Some(wrong) = wrong_entry(file, shape, entries) {
         return refuse_holds(11, wrong);
     }
     if LAST_STATE_PROPERTY < property {
