@@ -16,11 +16,9 @@ use Rattle.design.specs.Action.{list}
 use Rattle.design.specs.DesignFile.{Entry, normal, events, statuses, ending, fields, ordered, guard, action, entry, c_matrix, c_status, c_event, c_target, c_middle, c_past, c_guard, c_kind, cell_at, cells_from, Item, item, refused, need, filling, after}
 use Rattle.design.specs.Answers.{found, walked, length_filled, counted, moves}
 use Rattle.design.proofs.Sections.{after_inv, need_inv, item_past, item_same}
-use Rattle.design.specs.declared.expression.Found.{Found}
-use Rattle.design.specs.declared.item.Walked.{Walked}
-use Rattle.design.specs.declared.item.Walked.TheVariants.{Past, Refused}
-use Rattle.design.specs.declared.item.Counted.TheVariants.{Passed, Stopped}
 use Rattle.design.proofs.Items.{passed, stopped, met, unmet, count_cons, filled_read}
+use Rattle.std.specs.Prelude.{Option}
+use Rattle.design.specs.Answer.{Answer, answer}
 
 -- tests of equal numbers
 module _ (a b x y : ℕ) (p : a ≡ x) (q : b ≡ y) where
@@ -53,17 +51,17 @@ module _ (file : List ℕ) (M nm at : ℕ) where
   fields_ending k t e g a b c = sym (simp (lt-ltb _ _ a, lt-ltb _ _ b, lt-ltb _ _ c) (ap (ending file M at) e ∙ g))
 
 module _ (file : List ℕ) (end : ℕ) (names : Names) (at : ℕ) where
-  pub guard_none : (k : ℕ) → k ≡ 0 → (m : ℕ) → m ≡ c_middle file at → Past m ≡ walked (guard file end names at k)
-  guard_none zero e m h = ap Past h
+  pub guard_none : (k : ℕ) → k ≡ 0 → (m : ℕ) → m ≡ c_middle file at → answer m ≡ walked (guard file end names at k)
+  guard_none zero e m h = ap answer h
   guard_none (suc k) e m h = absurd (omega arith)
 
-  pub guard_read : (k : ℕ) → (k ≡ 0 → ⊥) → (m : ℕ) → m ≡ c_middle file at → (f : Found) (r : Walked) → r ≡ length_filled 8 at m f → f ≡ found (bool_expr file names m max_depth (at + 8)) → r ≡ walked (guard file end names at k)
-  guard_read zero h m p f r e q = absurd (h refl)
-  guard_read (suc k) h m p f r e q =
-      filled_read 8 at m (bool_expr file names m max_depth (at + 8)) f r e q
+  pub guard_read : (k : ℕ) → (k ≡ 0 → ⊥) → (m : ℕ) → m ≡ c_middle file at → (r : Answer ℕ) → r ≡ walked (filling 8 at m (bool_expr file names m max_depth (at + 8))) → r ≡ walked (guard file end names at k)
+  guard_read zero h m p r e = absurd (h refl)
+  guard_read (suc k) h m p r e =
+      e
       ∙ ap (λ (j : ℕ). walked (filling 8 at j (bool_expr file names j max_depth (at + 8)))) p
 
-  pub action_read : (m past : ℕ) → m ≡ c_middle file at → past ≡ c_past file at → (f : Found) (r : Walked) → r ≡ length_filled 9 at past f → f ≡ found (list file names past max_nest m) → r ≡ walked (action file end names at)
+  pub action_read : (m past : ℕ) → m ≡ c_middle file at → past ≡ c_past file at → (f : Option ℕ) (r : Answer ℕ) → r ≡ length_filled 9 at past f → f ≡ found (list file names past max_nest m) → r ≡ walked (action file end names at)
   action_read m past p s f r e q =
       filled_read 9 at past (list file names past max_nest m) f r e q
       ∙ ap (λ (j : ℕ). walked (filling 9 at past (list file names past max_nest j))) p
@@ -77,7 +75,7 @@ module _ (file : List ℕ) (end : ℕ) (names : Names) (M : ℕ) (f : ℕ → �
   abbrev right : Bool
   right = fields file M names.matrices at
 
-  pub cell_passes : (past : ℕ) → past ≡ c_past file at → end < past → Refused 4 at ≡ walked cell
+  pub cell_passes : (past : ℕ) → past ≡ c_past file at → end < past → Answer.refused 4 at ≡ walked cell
   unfolding cell_at
   cell_passes past e h = sym (ap walked (unmet (leb (c_past file at) end) 4 at _ (lt-leb (c_past file at) end (omega arith))))
 
@@ -86,21 +84,21 @@ module _ (file : List ℕ) (end : ℕ) (names : Names) (M : ℕ) (f : ℕ → �
     unfolding cell_at
     cell_in = met (leb (c_past file at) end) 4 at _ (le-leb (c_past file at) end (omega arith))
 
-    pub cell_fields : (t : Bool) → t ≡ right → t ≡ false → Refused 7 at ≡ walked cell
+    pub cell_fields : (t : Bool) → t ≡ right → t ≡ false → Answer.refused 7 at ≡ walked cell
     cell_fields t q z = sym (ap walked (cell_in ∙ unmet (right && ordered file before at) 7 at _ (ap (λ (b : Bool). b && ordered file before at) (sym q ∙ z))))
 
-    pub cell_order : (t u : Bool) → t ≡ right → t ≡ true → u ≡ ordered file before at → u ≡ false → Refused 7 at ≡ walked cell
+    pub cell_order : (t u : Bool) → t ≡ right → t ≡ true → u ≡ ordered file before at → u ≡ false → Answer.refused 7 at ≡ walked cell
     cell_order t u q z r w = sym (ap walked (cell_in ∙ unmet (right && ordered file before at) 7 at _ (and_false right (ordered file before at) (sym r ∙ w))))
 
     module _ (t u : Bool) (q : t ≡ right) (z : t ≡ true) (r : u ≡ ordered file before at) (w : u ≡ true) where
       cell_right : cell ≡ entry file end names M f at (c_kind file at)
       cell_right = cell_in ∙ met (right && ordered file before at) 7 at _ (and_true right (ordered file before at) (sym q ∙ z) (sym r ∙ w))
 
-      entry_invalid : (k : ℕ) → (k ≡ 0 → ⊥) → Past past ≡ walked (entry file end names M f at k)
+      entry_invalid : (k : ℕ) → (k ≡ 0 → ⊥) → answer past ≡ walked (entry file end names M f at k)
       entry_invalid zero h = absurd (h refl)
-      entry_invalid (suc k) h = ap Past e
+      entry_invalid (suc k) h = ap answer e
 
-      pub cell_invalid : (c_kind file at ≡ 0 → ⊥) → Past past ≡ walked cell
+      pub cell_invalid : (c_kind file at ≡ 0 → ⊥) → answer past ≡ walked cell
       cell_invalid h = entry_invalid (c_kind file at) h ∙ sym (ap walked cell_right)
 
       abbrev G : Item BoolExpr
@@ -112,12 +110,12 @@ module _ (file : List ℕ) (end : ℕ) (names : Names) (M : ℕ) (f : ℕ → �
       abbrev rest : BoolExpr → ℕ → Item Entry
       rest g p = after (action file end names at) (λ a q. item (made g a) (c_past file at))
 
-      entry_guard : (k i p : ℕ) → k ≡ 0 → G ≡ refused i p → Refused i p ≡ walked (entry file end names M f at k)
+      entry_guard : (k i p : ℕ) → k ≡ 0 → G ≡ refused i p → Answer.refused i p ≡ walked (entry file end names M f at k)
       unfolding made
       entry_guard zero i p h g = sym (ap walked (ap (λ (x : Item BoolExpr). after x rest) g))
       entry_guard (suc k) i p h g = absurd (omega arith)
 
-      pub cell_guard : (i p : ℕ) → c_kind file at ≡ 0 → Refused i p ≡ walked G → Refused i p ≡ walked cell
+      pub cell_guard : (i p : ℕ) → c_kind file at ≡ 0 → Answer.refused i p ≡ walked G → Answer.refused i p ≡ walked cell
       cell_guard i p h g = entry_guard (c_kind file at) i p h (stopped G i p g) ∙ sym (ap walked cell_right)
 
       filling_walked : {A B : Type 0} (i p j : ℕ) (x : Read A) (k : A → B) → walked (filling i p j x) ≡ walked (after (filling i p j x) (λ a m. item (k a) j))
@@ -135,7 +133,7 @@ module _ (file : List ℕ) (end : ℕ) (names : Names) (M : ℕ) (f : ℕ → �
           ∙ sym (ap walked (ap (λ (x : Item BoolExpr). after x rest) e'))
       entry_action (suc k) g n h e' = absurd (omega arith)
 
-      pub cell_action : (n : ℕ) (x : Walked) → c_kind file at ≡ 0 → Past n ≡ walked G → x ≡ walked (action file end names at) → x ≡ walked cell
+      pub cell_action : (n : ℕ) (x : Answer ℕ) → c_kind file at ≡ 0 → answer n ≡ walked G → x ≡ walked (action file end names at) → x ≡ walked cell
       cell_action n x h g a = let (b, s) = passed G n g in a ∙ entry_action (c_kind file at) b n h s ∙ sym (ap walked cell_right)
 
 -- how far a cell goes, and whether it moves
@@ -155,7 +153,7 @@ module _ (file : List ℕ) (end : ℕ) (names : Names) (M : ℕ) (f : ℕ → �
       let (a, b, c) = entry_ends at (c_kind file at) n x k in
       (a, leb-true (c_past file at) end t, b, c)
 
-  pub cell_ends : (before at n : ℕ) → Past n ≡ walked (cell_at file end names M f before at) → (at + 8 ≤ n) × (n ≤ end)
+  pub cell_ends : (before at n : ℕ) → answer n ≡ walked (cell_at file end names M f before at) → (at + 8 ≤ n) × (n ≤ end)
   cell_ends before at n e =
       let (x, q) = passed (cell_at file end names M f before at) n e in
       let (a, b, c, d) = cell_item before at n x q in
@@ -166,19 +164,19 @@ module _ (file : List ℕ) (end : ℕ) (names : Names) (M : ℕ) (f : ℕ → �
   cells_step zero before at h = absurd (omega arith)
   cells_step (suc n) before at h = rw sub-one
 
-  pub cells_none : (k n before at : ℕ) → n ≤ 0 → Passed at k ≡ counted moves k (cells_from file end names M f n before at)
+  pub cells_none : (k n before at : ℕ) → n ≤ 0 → answer (at, k) ≡ counted moves k (cells_from file end names M f n before at)
   unfolding cells_from
-  cells_none k zero before at h = ap (Passed at) (let q : k ≡ k + 0 = omega arith in q)
+  cells_none k zero before at h = ap (λ (j : ℕ). answer (at, j)) (let q : k ≡ k + 0 = omega arith in q)
   cells_none k (suc n) before at h = absurd (omega arith)
 
   module _ (k n before at : ℕ) (h : 0 < n) where
     abbrev onward : Entry → ℕ → Item (List Entry)
     onward c next = after (cells_from file end names M f (n - 1) at next) (λ cs past. item (c ∷ cs) past)
 
-    pub cells_refused : (i p : ℕ) → Refused i p ≡ walked (cell_at file end names M f before at) → Stopped i p ≡ counted moves k (cells_from file end names M f n before at)
+    pub cells_refused : (i p : ℕ) → Answer.refused i p ≡ walked (cell_at file end names M f before at) → Answer.refused i p ≡ counted moves k (cells_from file end names M f n before at)
     cells_refused i p e = sym (ap (counted moves k) (cells_step n before at h ∙ ap (λ (x : Item Entry). after x onward) (stopped (cell_at file end names M f before at) i p e)))
 
-    pub cells_more : (m b : ℕ) → Past m ≡ walked (cell_at file end names M f before at) → (c_kind file at ≡ 0 → b ≡ k + 1) → ((c_kind file at ≡ 0 → ⊥) → b ≡ k) → counted moves b (cells_from file end names M f (n - 1) at m) ≡ counted moves k (cells_from file end names M f n before at)
+    cells_more : (m b : ℕ) → answer m ≡ walked (cell_at file end names M f before at) → (c_kind file at ≡ 0 → b ≡ k + 1) → ((c_kind file at ≡ 0 → ⊥) → b ≡ k) → counted moves b (cells_from file end names M f (n - 1) at m) ≡ counted moves k (cells_from file end names M f n before at)
     cells_more m b e more same =
         let (x, q) = passed (cell_at file end names M f before at) m e in
         let (a, s, c, d) = cell_item before at m x q in
@@ -189,3 +187,8 @@ module _ (file : List ℕ) (end : ℕ) (names : Names) (M : ℕ) (f : ℕ → �
         pick : (x : Entry) (t : Bool) → eqb (c_kind file at) 0 ≡ t → (c_kind file at ≡ 0 → moves x ≡ 1) → ((c_kind file at ≡ 0 → ⊥) → moves x ≡ 0) → b ≡ k + moves x
         pick x true g c d = let z = eqb-true (c_kind file at) 0 g in let u = more z in let v = c z in omega arith
         pick x false g c d = let z = eqb-false (c_kind file at) 0 g in let u = same z in let v = d z in omega arith
+
+  pub cells_next : (k n i before at : ℕ) → i < n → (m b : ℕ) → answer m ≡ walked (cell_at file end names M f before at) → (c_kind file at ≡ 0 → b ≡ k + 1) → ((c_kind file at ≡ 0 → ⊥) → b ≡ k) → counted moves b (cells_from file end names M f (n - (i + 1)) at m) ≡ counted moves k (cells_from file end names M f (n - i) before at)
+  cells_next k n i before at h m b e more same =
+      ap (λ (j : ℕ). counted moves b (cells_from file end names M f j at m)) (let q : n - (i + 1) ≡ n - i - 1 = omega arith in q)
+      ∙ cells_more k (n - i) before at (omega arith) m b e more same

@@ -17,22 +17,19 @@ use Rattle.design.specs.declared.shape.Shape.{Shape}
 use Rattle.design.specs.declared.shape.Counts.{Counts}
 use Rattle.design.specs.declared.shape.Offsets.{Offsets}
 use Rattle.design.specs.Answers.{walked, expressions_at, sum_of, counted, raises, moves, bodied, VariablesRight, MatricesRight, EventsRight, shape_of}
-use Rattle.design.specs.declared.item.Walked.{Walked}
-use Rattle.design.specs.declared.item.Walked.TheVariants.{Past, Refused}
-use Rattle.design.specs.declared.item.Counted.{Counted}
-use Rattle.design.specs.declared.item.Counted.TheVariants.{Passed, Stopped}
 use Rattle.design.proofs.Sections.{after_inv, and_inv, item_past, item_same, items_run, tail_least}
 use Rattle.design.proofs.Items.{passed, stopped, met, unmet, items_end_lem, event_ends, variable_ends, matrix_ends, counted_passed, counted_stopped}
+use Rattle.design.specs.Answer.{Answer, answer}
 
 -- a section that ends where the next one stands
-pub passed_at : (o p k : ℕ) (x : Counted) → o ≡ p → Passed p k ≡ x → Passed o k ≡ x
-passed_at o p k x h e = ap (λ (n : ℕ). Passed n k) h ∙ e
+pub passed_at : (o p k : ℕ) (x : Answer (ℕ × ℕ)) → o ≡ p → answer (p, k) ≡ x → answer (o, k) ≡ x
+passed_at o p k x h e = ap (λ (n : ℕ). answer (n, k)) h ∙ e
 
-pub past_at : (o p : ℕ) (x : Walked) → o ≡ p → Past p ≡ x → Past o ≡ x
-past_at o p x h e = ap Past h ∙ e
+pub past_at : (o p : ℕ) (x : Answer ℕ) → o ≡ p → answer p ≡ x → answer o ≡ x
+past_at o p x h e = ap answer h ∙ e
 
 -- items of one size
-items_fixed : {A : Type 0} (one : Walk A) (end k : ℕ) → ((at n : ℕ) → Past n ≡ walked (one at) → (n ≡ at + k) × (n ≤ end)) → (n at m : ℕ) (xs : List A) → at ≤ end → items one n at ≡ item xs m → (m ≡ at + k * n) × (m ≤ end)
+items_fixed : {A : Type 0} (one : Walk A) (end k : ℕ) → ((at n : ℕ) → answer n ≡ walked (one at) → (n ≡ at + k) × (n ≤ end)) → (n at m : ℕ) (xs : List A) → at ≤ end → items one n at ≡ item xs m → (m ≡ at + k * n) × (m ≤ end)
 unfolding items
 items_fixed one end k h zero at m xs l e = let q = item_past _ _ _ _ e in (omega arith, omega arith)
 items_fixed one end k h (suc n) at m xs l e =
@@ -91,10 +88,10 @@ module _ (file : List ℕ) (end : ℕ) (N : Names) (os : Offsets) (at : ℕ) whe
   abbrev XA : BoolExpr → ℕ → Item (BoolExpr × BoolExpr)
   XA i p = after (constraint_at file end N os.constrained p) (λ c q. item (i, c) q)
 
-  pub expressions_stop : (i p : ℕ) → Refused i p ≡ walked IA → Refused i p ≡ walked (expressions_at file end N os at)
+  pub expressions_stop : (i p : ℕ) → Answer.refused i p ≡ walked IA → Answer.refused i p ≡ walked (expressions_at file end N os at)
   expressions_stop i p e = sym (ap (λ (x : Item BoolExpr). walked (after x XA)) (stopped IA i p e))
 
-  pub expressions_go : (m : ℕ) (r : Walked) → Past m ≡ walked IA → r ≡ walked (constraint_at file end N os.constrained m) → r ≡ walked (expressions_at file end N os at)
+  pub expressions_go : (m : ℕ) (r : Answer ℕ) → answer m ≡ walked IA → r ≡ walked (constraint_at file end N os.constrained m) → r ≡ walked (expressions_at file end N os at)
   expressions_go m r e h = let (x, q) = passed IA m e in h ∙ go x (constraint_at file end N os.constrained m) ∙ sym (ap (λ (y : Item BoolExpr). walked (after y XA)) q)
     where
       go : (x : BoolExpr) (z : Item BoolExpr) → walked z ≡ walked {A = BoolExpr × BoolExpr} (after z (λ c q. item (x, c) q))
@@ -130,17 +127,17 @@ module _ (file : List ℕ) (end : ℕ) (cs : Counts) (os : Offsets) where
   D = sections file end cs os 0
 
   -- what was read with the shape of these counts
-  pub events_of : (s : Shape) → s ≡ shape_of cs → (r : Walked) → r ≡ walked (events_from file end (names_of file s) mo 0 s.matrices eo) → r ≡ walked (events_from file end N mo 0 nm eo)
+  pub events_of : (s : Shape) → s ≡ shape_of cs → (r : Answer ℕ) → r ≡ walked (events_from file end (names_of file s) mo 0 s.matrices eo) → r ≡ walked (events_from file end N mo 0 nm eo)
   events_of s e r h = h ∙ ap (λ (x : Shape). walked (events_from file end (names_of file x) mo 0 x.matrices eo)) e
 
-  pub cells_of : (s : Shape) → s ≡ shape_of cs → (r : Counted) (f : ℕ → ℕ → BoolExpr) → r ≡ counted moves 0 (cells_from file end (names_of file s) mo f nc co co) → r ≡ counted moves 0 (cells_from file end N mo f nc co co)
+  pub cells_of : (s : Shape) → s ≡ shape_of cs → (r : Answer (ℕ × ℕ)) (f : ℕ → ℕ → BoolExpr) → r ≡ counted moves 0 (cells_from file end (names_of file s) mo f nc co co) → r ≡ counted moves 0 (cells_from file end N mo f nc co co)
   cells_of s e r f h = h ∙ ap (λ (x : Shape). counted moves 0 (cells_from file end (names_of file x) mo f nc co co)) e
 
   -- the invariant, and the constraint behind it
   abbrev EX : Item (BoolExpr × BoolExpr)
   EX = expressions_at file end N os io
 
-  pub expressions_of : (s : Shape) → s ≡ shape_of cs → (r : Walked) → r ≡ walked (expressions_at file end (names_of file s) os io) → r ≡ walked EX
+  pub expressions_of : (s : Shape) → s ≡ shape_of cs → (r : Answer ℕ) → r ≡ walked (expressions_at file end (names_of file s) os io) → r ≡ walked EX
   expressions_of s e r h = h ∙ ap (λ (x : Shape). walked (expressions_at file end (names_of file x) os io)) e
 
   abbrev VA : Walk Variable
@@ -149,7 +146,7 @@ module _ (file : List ℕ) (end : ℕ) (cs : Counts) (os : Offsets) where
   abbrev MA : Walk Matrix
   MA = matrix_at file end
 
-  pub variables_end : (p e : ℕ) → Passed p e ≡ counted raises 0 (items VA nv 0) → (p ≡ 3 * nv) × (p ≤ end) × (e ≤ nv)
+  pub variables_end : (p e : ℕ) → answer (p, e) ≡ counted raises 0 (items VA nv 0) → (p ≡ 3 * nv) × (p ≤ end) × (e ≤ nv)
   variables_end p e q =
       let (vs, r, c) = counted_passed raises 0 (items VA nv 0) p e q in
       let (a, b) = items_fixed VA end 3 (variable_ends file end) nv 0 p vs (omega arith) r in
@@ -157,19 +154,19 @@ module _ (file : List ℕ) (end : ℕ) (cs : Counts) (os : Offsets) where
       let u = (items_run VA nv 0 vs p r).0 in
       (omega arith, b, omega arith)
 
-  pub matrices_end : (q : ℕ) → mo ≤ end → Past q ≡ walked (items MA nm mo) → (q ≡ mo + 2 * nm) × (q ≤ end)
+  pub matrices_end : (q : ℕ) → mo ≤ end → answer q ≡ walked (items MA nm mo) → (q ≡ mo + 2 * nm) × (q ≤ end)
   matrices_end q l e = let (ms, r) = passed (items MA nm mo) q e in items_fixed MA end 2 (matrix_ends file end) nm mo q ms l r
 
-  rows_end : (m n at s : ℕ) → at ≤ end → Past s ≡ walked (events_from file end N mo m n at) → s ≤ end
+  rows_end : (m n at s : ℕ) → at ≤ end → answer s ≡ walked (events_from file end N mo m n at) → s ≤ end
   unfolding events_from
   rows_end m zero at s l e = let q : s ≡ at = cc in omega arith
   rows_end m (suc n) at s l e =
       let (xs, q) = passed (events_from file end N mo m (suc n) at) s e in
       let (row, j, e₁, h₁) = after_inv (items (event_at file end N) (events file mo m) at) _ xs s q in
       let (rows, i, e₂, h₂) = after_inv (events_from file end N mo (m + 1) n j) _ xs s h₁ in
-      rows_end (m + 1) n j s (items_end_lem (event_at file end N) end (λ a b t. (event_ends file end N a b t).1) (events file mo m) at j l (sym (ap walked e₁))) (ap Past (sym (item_past _ _ _ _ h₂)) ∙ sym (ap walked e₂))
+      rows_end (m + 1) n j s (items_end_lem (event_at file end N) end (λ a b t. (event_ends file end N a b t).1) (events file mo m) at j l (sym (ap walked e₁))) (ap answer (sym (item_past _ _ _ _ h₂)) ∙ sym (ap walked e₂))
 
-  pub events_end : (s : ℕ) → eo ≤ end → Past s ≡ walked (events_from file end N mo 0 nm eo) → s ≤ end
+  pub events_end : (s : ℕ) → eo ≤ end → answer s ≡ walked (events_from file end N mo 0 nm eo) → s ≤ end
   events_end s l e = rows_end 0 nm eo s l e
 
   cells_bound' : (f : ℕ → ℕ → BoolExpr) (n before at t w : ℕ) (es : List Entry) → cells_from file end N mo f n before at ≡ item es t → length es ≡ n
@@ -180,7 +177,7 @@ module _ (file : List ℕ) (end : ℕ) (cs : Counts) (os : Offsets) where
       let (cs, i, e₂, h₂) = after_inv (cells_from file end N mo f n at j) _ es t h₁ in
       ap length (sym (item_same _ _ _ _ h₂)) ∙ ap suc (cells_bound' f n at j i w cs e₂)
 
-  pub cells_bound : (f : ℕ → ℕ → BoolExpr) (t w : ℕ) → Passed t w ≡ counted moves 0 (cells_from file end N mo f nc co co) → w ≤ nc
+  pub cells_bound : (f : ℕ → ℕ → BoolExpr) (t w : ℕ) → answer (t, w) ≡ counted moves 0 (cells_from file end N mo f nc co co) → w ≤ nc
   cells_bound f t w e =
       let (es, r, c) = counted_passed moves 0 (cells_from file end N mo f nc co co) t w e in
       let b = total_bound moves moves_bound es in
@@ -219,10 +216,10 @@ module _ (file : List ℕ) (end : ℕ) (cs : Counts) (os : Offsets) where
   go_on : {A : Type 0} (at : ℕ) (k : ℕ → Item A) → after (offset at at) (λ a n. k n) ≡ k at
   go_on at k = ap (λ (x : Item (Unit {0})). after x (λ a n. k n)) (met (eqb at at) 4 at (item tt at) (eq-eqb at at refl))
 
-  pub x_variables : (i q : ℕ) → Stopped i q ≡ counted raises 0 (items VA nv 0) → Stopped i q ≡ bodied D
+  pub x_variables : (i q : ℕ) → Answer.refused i q ≡ counted raises 0 (items VA nv 0) → Answer.refused i q ≡ bodied D
   x_variables i q e = sym (ap bodied (begin ∙ ap (λ (x : Item (List Variable)). after x W2) (counted_stopped raises 0 (items VA nv 0) i q e)))
 
-  pub x_matrices : (p ext : ℕ) → Passed p ext ≡ counted raises 0 (items VA nv 0) → (mo ≡ p → ⊥) → Stopped 4 p ≡ bodied D
+  pub x_matrices : (p ext : ℕ) → answer (p, ext) ≡ counted raises 0 (items VA nv 0) → (mo ≡ p → ⊥) → Answer.refused 4 p ≡ bodied D
   x_matrices p ext e h =
       let (vs, r, c) = counted_passed raises 0 (items VA nv 0) p ext e in
       sym (ap bodied (begin ∙ ap (λ (x : Item (List Variable)). after x W2) r ∙ wrong mo p _ h))
@@ -239,10 +236,10 @@ module _ (file : List ℕ) (end : ℕ) (cs : Counts) (os : Offsets) where
         let (vs, r, c) = counted_passed raises 0 (items VA nv 0) mo ext e in
         record { vs = vs; counts = c ∙ (let q : 0 + sum_of raises vs ≡ sum_of raises vs = omega arith in q); is = begin ∙ ap (λ (x : Item (List Variable)). after x W2) r ∙ go_on mo (λ n. after (items MA nm n) (W3 vs)) }
 
-    pub x_matrix : (i q : ℕ) → Refused i q ≡ walked (items MA nm mo) → Stopped i q ≡ bodied D
+    pub x_matrix : (i q : ℕ) → Answer.refused i q ≡ walked (items MA nm mo) → Answer.refused i q ≡ bodied D
     x_matrix i q r = sym (ap bodied (s1.is ∙ ap (λ (x : Item (List Matrix)). after x (W3 s1.vs)) (stopped (items MA nm mo) i q r)))
 
-    pub x_events : (q : ℕ) → Past q ≡ walked (items MA nm mo) → (eo ≡ q → ⊥) → Stopped 4 q ≡ bodied D
+    pub x_events : (q : ℕ) → answer q ≡ walked (items MA nm mo) → (eo ≡ q → ⊥) → Answer.refused 4 q ≡ bodied D
     x_events q e₂ h =
         let (ms, r) = passed (items MA nm mo) q e₂ in
         sym (ap bodied (s1.is ∙ ap (λ (x : Item (List Matrix)). after x (W3 s1.vs)) r ∙ wrong eo q _ h))
@@ -263,10 +260,10 @@ module _ (file : List ℕ) (end : ℕ) (cs : Counts) (os : Offsets) where
           let (ms, r) = passed (items MA nm mo) eo e₂ in
           record { vs = s1.vs; ms = ms; counts = s1.counts; is = s1.is ∙ ap (λ (x : Item (List Matrix)). after x (W3 s1.vs)) r ∙ go_on eo (λ n. after (events_from file end N mo 0 nm n) (W4 s1.vs ms)) }
 
-      pub x_event : (i j : ℕ) → Refused i j ≡ walked (events_from file end N mo 0 nm eo) → Stopped i j ≡ bodied D
+      pub x_event : (i j : ℕ) → Answer.refused i j ≡ walked (events_from file end N mo 0 nm eo) → Answer.refused i j ≡ bodied D
       x_event i j r = sym (ap bodied (s2.is ∙ ap (λ (x : Item (List (List BoolExpr))). after x (W4 s2.vs s2.ms)) (stopped (events_from file end N mo 0 nm eo) i j r)))
 
-      pub x_cells : (s : ℕ) → Past s ≡ walked (events_from file end N mo 0 nm eo) → (co ≡ s → ⊥) → Stopped 4 s ≡ bodied D
+      pub x_cells : (s : ℕ) → answer s ≡ walked (events_from file end N mo 0 nm eo) → (co ≡ s → ⊥) → Answer.refused 4 s ≡ bodied D
       x_cells s e₃ h =
           let (rows, r) = passed (events_from file end N mo 0 nm eo) s e₃ in
           sym (ap bodied (s2.is ∙ ap (λ (x : Item (List (List BoolExpr))). after x (W4 s2.vs s2.ms)) r ∙ wrong co s _ h))
@@ -291,16 +288,16 @@ module _ (file : List ℕ) (end : ℕ) (cs : Counts) (os : Offsets) where
         abbrev CF : (ℕ → ℕ → BoolExpr) → Item (List Entry)
         CF f = cells_from file end N mo f nc co co
 
-        pub x_cell : (i j : ℕ) → ((f : ℕ → ℕ → BoolExpr) → Stopped i j ≡ counted moves 0 (CF f)) → Stopped i j ≡ bodied D
+        pub x_cell : (i j : ℕ) → ((f : ℕ → ℕ → BoolExpr) → Answer.refused i j ≡ counted moves 0 (CF f)) → Answer.refused i j ≡ bodied D
         x_cell i j r = sym (ap bodied (s3.is ∙ ap (λ (x : Item (List Entry)). after x (W5 s3.vs s3.ms)) (counted_stopped moves 0 (CF (event_in s3.rows)) i j (r (event_in s3.rows)))))
 
-        pub x_invariants : (t w : ℕ) → ((f : ℕ → ℕ → BoolExpr) → Passed t w ≡ counted moves 0 (CF f)) → (io ≡ t → ⊥) → Stopped 4 t ≡ bodied D
+        pub x_invariants : (t w : ℕ) → ((f : ℕ → ℕ → BoolExpr) → answer (t, w) ≡ counted moves 0 (CF f)) → (io ≡ t → ⊥) → Answer.refused 4 t ≡ bodied D
         x_invariants t w e₄ h =
             let (es, r, c) = counted_passed moves 0 (CF (event_in s3.rows)) t w (e₄ (event_in s3.rows)) in
             sym (ap bodied (s3.is ∙ ap (λ (x : Item (List Entry)). after x (W5 s3.vs s3.ms)) r ∙ wrong io t _ h))
 
         -- the invariant and the constraint
-        module _ (w : ℕ) (e₄ : (f : ℕ → ℕ → BoolExpr) → Passed io w ≡ counted moves 0 (CF f)) where
+        module _ (w : ℕ) (e₄ : (f : ℕ → ℕ → BoolExpr) → answer (io, w) ≡ counted moves 0 (CF f)) where
           pub few_movers : w + ext ≤ nc + nv
           few_movers = let a = before_cells in let b = cells_bound (event_in s3.rows) io w (e₄ (event_in s3.rows)) in omega arith
 
@@ -325,7 +322,7 @@ module _ (file : List ℕ) (end : ℕ) (cs : Counts) (os : Offsets) where
                     ∙ both (invariant_at file end N os.constraint io) (λ i p. constraint_at file end N os.constrained p) (W7 s3.vs s3.ms es);
               }
 
-          pub x_expressions : (i j : ℕ) → Refused i j ≡ walked EX → Stopped i j ≡ bodied D
+          pub x_expressions : (i j : ℕ) → Answer.refused i j ≡ walked EX → Answer.refused i j ≡ bodied D
           x_expressions i j r = sym (ap bodied (s4.is ∙ ap (λ (x : Item (BoolExpr × BoolExpr)). after x (W7 s4.vs s4.ms s4.es)) (stopped EX i j r)))
 
           movers_length : (vs : List Variable) (ms : List Matrix) (es : List Entry) (x : BoolExpr × BoolExpr) → length (movers (tree vs ms es x)) ≡ sum_of moves es + sum_of raises vs
@@ -334,11 +331,11 @@ module _ (file : List ℕ) (end : ℕ) (cs : Counts) (os : Offsets) where
               length-append (map cell (normals es)) (externals 0 vs)
               ∙ ap₂ ◌+◌ (length-map (normals es) cell ∙ normals_length es) (externals_length vs 0)
 
-          pub all_passed : (u : ℕ) → Past u ≡ walked EX → Passed u (w + ext) ≡ bodied D
+          pub all_passed : (u : ℕ) → answer u ≡ walked EX → answer (u, (w + ext)) ≡ bodied D
           all_passed u r =
               let (y, q) = passed EX u r in
               sym (ap bodied (s4.is ∙ ap (λ (x : Item (BoolExpr × BoolExpr)). after x (W7 s4.vs s4.ms s4.es)) q)
-              ∙ ap (Passed u) (movers_length s4.vs s4.ms s4.es y ∙ sym (ap₂ ◌+◌ s4.normal s4.counts)))
+              ∙ ap (λ (j : ℕ). answer (u, j)) (movers_length s4.vs s4.ms s4.es y ∙ sym (ap₂ ◌+◌ s4.normal s4.counts)))
 
 -- the tests of the limits
 pub length_short : (n : ℕ) → n < trailer_bytes → false ≡ length_right n
@@ -477,22 +474,25 @@ module _ (file : List ℕ) where
               whole_is : check file ≡ last file D'
               whole_is = whole_body ∙ ap (last file) (sym same_body)
 
-              bodied_stopped : (x : Item Design) (i p : ℕ) → Stopped i p ≡ bodied x → record { number = i; place = p } ≡ refusal (last file x)
+              bodied_stopped : (x : Item Design) (i p : ℕ) → Answer.refused i p ≡ bodied x → record { number = i; place = p } ≡ refusal (last file x)
               bodied_stopped (item x n) i p e = let z : ◌≡◌ {A = ℕ} 0 1 = cc in absurd (omega arith)
               bodied_stopped (refused j q) i p e = let g : i ≡ j = cc in let h : p ≡ q = cc in λ k. record { number = g k; place = h k }
 
-              pub whole_stopped : (r : Counted) (i p : ℕ) → r ≡ bodied D' → r ≡ Stopped i p → answers i p
+              pub whole_stopped : (r : Answer (ℕ × ℕ)) (i p : ℕ) → r ≡ bodied D' → r ≡ Answer.refused i p → answers i p
               whole_stopped r i p e h = bodied_stopped D' i p (sym h ∙ e) ∙ sym (ap refusal whole_is)
 
-              bodied_passed : (x : Item Design) (n w : ℕ) → Passed n w ≡ bodied x → (m : Bool) → m ≡ movers_right w → refusal (last file x) ≡ cond m (record { number = 0; place = 0 }) (record { number = 10; place = length file })
-              bodied_passed (item x k) n w e m h = let g : w ≡ length (movers x) = cc in go m (sym (h ∙ ap movers_right g))
+              bodied_passed : (x : Item Design) (n w : ℕ) → answer (n, w) ≡ bodied x → (m : Bool) → m ≡ movers_right w → refusal (last file x) ≡ cond m (record { number = 0; place = 0 }) (record { number = 10; place = length file })
+              bodied_passed (item x k) n w e m h =
+                  let z : (n, w) ≡ (k, length (movers x)) = cc in
+                  let g = ap (λ (p : ℕ × ℕ). p.1) z in
+                  go m (sym (h ∙ ap movers_right g))
                 where
                   go : (m : Bool) → movers_right (length (movers x)) ≡ m → refusal (last file (item x k)) ≡ cond m (record { number = 0; place = 0 }) (record { number = 10; place = length file })
                   go true q = rw q
                   go false q = rw q
               bodied_passed (refused j q) n w e m h = let z : ◌≡◌ {A = ℕ} 0 1 = cc in absurd (omega arith)
 
-              module _ (r : Counted) (n w : ℕ) (e : r ≡ bodied D') (h : r ≡ Passed n w) (m : Bool) (me : m ≡ movers_right w) where
+              module _ (r : Answer (ℕ × ℕ)) (n w : ℕ) (e : r ≡ bodied D') (h : r ≡ answer (n, w)) (m : Bool) (me : m ≡ movers_right w) where
                 pub whole_movers : m ≡ false → answers 10 (length file)
                 whole_movers l = sym (ap refusal whole_is ∙ bodied_passed D' n w (sym h ∙ e) false (sym l ∙ me))
 

@@ -12,11 +12,11 @@ use Rattle.design.specs.Reading.{Read, got, bad, Reader, bind, provided}
 use Rattle.design.specs.Expression.{Names, IntOp, BoolOp, int_op, bool_op, byte, word, legal, is_variable, is_integer, is_matrix, int_of, bool_of, int_expr, bool_expr}
 use Rattle.design.specs.Action.{StmtOp, stmt_op, value, assignment, statements, list_of, conditional, stmt_of, statement, list}
 use Rattle.design.specs.Answers.{found}
-use Rattle.design.specs.declared.expression.Found.TheVariants.{At}
+use Rattle.std.specs.Prelude.{Some}
 
 -- what is read ends at lo or later
 pub record Onward {A : Type 0} (lo : ℕ) (r : Read A) : Type 0 where
-  pub of : (n : ℕ) → At n ≡ found r → lo ≤ n
+  pub of : (n : ℕ) → Some n ≡ found r → lo ≤ n
 
 module _ {A : Type 0} where
   on_got : (lo : ℕ) (a : A) (n : ℕ) → lo ≤ n → Onward lo (got a n)
@@ -108,14 +108,14 @@ module _ (text : List ℕ) (names : Names) (end : ℕ) where
   stmt_goes (suc k) lo at l = on_bind lo (byte text names end at) _ (on_byte lo at (omega arith)) (λ op m q. stmt_of_goes lo _ (conditional_goes lo _ (list_of_goes (statement text names end k) lo (stmt_goes k lo))) (stmt_op op) m q)
 
   -- at is passed
-  pub int_on : (d at n : ℕ) → At n ≡ found (int_expr text names end d at) → at ≤ n
+  pub int_on : (d at n : ℕ) → Some n ≡ found (int_expr text names end d at) → at ≤ n
   int_on d at n e = (int_goes d at at (le_refl at)).of n e
 
-  pub bool_on : (d at n : ℕ) → At n ≡ found (bool_expr text names end d at) → at ≤ n
+  pub bool_on : (d at n : ℕ) → Some n ≡ found (bool_expr text names end d at) → at ≤ n
   bool_on d at n e = (bool_goes d at at (le_refl at)).of n e
 
-  pub list_on : (k at n : ℕ) → At n ≡ found (list text names end k at) → at ≤ n
+  pub list_on : (k at n : ℕ) → Some n ≡ found (list text names end k at) → at ≤ n
   list_on k at n e = (list_of_goes (statement text names end k) at (stmt_goes k at) at (le_refl at)).of n e
 
-  pub stmt_on : (k at n : ℕ) → At n ≡ found (statement text names end k at) → at ≤ n
+  pub stmt_on : (k at n : ℕ) → Some n ≡ found (statement text names end k at) → at ≤ n
   stmt_on k at n e = (stmt_goes k at at (le_refl at)).of n e

@@ -9,6 +9,7 @@ pub mod Positions
 pub mod Items
 pub mod Cells
 pub mod File
+pub mod Told
 pub mod Numbers
 -- an accepted design is well formed
 pub mod Widths

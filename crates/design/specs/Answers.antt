@@ -1,5 +1,5 @@
 -- What the code answers, of what the definitions say.
-use Rattle.std.specs.Prelude.{ℕ, ◌+◌, ◌<◌, ◌≡◌, cond, List, [], ◌∷◌, eqb, length}
+use Rattle.std.specs.Prelude.{Option, Some, None, ℕ, ◌+◌, ◌<◌, ◌≡◌, cond, List, [], ◌∷◌, eqb, length}
 use Rattle.design.specs.Tree.{BoolExpr, Variable, if_external, Design, movers}
 use Rattle.design.specs.Reading.{Read, got, bad}
 use Rattle.design.specs.Expression.{Names}
@@ -8,36 +8,31 @@ use Rattle.design.specs.Check.{names_by}
 use Rattle.design.specs.declared.shape.Shape.{Shape}
 use Rattle.design.specs.declared.shape.Counts.{Counts}
 use Rattle.design.specs.declared.shape.Offsets.{Offsets}
-use Rattle.design.specs.declared.expression.Found.{Found}
-use Rattle.design.specs.declared.expression.Found.TheVariants.{At, Bad}
-use Rattle.design.specs.declared.item.Walked.{Walked}
-use Rattle.design.specs.declared.item.Walked.TheVariants.{Past, Refused}
-use Rattle.design.specs.declared.item.Counted.{Counted}
-use Rattle.design.specs.declared.item.Counted.TheVariants.{Passed, Stopped}
+use Rattle.design.specs.Answer.{Answer, answer}
 
 -- of what was read, the position past it
-abbrev pub found : {A : Type 0} → Read A → Found
-found (got a n) = At n
-found bad = Bad
+abbrev pub found : {A : Type 0} → Read A → Option ℕ
+found (got a n) = Some n
+found bad = None
 
 -- of an item or a section, the position past it, or the refusal
-abbrev pub walked : {A : Type 0} → Item A → Walked
-walked (item a n) = Past n
-walked (refused number place) = Refused number place
+abbrev pub walked : {A : Type 0} → Item A → Answer ℕ
+walked (item a n) = answer n
+walked (refused number place) = Answer.refused number place
 
 -- the same, of what is to fill its length up to `past`
-abbrev pub length_filled : ℕ → ℕ → ℕ → Found → Walked
-length_filled number place past (At n) = cond (eqb n past) (Past past) (Refused number place)
-length_filled number place past Bad = Refused number place
+abbrev pub length_filled : ℕ → ℕ → ℕ → Option ℕ → Answer ℕ
+length_filled number place past (Some n) = cond (eqb n past) (answer past) (Answer.refused number place)
+length_filled number place past None = Answer.refused number place
 
 abbrev pub sum_of : {A : Type 0} → (A → ℕ) → List A → ℕ
 sum_of f [] = 0
 sum_of f (x ∷ xs) = f x + sum_of f xs
 
 -- of a section, the position past it and how many movers it has, on top of k
-abbrev pub counted : {A : Type 0} → (A → ℕ) → ℕ → Item (List A) → Counted
-counted f k (item xs n) = Passed n (k + sum_of f xs)
-counted f k (refused number place) = Stopped number place
+abbrev pub counted : {A : Type 0} → (A → ℕ) → ℕ → Item (List A) → Answer (ℕ × ℕ)
+counted f k (item xs n) = answer (n, k + sum_of f xs)
+counted f k (refused number place) = Answer.refused number place
 
 abbrev pub raises : Variable → ℕ
 raises x = if_external x.kind 1 0
@@ -54,20 +49,20 @@ expressions_at file end names offsets at =
     item (i, c) q
 
 -- of all sections, the position past them and the number of movers
-abbrev pub bodied : Item Design → Counted
-bodied (item d n) = Passed n (length (movers d))
-bodied (refused number place) = Stopped number place
+abbrev pub bodied : Item Design → Answer (ℕ × ℕ)
+bodied (item d n) = answer (n, length (movers d))
+bodied (refused number place) = Answer.refused number place
 
 -- the first sections are right and end where the next ones stand
 module _ (file : List ℕ) (end : ℕ) (counts : Counts) (offsets : Offsets) where
   abbrev pub VariablesRight : ℕ → Type 0
-  VariablesRight externals = Passed offsets.matrices externals ≡ counted raises 0 (items (variable_at file end) counts.variables 0)
+  VariablesRight externals = answer (offsets.matrices, externals) ≡ counted raises 0 (items (variable_at file end) counts.variables 0)
 
   abbrev pub MatricesRight : Type 0
-  MatricesRight = Past offsets.events ≡ walked (items (matrix_at file end) counts.matrices offsets.matrices)
+  MatricesRight = answer offsets.events ≡ walked (items (matrix_at file end) counts.matrices offsets.matrices)
 
   abbrev pub EventsRight : Type 0
-  EventsRight = Past offsets.cells ≡ walked (events_from file end (names_by file counts) offsets.matrices 0 counts.matrices offsets.events)
+  EventsRight = answer offsets.cells ≡ walked (events_from file end (names_by file counts) offsets.matrices 0 counts.matrices offsets.events)
 
 -- counts are two-byte numbers
 pub record SmallCounts (counts : Counts) : Type 0 where

@@ -4,7 +4,7 @@ use Rattle.design.specs.Tree.{BoolExpr, constant_b, Cell, InvalidCell, Design, m
 use Rattle.design.specs.Limits.{trailer_bytes, constrained, tail_bytes, length_right, version_right, counts_right, movers_right}
 use Rattle.design.specs.Expression.{Names, int_op, bool_op, int_expr, bool_expr}
 use Rattle.design.specs.Action.{stmt_op, assignment, statements, list_of, statement}
-use Rattle.design.specs.declared.Refusal.{Refusal}
+use Rattle.design.specs.Refusal.{Refusal}
 use Rattle.design.specs.declared.shape.Shape.{Shape}
 use Rattle.design.specs.declared.shape.Counts.{Counts}
 use Rattle.design.specs.declared.shape.Offsets.{Offsets}

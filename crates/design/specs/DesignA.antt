@@ -2,7 +2,7 @@
 use Rattle.std.specs.Prelude.{◌≡◌, refl, true, List, [], ◌∷◌, map, ℕ, set, take, length}
 use Rattle.design.specs.Tree.{Stmts, Design, variable_b, constant_b, less, variable, constant, sum, assign, done, then, external, integer}
 use Rattle.design.specs.Check.{accepted, check, checking, refusal}
-use Rattle.design.specs.declared.Refusal.{Refusal}
+use Rattle.design.specs.Refusal.{Refusal}
 
 -- Variables: external 0, integer c = 0. One matrix, 2 statuses, event 11 00. Cells (0,0,0) to 1, no guard; (0,1,0) to 0, guard c < 2; both do c = c + 1. Invariant c < 2.
 unfoldable pub bytes_a : List ℕ

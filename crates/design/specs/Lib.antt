@@ -8,6 +8,7 @@ pub mod Expression
 pub mod Action
 pub mod DesignFile
 -- CHECK, and how calls answer (document 01, "Turned-back calls")
+pub mod Refusal
 pub mod Check
 pub mod Answer
 -- what an accepted file is made of

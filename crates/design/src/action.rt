@@ -4,93 +4,68 @@ ghost use Rattle.design.specs.Action.{assignment, statement, list};
 ghost use Rattle.design.specs.Check.{names_of};
 ghost use Rattle.design.specs.Answers.{found};
 
-use super::expression::{Found, check_bool, check_int};
+use super::kind::Kind;
 use super::limits::MAX_DEPTH;
-use super::shape::Shape;
+use super::source::Source;
 
-// What follows the operator byte of an assignment.
-pub fn check_assign(text: &[u8], file: &[u8], at: usize, end: usize, shape: Shape) -> Found
-    requires { (end ≤ length text.now) × (3 * shape.variables ≤ length file.now) }
-    ensures { result ≡ found (assignment text.now (names_of file.now shape) end at) }
-{
-    if end <= at {
-        return Found::Bad;
-    }
-    let v = text[at] as usize;
-    if shape.variables <= v {
-        return Found::Bad;
-    }
-    let k = file[3 * v];
-    if k == 1 {
-        check_int(text, file, at + 1, end, shape, false, MAX_DEPTH)
-    } else {
-        check_bool(text, file, at + 1, end, shape, false, MAX_DEPTH)
-    }
-}
-
-// The statement at `at`, in which ifs nest at most `nest` deep.
-#[cycle(check_list_check_stmt)]
-pub fn check_stmt(
-    text: &[u8],
-    file: &[u8],
-    at: usize,
-    end: usize,
-    shape: Shape,
-    nest: usize,
-) -> Found
-    requires { (end ≤ length text.now) × (3 * shape.variables ≤ length file.now) }
-    ensures { result ≡ found (statement text.now (names_of file.now shape) end nest at) }
-{
-    if end <= at {
-        return Found::Bad;
-    }
-    let op = text[at];
-    match op {
-        0x20..=0x21 => {
-            if op == 0x20 {
-                return check_assign(text, file, at + 1, end, shape);
-            }
-            if nest == 0 {
-                return Found::Bad;
-            }
-            match check_bool(text, file, at + 1, end, shape, false, MAX_DEPTH) {
-                Found::At(m) => match check_list(text, file, m, end, shape, nest - 1) {
-                    Found::At(p) => check_list(text, file, p, end, shape, nest - 1),
-                    Found::Bad => Found::Bad,
-                },
-                Found::Bad => Found::Bad,
-            }
+impl<'a> Source<'a> {
+    // What follows the operator byte of an assignment.
+    pub fn check_assign(self, at: usize) -> Option<usize>
+        ensures { result ≡ found (assignment self.entry.text.now (names_of self.entry.file.now self.entry.shape) self.entry.end at) }
+    {
+        if self.end <= at {
+            return None;
         }
-        _ => Found::Bad,
-    }
-}
-
-// The list at `at`: its count, and then its statements.
-#[cycle(check_list_check_stmt)]
-pub fn check_list(
-    text: &[u8],
-    file: &[u8],
-    at: usize,
-    end: usize,
-    shape: Shape,
-    nest: usize,
-) -> Found
-    requires { (end ≤ length text.now) × (3 * shape.variables ≤ length file.now) }
-    ensures { result ≡ found (list text.now (names_of file.now shape) end nest at) }
-{
-    if end <= at {
-        return Found::Bad;
-    }
-    let mut left = text[at] as usize;
-    let mut p = at + 1;
-    while 0 < left {
-        match check_stmt(text, file, p, end, shape, nest) {
-            Found::At(m) => {
-                p = m;
-                left = left - 1;
-            }
-            Found::Bad => return Found::Bad,
+        let v = self.text[at] as usize;
+        if self.shape.variables <= v {
+            return None;
+        }
+        let k = self.file[3 * v];
+        if k == Kind::Integer as u8 {
+            self.check_int(at + 1, false, MAX_DEPTH)
+        } else {
+            self.check_bool(at + 1, false, MAX_DEPTH)
         }
     }
-    Found::At(p)
+
+    // The statement at `at`, in which ifs nest at most `nest` deep.
+    #[cycle(check_list_check_stmt)]
+    pub fn check_stmt(self, at: usize, nest: usize) -> Option<usize>
+        ensures { result ≡ found (statement self.entry.text.now (names_of self.entry.file.now self.entry.shape) self.entry.end nest at) }
+    {
+        if self.end <= at {
+            return None;
+        }
+        let op = self.text[at];
+        match op {
+            0x20..=0x21 => {
+                if op == 0x20 {
+                    return self.check_assign(at + 1);
+                }
+                if nest == 0 {
+                    return None;
+                }
+                let m = self.check_bool(at + 1, false, MAX_DEPTH)?;
+                let p = self.check_list(m, nest - 1)?;
+                self.check_list(p, nest - 1)
+            }
+            _ => None,
+        }
+    }
+
+    // The list at `at`: its count, and then its statements.
+    #[cycle(check_list_check_stmt)]
+    pub fn check_list(self, at: usize, nest: usize) -> Option<usize>
+        ensures { result ≡ found (list self.entry.text.now (names_of self.entry.file.now self.entry.shape) self.entry.end nest at) }
+    {
+        if self.end <= at {
+            return None;
+        }
+        let count = self.text[at];
+        let mut p = at + 1;
+        for _ in 0..count {
+            p = self.check_stmt(p, nest)?;
+        }
+        Some(p)
+    }
 }

@@ -6,10 +6,12 @@ ghost use Rattle.design.specs.State.{widths_from, widths_of, total, S};
 ghost use Rattle.design.specs.Check.{variable_count, matrix_count};
 ghost use Rattle.design.specs.Sections.{Parts};
 
+use super::kind::Kind;
+
 pub fn width(kind: u8) -> usize
     ensures { result ≡ cond (eqb kind 1) 16 1 }
 {
-    if kind == 1 { 16 } else { 1 }
+    if kind == Kind::Integer as u8 { 16 } else { 1 }
 }
 
 // Where the bits of variable v begin; with v the number of variables, those of the statuses.
@@ -18,10 +20,8 @@ pub fn offset(file: &[u8], v: usize) -> usize
     ensures { result ≡ total (widths_from file.now 0 v) }
 {
     let mut bits: usize = 0;
-    let mut i: usize = 0;
-    while i < v {
-        bits = bits + width(file[3 * i]);
-        i = i + 1;
+    for i in 0..v {
+        bits += width(file[3 * i]);
     }
     bits
 }

@@ -5,13 +5,15 @@ ghost use Rattle.design.specs.Tree.{BoolExpr};
 ghost use Rattle.design.specs.DesignFile.{rank, fields, ordered, c_past, c_guard, guard, action, cell_at};
 ghost use Rattle.design.specs.Check.{names_of};
 ghost use Rattle.design.specs.Answers.{walked};
+ghost use Rattle.design.specs.Answer.{told};
 
-use super::action::check_list;
 use super::bytes::{wide, word};
-use super::expression::check_bool;
-use super::item::{Walked, fill_length};
-use super::limits::{MAX_DEPTH, MAX_NEST};
+use super::item::fill_length;
+use super::kind::CellKind;
+use super::limits::MAX_NEST;
+use super::refusal::Refused;
 use super::shape::Shape;
+use super::source::{Items, Source};
 
 // A cell's place, as a number that ascends.
 pub fn rank_at(file: &[u8], at: usize) -> usize
@@ -42,10 +44,10 @@ pub fn fields_ok(file: &[u8], shape: Shape, mats: usize, at: usize) -> bool
     }
     let kind = file[at + 3];
     let target = file[at + 4];
-    if kind == 0 {
+    if kind == CellKind::Normal as u8 {
         return target < statuses;
     }
-    if kind != 1 {
+    if kind != CellKind::Invalid as u8 {
         return false;
     }
     if target != 0 {
@@ -76,74 +78,63 @@ pub fn in_order(file: &[u8], before: usize, at: usize) -> bool
         return false;
     }
     let j = file[before + 3];
-    if j != 0 {
+    if j != CellKind::Normal as u8 {
         return false;
     }
     let k = file[at + 3];
-    k == 0
+    k == CellKind::Normal as u8
 }
 
-// The guard, which may be empty.
-pub fn check_guard(file: &[u8], shape: Shape, at: usize) -> Walked
-    requires { (c_past file.now at ≤ length file.now) × (3 * shape.variables ≤ length file.now) }
-    ensures { (end : ℕ) → result ≡ walked (guard file.now end (names_of file.now shape) at (c_guard file.now at)) }
-{
-    let n = file[at + 5];
-    let middle = at + 8 + (n as usize);
-    if n == 0 {
-        return Walked::Past(middle);
+impl<'a> Items<'a> {
+    // The guard, which may be empty.
+    pub fn check_guard(self, at: usize) -> Result<usize, Refused>
+        requires { c_past self.file.now at ≤ length self.file.now }
+        ensures { (end : ℕ) → told result ≡ walked (guard self.entry.file.now end (names_of self.entry.file.now self.entry.shape) at (c_guard self.entry.file.now at)) }
+    {
+        let n = self.file[at + 5];
+        let middle = at + 8 + (n as usize);
+        if n == 0 {
+            return Ok(middle);
+        }
+        self.check_filling(at + 8, middle, false, Refused::Expression(at))
     }
-    fill_length(
-        check_bool(file, file, at + 8, middle, shape, false, MAX_DEPTH),
-        8,
-        at,
-        middle,
-    )
-}
 
-// The action.
-pub fn check_action(file: &[u8], shape: Shape, at: usize) -> Walked
-    requires { (c_past file.now at ≤ length file.now) × (3 * shape.variables ≤ length file.now) }
-    ensures { (end : ℕ) → result ≡ walked (action file.now end (names_of file.now shape) at) }
-{
-    let middle = at + 8 + wide(file[at + 5]);
-    let past = middle + word(file, at + 6);
-    fill_length(
-        check_list(file, file, middle, past, shape, MAX_NEST),
-        9,
-        at,
-        past,
-    )
-}
+    // The action.
+    pub fn check_action(self, at: usize) -> Result<usize, Refused>
+        requires { c_past self.file.now at ≤ length self.file.now }
+        ensures { (end : ℕ) → told result ≡ walked (action self.entry.file.now end (names_of self.entry.file.now self.entry.shape) at) }
+    {
+        let middle = at + 8 + wide(self.file[at + 5]);
+        let past = middle + word(self.file, at + 6);
+        let text = Source {
+            text: self.file,
+            end: past,
+            file: self.file,
+            shape: self.shape,
+        };
+        fill_length(text.check_list(middle, MAX_NEST), past, Refused::Action(at))
+    }
 
-// The cell at `at`, after the one at `before`.
-pub fn check_cell(
-    file: &[u8],
-    end: usize,
-    shape: Shape,
-    mats: usize,
-    before: usize,
-    at: usize,
-) -> Walked
-    requires { (at ≤ end) × (before ≤ end) × (end + trailer_bytes ≤ length file.now) × (3 * shape.variables ≤ length file.now) × (mats + 2 * shape.matrices ≤ length file.now) }
-    ensures { (f : ℕ → ℕ → BoolExpr) → result ≡ walked (cell_at file.now end (names_of file.now shape) mats f before at) }
-{
-    let past = at + 8 + wide(file[at + 5]) + word(file, at + 6);
-    if end < past {
-        return Walked::Refused(4, at);
-    }
-    if !fields_ok(file, shape, mats, at) {
-        return Walked::Refused(7, at);
-    }
-    if !in_order(file, before, at) {
-        return Walked::Refused(7, at);
-    }
-    let kind = file[at + 3];
-    if kind != 0 {
-        return Walked::Past(past);
-    }
-    match check_guard(file, shape, at) {
-        Walked::Past(_) => check_action(file, shape, at),
-        Walked::Refused(number, place) => Walked::Refused(number, place),
+    // The cell at `at`, after the one at `before`.
+    pub fn check_cell(self, mats: usize, before: usize, at: usize) -> Result<usize, Refused>
+        requires { (at ≤ self.end) × (before ≤ self.end) × (mats + 2 * self.shape.matrices ≤ length self.file.now) }
+        ensures { (f : ℕ → ℕ → BoolExpr) → told result ≡ walked (cell_at self.entry.file.now self.entry.end (names_of self.entry.file.now self.entry.shape) mats f before at) }
+    {
+        let past = at + 8 + wide(self.file[at + 5]) + word(self.file, at + 6);
+        if self.end < past {
+            return Err(Refused::Offset(at));
+        }
+        if !fields_ok(self.file, self.shape, mats, at) {
+            return Err(Refused::Cell(at));
+        }
+        if !in_order(self.file, before, at) {
+            return Err(Refused::Cell(at));
+        }
+        let kind = self.file[at + 3];
+        if kind != CellKind::Normal as u8 {
+            return Ok(past);
+        }
+        self.check_guard(at)?;
+        self.check_action(at)
     }
 }

@@ -1,189 +1,158 @@
 // Expressions: a decision over the operator byte, with ranges for operators of one shape.
-// In every function: `text` holds the expression, `file` the variables' kinds; what is read starts at `at` and must not pass `end`;
-// `shape` has the numbers of variables and matrices; `later` says whether the next state may be read too.
+// In every function what is read starts at `at`; `later` says whether the next state may be read too.
 ghost use Rattle.std.specs.Prelude.{◌≡◌, false, List, ℕ, ◌*◌, ◌≤◌, length};
 ghost use Rattle.design.specs.Reading.{fail};
 ghost use Rattle.design.specs.Expression.{Names, with_later, int_of, bool_of, int_expr, bool_expr, IntOp, BoolOp};
 ghost use Rattle.design.specs.Check.{names_of};
 ghost use Rattle.design.specs.Answers.{found};
 
-use super::shape::Shape;
+use super::kind::Kind;
+use super::source::Source;
 
-// What reading answers: the position past what was read, or that it is not right.
-#[derive(Clone, Copy)]
-pub enum Found {
-    At(usize),
-    Bad,
-}
-
-// The integer constant at `at`.
-pub fn read_integer_constant(at: usize, end: usize) -> Found
-    requires { at ≤ end }
-    ensures { (text : List ℕ) (N : Names) → result ≡ found (int_of text N end fail IntOp.op_constant at) }
-{
-    if 2 <= end - at {
-        Found::At(at + 2)
-    } else {
-        Found::Bad
-    }
-}
-
-// The integer variable named at `at`.
-pub fn read_integer_variable(text: &[u8], file: &[u8], at: usize, end: usize, shape: Shape) -> Found
-    requires { (end ≤ length text.now) × (3 * shape.variables ≤ length file.now) }
-    ensures { result ≡ found (int_of text.now (names_of file.now shape) end fail (IntOp.op_variable false) at) }
-{
-    if end <= at {
-        return Found::Bad;
-    }
-    let v = text[at] as usize;
-    if shape.variables <= v {
-        return Found::Bad;
-    }
-    let k = file[3 * v];
-    if k == 1 {
-        Found::At(at + 1)
-    } else {
-        Found::Bad
-    }
-}
-
-// The matrix whose status is read.
-pub fn read_status(text: &[u8], at: usize, end: usize, shape: Shape) -> Found
-    requires { end ≤ length text.now }
-    ensures { (file : List ℕ) → result ≡ found (int_of text.now (names_of file shape) end fail (IntOp.op_status false) at) }
-{
-    if end <= at {
-        return Found::Bad;
-    }
-    let m = text[at] as usize;
-    if m < shape.matrices {
-        Found::At(at + 1)
-    } else {
-        Found::Bad
-    }
-}
-
-// The byte 0 or 1.
-pub fn read_boolean_constant(text: &[u8], at: usize, end: usize) -> Found
-    requires { end ≤ length text.now }
-    ensures { (N : Names) → result ≡ found (bool_of text.now N end fail fail BoolOp.op_constant at) }
-{
-    if end <= at {
-        return Found::Bad;
-    }
-    let b = text[at];
-    if b <= 1 {
-        Found::At(at + 1)
-    } else {
-        Found::Bad
-    }
-}
-
-// The Boolean or external variable named at `at`.
-pub fn read_boolean_variable(text: &[u8], file: &[u8], at: usize, end: usize, shape: Shape) -> Found
-    requires { (end ≤ length text.now) × (3 * shape.variables ≤ length file.now) }
-    ensures { result ≡ found (bool_of text.now (names_of file.now shape) end fail fail (BoolOp.op_variable false) at) }
-{
-    if end <= at {
-        return Found::Bad;
-    }
-    let v = text[at] as usize;
-    if shape.variables <= v {
-        return Found::Bad;
-    }
-    let k = file[3 * v];
-    if k == 1 {
-        Found::Bad
-    } else {
-        Found::At(at + 1)
-    }
-}
-
-// The integer expression at `at`, of depth at most `depth`.
-pub fn check_int(
-    text: &[u8],
-    file: &[u8],
-    at: usize,
-    end: usize,
-    shape: Shape,
-    later: bool,
-    depth: usize,
-) -> Found
-    requires { (end ≤ length text.now) × (3 * shape.variables ≤ length file.now) }
-    ensures { result ≡ found (int_expr text.now (with_later later (names_of file.now shape)) end depth at) }
-{
-    if depth == 0 {
-        return Found::Bad;
-    }
-    if end <= at {
-        return Found::Bad;
-    }
-    let op = text[at];
-    match op {
-        0x01 => read_integer_constant(at + 1, end),
-        0x02 => read_integer_variable(text, file, at + 1, end, shape),
-        0x03 => read_status(text, at + 1, end, shape),
-        0x04..=0x05 => match check_int(text, file, at + 1, end, shape, later, depth - 1) {
-            Found::At(m) => check_int(text, file, m, end, shape, later, depth - 1),
-            Found::Bad => Found::Bad,
-        },
-        0x06..=0x07 => {
-            if !later {
-                return Found::Bad;
-            }
-            if op == 0x06 {
-                read_integer_variable(text, file, at + 1, end, shape)
-            } else {
-                read_status(text, at + 1, end, shape)
-            }
+impl<'a> Source<'a> {
+    // The integer constant at `at`.
+    pub fn read_integer_constant(self, at: usize) -> Option<usize>
+        requires { at ≤ self.end }
+        ensures { (N : Names) → result ≡ found (int_of self.entry.text.now N self.entry.end fail IntOp.op_constant at) }
+    {
+        if 2 <= self.end - at {
+            Some(at + 2)
+        } else {
+            None
         }
-        0x08 => match read_integer_constant(at + 1, end) {
-            Found::At(m) => check_int(text, file, m, end, shape, later, depth - 1),
-            Found::Bad => Found::Bad,
-        },
-        _ => Found::Bad,
     }
-}
 
-// The Boolean expression at `at`, likewise.
-pub fn check_bool(
-    text: &[u8],
-    file: &[u8],
-    at: usize,
-    end: usize,
-    shape: Shape,
-    later: bool,
-    depth: usize,
-) -> Found
-    requires { (end ≤ length text.now) × (3 * shape.variables ≤ length file.now) }
-    ensures { result ≡ found (bool_expr text.now (with_later later (names_of file.now shape)) end depth at) }
-{
-    if depth == 0 {
-        return Found::Bad;
-    }
-    if end <= at {
-        return Found::Bad;
-    }
-    let op = text[at];
-    match op {
-        0x10 => read_boolean_constant(text, at + 1, end),
-        0x11 => read_boolean_variable(text, file, at + 1, end, shape),
-        0x12 => check_bool(text, file, at + 1, end, shape, later, depth - 1),
-        0x13..=0x14 => match check_bool(text, file, at + 1, end, shape, later, depth - 1) {
-            Found::At(m) => check_bool(text, file, m, end, shape, later, depth - 1),
-            Found::Bad => Found::Bad,
-        },
-        0x15..=0x16 => match check_int(text, file, at + 1, end, shape, later, depth - 1) {
-            Found::At(m) => check_int(text, file, m, end, shape, later, depth - 1),
-            Found::Bad => Found::Bad,
-        },
-        0x17 => {
-            if !later {
-                return Found::Bad;
-            }
-            read_boolean_variable(text, file, at + 1, end, shape)
+    // The integer variable named at `at`.
+    pub fn read_integer_variable(self, at: usize) -> Option<usize>
+        ensures { result ≡ found (int_of self.entry.text.now (names_of self.entry.file.now self.entry.shape) self.entry.end fail (IntOp.op_variable false) at) }
+    {
+        if self.end <= at {
+            return None;
         }
-        _ => Found::Bad,
+        let v = self.text[at] as usize;
+        if self.shape.variables <= v {
+            return None;
+        }
+        let k = self.file[3 * v];
+        if k == Kind::Integer as u8 {
+            Some(at + 1)
+        } else {
+            None
+        }
+    }
+
+    // The matrix whose status is read.
+    pub fn read_status(self, at: usize) -> Option<usize>
+        ensures { result ≡ found (int_of self.entry.text.now (names_of self.entry.file.now self.entry.shape) self.entry.end fail (IntOp.op_status false) at) }
+    {
+        if self.end <= at {
+            return None;
+        }
+        let m = self.text[at] as usize;
+        if m < self.shape.matrices {
+            Some(at + 1)
+        } else {
+            None
+        }
+    }
+
+    // The byte 0 or 1.
+    pub fn read_boolean_constant(self, at: usize) -> Option<usize>
+        ensures { (N : Names) → result ≡ found (bool_of self.entry.text.now N self.entry.end fail fail BoolOp.op_constant at) }
+    {
+        if self.end <= at {
+            return None;
+        }
+        let b = self.text[at];
+        if b <= 1 { Some(at + 1) } else { None }
+    }
+
+    // The Boolean or external variable named at `at`.
+    pub fn read_boolean_variable(self, at: usize) -> Option<usize>
+        ensures { result ≡ found (bool_of self.entry.text.now (names_of self.entry.file.now self.entry.shape) self.entry.end fail fail (BoolOp.op_variable false) at) }
+    {
+        if self.end <= at {
+            return None;
+        }
+        let v = self.text[at] as usize;
+        if self.shape.variables <= v {
+            return None;
+        }
+        let k = self.file[3 * v];
+        if k == Kind::Integer as u8 {
+            None
+        } else {
+            Some(at + 1)
+        }
+    }
+
+    // The integer expression at `at`, of depth at most `depth`.
+    pub fn check_int(self, at: usize, later: bool, depth: usize) -> Option<usize>
+        ensures { result ≡ found (int_expr self.entry.text.now (with_later later (names_of self.entry.file.now self.entry.shape)) self.entry.end depth at) }
+    {
+        if depth == 0 {
+            return None;
+        }
+        if self.end <= at {
+            return None;
+        }
+        let op = self.text[at];
+        match op {
+            0x01 => self.read_integer_constant(at + 1),
+            0x02 => self.read_integer_variable(at + 1),
+            0x03 => self.read_status(at + 1),
+            0x04..=0x05 => {
+                let m = self.check_int(at + 1, later, depth - 1)?;
+                self.check_int(m, later, depth - 1)
+            }
+            0x06..=0x07 => {
+                if !later {
+                    return None;
+                }
+                if op == 0x06 {
+                    self.read_integer_variable(at + 1)
+                } else {
+                    self.read_status(at + 1)
+                }
+            }
+            0x08 => {
+                let m = self.read_integer_constant(at + 1)?;
+                self.check_int(m, later, depth - 1)
+            }
+            _ => None,
+        }
+    }
+
+    // The Boolean expression at `at`, likewise.
+    pub fn check_bool(self, at: usize, later: bool, depth: usize) -> Option<usize>
+        ensures { result ≡ found (bool_expr self.entry.text.now (with_later later (names_of self.entry.file.now self.entry.shape)) self.entry.end depth at) }
+    {
+        if depth == 0 {
+            return None;
+        }
+        if self.end <= at {
+            return None;
+        }
+        let op = self.text[at];
+        match op {
+            0x10 => self.read_boolean_constant(at + 1),
+            0x11 => self.read_boolean_variable(at + 1),
+            0x12 => self.check_bool(at + 1, later, depth - 1),
+            0x13..=0x14 => {
+                let m = self.check_bool(at + 1, later, depth - 1)?;
+                self.check_bool(m, later, depth - 1)
+            }
+            0x15..=0x16 => {
+                let m = self.check_int(at + 1, later, depth - 1)?;
+                self.check_int(m, later, depth - 1)
+            }
+            0x17 => {
+                if !later {
+                    return None;
+                }
+                self.read_boolean_variable(at + 1)
+            }
+            _ => None,
+        }
     }
 }

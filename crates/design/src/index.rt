@@ -8,6 +8,7 @@ ghost use Rattle.design.specs.Places.{Accepted, Measured, past_events, externals
 
 use super::bits::state_bits;
 use super::bytes::{wide, word};
+use super::kind::{CellKind, Kind};
 use super::limits::{EVENT_PLACES, EVENT_ROW, MAX_MOVERS, TRAILER, is_constrained, tail_bytes};
 use super::shape::{Counts, Offsets, Shape};
 
@@ -136,11 +137,9 @@ pub fn index_row(
         × (length table.new ≡ event_places) }
 {
     let mut p = at;
-    let mut i = 0;
-    while i < count {
+    for i in 0..count {
         table[EVENT_ROW * m + i] = p as u16;
         p = p + 1 + wide(file[p]);
-        i = i + 1;
     }
     p
 }
@@ -153,10 +152,8 @@ pub fn index_events(file: &[u8], table: &mut [u16; EVENT_PLACES])
     let mats = trailer_word(file, MATRICES_AT);
     let nm = trailer_word(file, MATRICES);
     let mut p = trailer_word(file, EVENTS_AT);
-    let mut m = 0;
-    while m < nm {
+    for m in 0..nm {
         p = index_row(file, p, wide(file[mats + 2 * m + 1]), m, table);
-        m = m + 1;
     }
 }
 
@@ -167,15 +164,13 @@ pub fn index_cells(file: &[u8], table: &mut [u16; MAX_MOVERS]) -> usize
 {
     let count = trailer_word(file, CELLS);
     let mut p = trailer_word(file, CELLS_AT);
-    let mut i = 0;
     let mut normals = 0;
-    while i < count {
-        if file[p + 3] == 0 {
+    for _ in 0..count {
+        if file[p + 3] == CellKind::Normal as u8 {
             table[normals] = p as u16;
-            normals = normals + 1;
+            normals += 1;
         }
         p = p + 8 + wide(file[p + 5]) + word(file, p + 6);
-        i = i + 1;
     }
     normals
 }
@@ -185,13 +180,11 @@ pub fn external_count(file: &[u8], variables: usize) -> usize
     requires { 3 * variables ≤ length file.now }
     ensures { (result ≡ length (externals_from file.now 0 variables)) × (result ≤ variables) }
 {
-    let mut v = 0;
     let mut count = 0;
-    while v < variables {
-        if file[3 * v] == 2 {
-            count = count + 1;
+    for v in 0..variables {
+        if file[3 * v] == Kind::External as u8 {
+            count += 1;
         }
-        v = v + 1;
     }
     count
 }
@@ -201,18 +194,16 @@ pub fn external(file: &[u8], variables: usize, k: usize) -> usize
     requires { (3 * variables ≤ length file.now) × (k < length (externals_from file.now 0 variables)) }
     ensures { (result ≡ get_or (externals_from file.now 0 variables) k 0) × (result < variables) }
 {
-    let mut v = 0;
     let mut left = k;
-    while v < variables {
-        if file[3 * v] == 2 {
+    for v in 0..variables {
+        if file[3 * v] == Kind::External as u8 {
             if left == 0 {
                 return v;
             }
-            left = left - 1;
+            left -= 1;
         }
-        v = v + 1;
     }
-    v
+    variables
 }
 
 // The shape of a file with so many normal cells.

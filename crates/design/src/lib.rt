@@ -8,63 +8,47 @@ mod cell;
 pub mod expression;
 pub mod index;
 mod item;
+pub mod kind;
 pub mod limits;
+pub mod refusal;
 mod section;
 pub mod shape;
+pub mod source;
 
 ghost use Rattle.std.specs.Prelude.{◌≡◌};
 ghost use Rattle.design.specs.Check.{check as checked, refused, refusal};
+ghost use Rattle.design.specs.Refusal.{turned};
 
 use bytes::word;
 use index::{items_end, trailer_counts, trailer_offsets};
-use item::Counted;
 use limits::{TRAILER, counts_right, length_right, movers_right, tail_bytes, version_right};
+use refusal::Refused;
 use section::check_sections;
 
-// CHECK's answer: number 0 for an accepted file.
-#[derive(Clone, Copy)]
-pub struct Refusal {
-    pub number: u8,
-    pub place: usize,
-}
-
-pub fn answer(number: u8, place: usize) -> Refusal
-    ensures { result ≡ refusal (refused number place) }
-{
-    Refusal {
-        number: number,
-        place: place,
-    }
-}
-
 // CHECK.
-pub fn check(file: &[u8]) -> Refusal
-    ensures { result ≡ refusal (checked file.now) }
+pub fn check(file: &[u8]) -> Result<(), Refused>
+    ensures { turned result ≡ refusal (checked file.now) }
 {
     let len = file.len();
     if !length_right(len) {
-        return answer(1, len);
+        return Err(Refused::Length(len));
     }
     let trailer = len - TRAILER;
     let version = word(file, trailer);
     if len < tail_bytes(version) {
-        return answer(1, len);
+        return Err(Refused::Length(len));
     }
     if !version_right(version) {
-        return answer(2, trailer);
+        return Err(Refused::Version(trailer));
     }
     let counts = trailer_counts(file);
     if !counts_right(counts.variables, counts.matrices, counts.cells) {
-        return answer(3, trailer);
+        return Err(Refused::Counts(trailer));
     }
-    match check_sections(file, items_end(file), counts, trailer_offsets(file)) {
-        Counted::Passed(_, movers) => {
-            if movers_right(movers) {
-                answer(0, 0)
-            } else {
-                answer(10, len)
-            }
-        }
-        Counted::Stopped(number, place) => answer(number, place),
+    let (_, movers) = check_sections(file, items_end(file), counts, trailer_offsets(file))?;
+    if movers_right(movers) {
+        Ok(())
+    } else {
+        Err(Refused::Movers(len))
     }
 }

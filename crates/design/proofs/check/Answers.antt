@@ -1,12 +1,13 @@
 use native.Mathlib.Omega.{arith}
-use mathlib.Core.Path.{◌∙◌}
+use mathlib.Core.Path.{refl}
+use Rattle.design.proofs.Told.{turned_on}
 use lib.ListN.{length}
 use Rattle.design.proofs.File.{length_low, tail_room, tail_fits, whole_length, whole_tail, whole_version, whole_counts, whole_stopped, whole_movers, whole_accepted}
 use Rattle.design.proofs.check.Goals as goal
 
 pub returns-then-not-length_right : goal.returns-then-not-length_right
 returns-then-not-length_right c =
-    c.answer.ensures ∙ whole_length c.args.file.now _ c.length_right.ensures c.if-not-length_right.true
+    whole_length c.args.file.now _ c.length_right.ensures c.if-not-length_right.true
 
 pub overflow_sub-trailer : goal.overflow_sub-trailer
 overflow_sub-trailer c =
@@ -18,12 +19,12 @@ word-version-requires c =
 
 pub returns-then-len-tail_bytes : goal.returns-then-len-tail_bytes
 returns-then-len-tail_bytes c =
-    c.answer-then-len-tail_bytes.ensures ∙ whole_tail c.args.file.now _ c.length_right.ensures c.if-not-length_right.false _ c.word-version.ensures.0 _
+    whole_tail c.args.file.now _ c.length_right.ensures c.if-not-length_right.false _ c.word-version.ensures.0 _
     c.tail_bytes.ensures c.if-len-tail_bytes.true
 
 pub returns-then-not-version_right : goal.returns-then-not-version_right
 returns-then-not-version_right c =
-    c.answer-then-not-version_right.ensures ∙ whole_version c.args.file.now _ c.length_right.ensures
+    whole_version c.args.file.now _ c.length_right.ensures
     c.if-not-length_right.false _ c.word-version.ensures.0 _
     c.tail_bytes.ensures c.if-len-tail_bytes.false _ c.version_right.ensures
     c.if-not-version_right.true
@@ -34,7 +35,7 @@ trailer_counts-counts-requires c =
 
 pub returns-then-not-counts_right : goal.returns-then-not-counts_right
 returns-then-not-counts_right c =
-    c.answer-then-not-counts_right.ensures ∙ whole_counts c.args.file.now _ c.length_right.ensures c.if-not-length_right.false _
+    whole_counts c.args.file.now _ c.length_right.ensures c.if-not-length_right.false _
     c.word-version.ensures.0 _ c.tail_bytes.ensures c.if-len-tail_bytes.false _ c.version_right.ensures c.if-not-version_right.false _
     c.trailer_counts-counts.ensures.0 _ c.counts_right.ensures c.if-not-counts_right.true
 
@@ -54,20 +55,19 @@ check_sections-requires c = (
 
 pub returns-then-movers_right : goal.returns-then-movers_right
 returns-then-movers_right c =
-    c.answer-then-movers_right.ensures ∙ whole_accepted c.args.file.now _ c.length_right.ensures c.if-not-length_right.false _
+    whole_accepted c.args.file.now _ c.length_right.ensures c.if-not-length_right.false _
     c.word-version.ensures.0 _ c.tail_bytes.ensures c.if-len-tail_bytes.false _ c.version_right.ensures c.if-not-version_right.false _
     c.trailer_counts-counts.ensures.0 _ c.counts_right.ensures c.if-not-counts_right.false _ c.items_end.ensures _ c.trailer_offsets.ensures _ _ _
-    c.check_sections.ensures c.in-Passed.is _ c.movers_right.ensures c.if-movers_right.true
+    c.in_ok-movers.ensures refl _ c.movers_right.ensures c.if-movers_right.true
 
 pub returns-else-movers_right : goal.returns-else-movers_right
 returns-else-movers_right c =
-    c.answer-else-movers_right.ensures ∙ whole_movers c.args.file.now _ c.length_right.ensures c.if-not-length_right.false _ c.word-version.ensures.0
+    whole_movers c.args.file.now _ c.length_right.ensures c.if-not-length_right.false _ c.word-version.ensures.0
     _ c.tail_bytes.ensures c.if-len-tail_bytes.false _ c.version_right.ensures c.if-not-version_right.false _ c.trailer_counts-counts.ensures.0 _
-    c.counts_right.ensures c.if-not-counts_right.false _ c.items_end.ensures _ c.trailer_offsets.ensures _ _ _ c.check_sections.ensures
-    c.in-Passed.is _ c.movers_right.ensures c.if-movers_right.false
+    c.counts_right.ensures c.if-not-counts_right.false _ c.items_end.ensures _ c.trailer_offsets.ensures _ _ _ c.in_ok-movers.ensures refl _ c.movers_right.ensures c.if-movers_right.false
 
-pub returns-in-Stopped : goal.returns-in-Stopped
-returns-in-Stopped c =
-    c.answer-in-Stopped.ensures ∙ whole_stopped c.args.file.now _ c.length_right.ensures c.if-not-length_right.false _ c.word-version.ensures.0 _
+pub returns-in_err-movers : goal.returns-in_err-movers
+returns-in_err-movers c =
+    turned_on _ _ c.from_residual.ensures.1 _ (whole_stopped c.args.file.now _ c.length_right.ensures c.if-not-length_right.false _ c.word-version.ensures.0 _
     c.tail_bytes.ensures c.if-len-tail_bytes.false _ c.version_right.ensures c.if-not-version_right.false _ c.trailer_counts-counts.ensures.0 _
-    c.counts_right.ensures c.if-not-counts_right.false _ c.items_end.ensures _ c.trailer_offsets.ensures _ _ _ c.check_sections.ensures c.in-Stopped.is
+    c.counts_right.ensures c.if-not-counts_right.false _ c.items_end.ensures _ c.trailer_offsets.ensures _ _ _ c.in_err-movers.ensures refl)

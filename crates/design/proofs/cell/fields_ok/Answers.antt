@@ -24,27 +24,27 @@ returns-then-events-event c =
       le-ltb _ _ c.if-events-event.true,
     )
 
-pub returns-then-kind-eq0 : goal.returns-then-kind-eq0
-returns-then-kind-eq0 c =
-    fields_ending c.args.file.now c.args.mats c.args.shape.matrices c.args.at 0 _ c.if-kind-eq0.true refl c.if-shape-m.false c.if-statuses-status.false c.if-events-event.false
+pub returns-then-kind : goal.returns-then-kind
+returns-then-kind c =
+    fields_ending c.args.file.now c.args.mats c.args.shape.matrices c.args.at 0 _ c.if-kind.true refl c.if-shape-m.false c.if-statuses-status.false c.if-events-event.false
 
-pub returns-then-kind-ne1 : goal.returns-then-kind-ne1
-returns-then-kind-ne1 c =
-    fields_ending c.args.file.now c.args.mats c.args.shape.matrices c.args.at _ false refl (ending_other c.args.file.now c.args.mats c.args.shape.matrices c.args.at _ c.if-kind-eq0.false c.if-kind-ne1.true) c.if-shape-m.false
+pub returns-then-kind-2 : goal.returns-then-kind-2
+returns-then-kind-2 c =
+    fields_ending c.args.file.now c.args.mats c.args.shape.matrices c.args.at _ false refl (ending_other c.args.file.now c.args.mats c.args.shape.matrices c.args.at _ c.if-kind.false c.if-kind-2.true) c.if-shape-m.false
     c.if-statuses-status.false c.if-events-event.false
 
 pub returns-then-target-ne0 : goal.returns-then-target-ne0
 returns-then-target-ne0 c =
-    fields_ending c.args.file.now c.args.mats c.args.shape.matrices c.args.at 1 false c.if-kind-ne1.false (simp
+    fields_ending c.args.file.now c.args.mats c.args.shape.matrices c.args.at 1 false c.if-kind-2.false (simp
     (ne_eqb _ _ c.if-target-ne0.true)) c.if-shape-m.false c.if-statuses-status.false c.if-events-event.false
 
 pub returns-then-guard-ne0 : goal.returns-then-guard-ne0
 returns-then-guard-ne0 c =
-    fields_ending c.args.file.now c.args.mats c.args.shape.matrices c.args.at 1 false c.if-kind-ne1.false
+    fields_ending c.args.file.now c.args.mats c.args.shape.matrices c.args.at 1 false c.if-kind-2.false
     (simp (eq-eqb _ _ c.if-target-ne0.false, ne_eqb _ _ c.if-guard-ne0.true)) c.if-shape-m.false c.if-statuses-status.false c.if-events-event.false
 
 pub returns : goal.returns
 returns c =
-    fields_ending c.args.file.now c.args.mats c.args.shape.matrices c.args.at 1 _ c.if-kind-ne1.false
+    fields_ending c.args.file.now c.args.mats c.args.shape.matrices c.args.at 1 _ c.if-kind-2.false
     (simp (eq-eqb _ _ c.if-target-ne0.false, eq-eqb _ _ c.if-guard-ne0.false) (ap (λ (x : ℕ). eqb x 0) (sym c.word-action.ensures.0)))
     c.if-shape-m.false c.if-statuses-status.false c.if-events-event.false

@@ -20,14 +20,14 @@ returns-then-a-b-2 c =
       ne_eqb_of _ _ _ _ c.rank_at-a.ensures c.rank_at-b.ensures c.if-a-b-2.true,
     )
 
-pub returns-then-j-ne0 : goal.returns-then-j-ne0
-returns-then-j-ne0 c =
+pub returns-then-j : goal.returns-then-j
+returns-then-j c =
     simp (
       ne_eqb _ _ c.if-before-at.false,
       le_ltb_of _ _ _ _ c.rank_at-a.ensures c.rank_at-b.ensures c.if-a-b.false,
       eq_eqb_of _ _ _ _ c.rank_at-a.ensures c.rank_at-b.ensures
           c.if-a-b-2.false,
-      ne_eqb _ _ c.if-j-ne0.true,
+      ne_eqb _ _ c.if-j.true,
     )
 
 pub returns : goal.returns
@@ -36,5 +36,5 @@ returns c =
       ne_eqb _ _ c.if-before-at.false,
       le_ltb_of _ _ _ _ c.rank_at-a.ensures c.rank_at-b.ensures c.if-a-b.false,
       eq_eqb_of _ _ _ _ c.rank_at-a.ensures c.rank_at-b.ensures c.if-a-b-2.false,
-      eq-eqb _ _ c.if-j-ne0.false,
+      eq-eqb _ _ c.if-j.false,
     )

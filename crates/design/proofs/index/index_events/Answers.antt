@@ -61,10 +61,6 @@ index_row-p-requires c =
       row_inside _ c.requires.0 _ _ _ _ c.loop-m.invariant.2 (omega arith) e,
     )
 
-pub overflow_add-m : goal.overflow_add-m
-overflow_add-m c =
-    omega (arith, (bounds _ c.requires.0).matrices)
-
 pub loop-m-preserved : goal.loop-m-preserved
 loop-m-preserved c =
     let e = c.wide.ensures.0 ∙ ap (λ (x : ℕ). get_or c.args.file.now (x + 2 * c.loop-m.m + 1) 0) c.loop-m.invariant.0 in (

@@ -1,4 +1,3 @@
-use Prim.Native.Nat.{◌-◌}
 use mathlib.Core.Path.{◌≡◌}
 use lib.ListN.{length}
 use Rattle.design.specs.Check.{matrices_offset, matrix_count}
@@ -8,6 +7,3 @@ use Rattle.design.proofs.index.index_events.Given as goal
 
 abbrev pub invariant-loop-m : goal.invariant-loop-m
 invariant-loop-m l = (l.mats ≡ matrices_offset l.file) × (l.nm ≡ matrix_count l.file) × EventsGoing l.file l.p l.m l.table × (length l.table ≡ event_places)
-
-abbrev pub decreases-loop-m : goal.decreases-loop-m
-decreases-loop-m l = l.nm - l.m

@@ -1,22 +1,20 @@
 use native.Mathlib.Omega.{arith}
-use mathlib.Core.Path.{refl, sym, ◌∙◌}
-use Rattle.design.proofs.Items.{items_none, items_refused, items_more, matrix_ends}
+use native.Mathlib.Numerals.{unary_clauses}
+use mathlib.Core.Path.{refl, ◌∙◌}
+use Rattle.design.proofs.Told.{handed_on}
+use Rattle.design.proofs.Items.{items_none, items_refused, items_next, matrix_ends}
 use Rattle.design.proofs.section.check_matrices.Goals as goal
 
-pub loop-left-init : goal.loop-left-init
-loop-left-init c = (omega arith, refl)
+pub loop-init : goal.loop-init
+loop-init c = (omega arith, simp unary_clauses refl)
 
-pub loop-left-preserved : goal.loop-left-preserved
-loop-left-preserved c =
-    let e = sym c.in-Past.is ∙ c.check_matrix.ensures in let g = matrix_ends _ _ _ _ e in (
-      g.1,
-      items_more _ _ _ _
-          (omega arith) e ∙ c.loop-left.invariant.1,
-    )
+pub loop-preserved : goal.loop-preserved
+loop-preserved c =
+    let g = matrix_ends _ _ _ _ c.in_ok-p.ensures in (g.1, items_next _ _ _ _ _ (omega arith) c.in_ok-p.ensures ∙ c.loop.invariant.1)
 
-pub returns-in-Refused : goal.returns-in-Refused
-returns-in-Refused c =
-    items_refused _ _ _ _ _ (omega arith) (sym c.in-Refused.is ∙ c.check_matrix.ensures) ∙ c.loop-left.invariant.1
+pub returns-in_err-p : goal.returns-in_err-p
+returns-in_err-p c =
+    handed_on _ _ c.from_residual.ensures.1 _ (items_refused _ _ _ _ _ (omega arith) c.in_err-p.ensures ∙ c.loop.invariant.1)
 
 pub returns : goal.returns
-returns c = items_none _ _ _ (omega arith) ∙ c.loop-left.invariant.1
+returns c = items_none _ _ _ (omega arith) ∙ c.loop.invariant.1

@@ -1,4 +1,0 @@
-use Rattle.design.proofs.expression.+check_bool.Given as goal
-
-abbrev pub decreases-check_bool : goal.decreases-check_bool
-decreases-check_bool l = l.depth

@@ -1,4 +1,0 @@
-use Rattle.design.proofs.expression.+check_int.Given as goal
-
-abbrev pub decreases-check_int : goal.decreases-check_int
-decreases-check_int l = l.depth
