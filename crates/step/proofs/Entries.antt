@@ -5,7 +5,7 @@ use lib.Seq.{paste, paste-zero, paste-suc, length-paste}
 use borrow.Author.Tests.{lt-leb}
 use Rattle.design.specs.Tree.{Kind, boolean, Variable, Design}
 use Rattle.design.specs.DesignFile.{Item, item, need, Matrix, kind, at8, matrix_at}
-use Rattle.design.specs.Limits.{max_statuses, max_events, max_variables, max_matrices, max_slots}
+use Rattle.design.specs.Limits.{max_statuses, max_events, max_variables, max_matrices}
 use Rattle.design.specs.Check.{check, accepted, items_end, variable_count, matrix_count, matrices_offset}
 use Rattle.design.specs.Places.{Accepted}
 use Rattle.design.specs.Sections.{Parts}

@@ -1,8 +1,8 @@
 -- The loops that look for the first wrong entry. Assumes nothing.
 use Rattle.std.proofs.Common.{◌≡◌, ℕ, suc, ◌+◌, ◌<◌, ◌≤◌, Bool, true, false, cond, not, ltb, leb, List, [], ◌∷◌, map, length, get_or, drop, sym, refl, ap, ◌∙◌, ap₂, add-one, arith, drop-cons, le-ltb, lt-ltb, ltb-true, ltb-false}
-use lib.ListN.{length-map, get_or-map}
+use lib.ListN.{length-map}
 use lib.Seq.{drop-length}
-use Rattle.std.specs.Prelude.{Option, Some, None, position}
+use Rattle.std.specs.Prelude.{Some, None, position}
 use Rattle.std.specs.List.{prefix_len}
 use Rattle.std.proofs.lemmas.Option.{cond_some, none-some}
 use Rattle.step.specs.Interface.{first_wrong, wrong_at}

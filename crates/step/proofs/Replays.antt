@@ -1,26 +1,24 @@
 -- The loops of a replay: the first state is loaded, and each choice acts on what the one before it left. Assumes nothing.
-use Rattle.std.proofs.Common.{◌≡◌, ℕ, zero, suc, ◌+◌, ◌*◌, ◌<◌, ◌≤◌, Bool, true, false, cond, not, ◌&&◌, ◌||◌, eqb, ltb, leb, List, [], ◌∷◌, ◌++◌, map, length, get_or, take, drop, set, replicate, sym, refl, ap, ◌∙◌, subst, ap₂, add-one, arith, length-set, drop_of_length-le, take_all, drop-cons, take_at, drop_at, ne_eqb}
-use mathlib.Core.Bool.{false≢true}
+use Rattle.std.proofs.Common.{◌≡◌, ℕ, zero, suc, ◌+◌, ◌*◌, ◌<◌, ◌≤◌, Bool, true, false, cond, ◌&&◌, ◌||◌, eqb, ltb, leb, List, [], ◌∷◌, ◌++◌, map, length, get_or, take, drop, set, replicate, sym, refl, ap, ◌∙◌, subst, ap₂, add-one, arith, length-set, drop_of_length-le, take_all, drop-cons, take_at, drop_at, ne_eqb}
 use mathlib.Core.Option.{Option, none, some}
 use Rattle.std.specs.Prelude.{Option as Maybe, Some, None, is_some}
-use Rattle.std.specs.Option.{unwrap_or}
+use Rattle.step.specs.declared.Replayed.{Replayed}
 use lib.ListN.{length-map, length-replicate, get_or-map}
 use lib.Seq.{paste, paste-zero, paste-suc}
 use Rattle.design.specs.Tree.{Variable, boolean, Design, bit}
 use Rattle.design.specs.State.{State, start}
 use Rattle.design.specs.DesignFile.{Item, item, need, kind, at8, at16, variable_at}
 use Rattle.design.specs.Check.{check, accepted, items_end, variable_count, matrix_count}
-use Rattle.design.specs.Answer.{answer}
 use Rattle.design.specs.Places.{Accepted}
 use Rattle.design.specs.Sections.{Parts}
 use Rattle.design.proofs.Sections.{whole, need_inv, item_same}
 use Rattle.design.proofs.Positions.{variable_stands}
 use Rattle.design.proofs.Places.{read}
-use Rattle.step.specs.Limits.{last_state_property, max_bound}
+use Rattle.step.specs.Limits.{last_state_property}
 use Rattle.step.specs.Property.{Property, property_of}
 use Rattle.step.specs.OneStep.{step, true_at}
 use Rattle.step.specs.StatusEventGuard.{event_read_by, guard_read_by, count_from}
-use Rattle.step.specs.Operations.{first_break, run_told, replay_told, replayed}
+use Rattle.step.specs.Operations.{first_break, break_told, run_told}
 use Rattle.step.specs.Ready.{ReadyState, ReadyPair, before_in, kept_in, Replayable, tested_by}
 use Rattle.step.specs.declared.mover.Tested.{Tested}
 use Rattle.step.specs.declared.replaying.Query.{Query}
@@ -149,10 +147,10 @@ first_judged was holds i broken h rest = go was holds ∙ sym (ap (λ (b : Maybe
     go None true = refl
     go None false = refl
 
--- what the walk has at the end is what REPLAY answers
-told_is : (broken : Maybe ℕ) (events guards : ℕ) (o : Option ℕ) → o ≡ break_or broken none → replay_told (is_some broken) (unwrap_or broken 0) events guards ≡ replayed (answer (o, events, guards))
-told_is (Some at) events guards o f = ap (λ (z : Option ℕ). replayed (answer (z, events, guards))) (sym f)
-told_is None events guards o f = ap (λ (z : Option ℕ). replayed (answer (z, events, guards))) (sym f)
+-- what the walk has at the end is the run's first break
+told_is : (broken : Maybe ℕ) (o : Option ℕ) → o ≡ break_or broken none → broken ≡ break_told o
+told_is (Some at) o f = sym (ap break_told f)
+told_is None o f = sym (ap break_told f)
 
 module _ (d : Design) (q : Property) (s₀ : State) (cs : List ℕ) (before : Option State) (now : State) (i : ℕ) (was : Maybe ℕ) (events guards : ℕ) (g : SoFar d q s₀ cs before now i was events guards)
     (broken : Maybe ℕ) (h : broken ≡ cond (is_some was || true_at d q before now) was (Some i)) where
@@ -169,12 +167,12 @@ module _ (d : Design) (q : Property) (s₀ : State) (cs : List ℕ) (before : Op
     guards = counted_on d (guard_read_by d) s₀ cs now i guards g.guards l;
   }
 
-  so_far_end : length cs ≤ i → replay_told (is_some broken) (unwrap_or broken 0) events guards ≡ replayed (answer (run_told d q s₀ cs))
+  so_far_end : length cs ≤ i → ◌≡◌ {A = Replayed} (record { broken = broken; events = events; guards = guards }) (run_told d q s₀ cs)
   unfolding first_break
   so_far_end l =
-      told_is broken events guards (first_break d q none s₀ cs 0)
-      (g.breaks ∙ ap (λ (xs : List ℕ). break_or was (first_break d q before now xs i)) (drop_of_length-le cs l) ∙ first_judged was holds i broken h none)
-      ∙ ap₂ (λ (e k : ℕ). replayed (answer (first_break d q none s₀ cs 0, e, k)))
+      ap (λ (b : Maybe ℕ). record { broken = b; events = events; guards = guards })
+      (told_is broken (first_break d q none s₀ cs 0) (g.breaks ∙ ap (λ (xs : List ℕ). break_or was (first_break d q before now xs i)) (drop_of_length-le cs l) ∙ first_judged was holds i broken h none))
+      ∙ ap₂ (λ (e k : ℕ). record { broken = break_told (first_break d q none s₀ cs 0); events = e; guards = k })
       (counted_end d (event_read_by d) s₀ cs now i events g.events l) (counted_end d (guard_read_by d) s₀ cs now i guards g.guards l)
 
 -- the loop: `pair` has the state before and the state now, of n slots each
@@ -245,6 +243,6 @@ module _ (file piece : List ℕ) (p n : ℕ) (cs : List ℕ) (pair₀ : State) (
         }))));
   })
 
-  pub replaying_end : length cs ≤ i → (d : Design) → check file ≡ accepted d → replay_told (is_some broken) (unwrap_or broken 0) events guards ≡ replayed (answer (run_told d (property_of file piece d p) (drop n pair₀) cs))
+  pub replaying_end : length cs ≤ i → (d : Design) → check file ≡ accepted d → ◌≡◌ {A = Replayed} (record { broken = broken; events = events; guards = guards }) (run_told d (property_of file piece d p) (drop n pair₀) cs)
   replaying_end l d e =
       so_far_end d (property_of file piece d p) (drop n pair₀) cs (before_in (eqb i 0) n pair) now i was events guards (g.so_far d e) broken (h d (whole file d e).parts) l

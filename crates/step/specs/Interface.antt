@@ -5,6 +5,7 @@ use Rattle.design.specs.Tree.{Kind, boolean, integer, external, Variable, Design
 use Rattle.design.specs.State.{State, layout, statuses_in}
 use Rattle.design.specs.Limits.{max_variables, max_matrices}
 use Rattle.step.specs.Pattern.{signed, wrap}
+use Rattle.step.specs.declared.Started.{Started}
 
 -- "Boolean not 0/1": an external is a Boolean too
 abbrev pub right_kind : Kind → ℕ → Bool
@@ -54,10 +55,5 @@ module _ (d : Design) where
   mark_of s = slice_index s (layout d).mark
 
 -- a state as the calls give it
-pub record StateEntries : Type 0 where
-  pub values : List ℤ
-  pub statuses : List ℕ
-  pub mark : ℕ
-
-abbrev pub entries_of : Design → State → StateEntries
+abbrev pub entries_of : Design → State → Started
 entries_of d s = record { values = values_of d s; statuses = statuses_of d s; mark = mark_of d s }

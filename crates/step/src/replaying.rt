@@ -3,7 +3,7 @@ ghost use Rattle.std.specs.Prelude.{◌≡◌, ℕ, ◌+◌, ◌<◌, ◌≤◌,
 ghost use Rattle.design.specs.Tree.{Design};
 ghost use Rattle.design.specs.State.{start, slot_count};
 ghost use Rattle.design.specs.Check.{check, accepted};
-ghost use Rattle.design.specs.Answer.{refused, answer};
+ghost use Rattle.design.specs.Answer.{told};
 ghost use Rattle.design.specs.Places.{Accepted, Shaped};
 ghost use Rattle.design.specs.Sections.{Parts};
 ghost use Rattle.step.specs.Limits.{last_property, max_bound};
@@ -11,16 +11,16 @@ ghost use Rattle.step.specs.Interface.{wrong_at};
 ghost use Rattle.step.specs.Piece.{piece_right};
 ghost use Rattle.step.specs.Property.{property_of};
 ghost use Rattle.step.specs.OneStep.{true_at};
-ghost use Rattle.step.specs.Operations.{run_told, replayed, REPLAY};
+ghost use Rattle.step.specs.Operations.{run_told, REPLAY};
 ghost use Rattle.step.specs.Ready.{ReadyPair, before_in, Replayable};
 
 use super::Replayed;
 use super::mover::step_pair;
 use super::property::{judges_steps, true_at};
-use design::Refusal;
 use design::bytes::{wide, word};
 use design::index::{index_cells, index_events, shape};
 use design::limits::{EVENT_PLACES, MAX_MOVERS, PAIR_SLOTS};
+use design::refusal::Refused;
 use design::shape::{Shape, slot_count};
 
 // The place of the first choice that is not below w.
@@ -86,7 +86,7 @@ pub fn replay_choices<'a>(
 ) -> Replayed
     requires { Replayable file.now piece.now events.now cells.now query pair.old choices.now }
     ensures { (d : Design) → check file.now ≡ accepted d
-        → result ≡ replayed (answer (run_told d (property_of file.now piece.now d query.property) (drop (slot_count query.shape) pair.old) choices.now)) }
+        → result ≡ run_told d (property_of file.now piece.now d query.property) (drop (slot_count query.shape) pair.old) choices.now }
 {
     let mut broken = None;
     let mut read = 0;
@@ -107,12 +107,7 @@ pub fn replay_choices<'a>(
     }
     let broken = broken_by(broken, file, piece, events, query, choices.len(), pair);
     Replayed {
-        refusal: Refusal {
-            number: 0,
-            place: 0,
-        },
-        broken: broken.is_some(),
-        step: broken.unwrap_or(0),
+        broken,
         events: read,
         guards,
     }
@@ -130,24 +125,12 @@ pub fn replay_slots<'a>(
 ) -> Replayed
     requires { Replayable file.now piece.now events.now cells.now query pair.old choices.now × (pair.old ≡ replicate (slot_count query.shape + slot_count query.shape) 0) }
     ensures { (d : Design) → check file.now ≡ accepted d
-        → result ≡ replayed (answer (run_told d (property_of file.now piece.now d query.property) (start d) choices.now)) }
+        → result ≡ run_told d (property_of file.now piece.now d query.property) (start d) choices.now }
 {
     let shape = query.shape;
     let n = slot_count(shape);
     load_start(file, shape, &mut pair[n..]);
     replay_choices(file, piece, events, cells, query, choices, pair)
-}
-
-pub fn refuse_replay(number: u8, place: usize) -> Replayed
-    ensures { result ≡ replayed (refused number place) }
-{
-    Replayed {
-        refusal: Refusal { number, place },
-        broken: false,
-        step: 0,
-        events: 0,
-        guards: 0,
-    }
 }
 
 // On an accepted file, with a right property and piece and few choices: the tables are filled once, for all steps.
@@ -156,22 +139,22 @@ pub fn replay_accepted<'a>(
     piece: &'a [u8],
     property: u64,
     choices: &[u8],
-) -> Replayed
+) -> Result<Replayed, Refused>
     requires { Accepted file.now × (property ≤ last_property file.now) × (piece_right file.now piece.now property ≡ true) × (length choices.now ≤ max_bound) }
-    ensures { result ≡ REPLAY file.now piece.now property choices.now }
+    ensures { told result ≡ REPLAY file.now piece.now property choices.now }
 {
     let mut cells = [0u16; MAX_MOVERS];
     let normals = index_cells(file, &mut cells);
     let shape = shape(file, normals);
     if let Some(over) = first_over(choices, shape.normals + shape.externals) {
-        return refuse_replay(12, over);
+        return Err(Refused::Choice(over));
     }
     let mut events = [0u16; EVENT_PLACES];
     index_events(file, &mut events);
     let mut all = [0u16; PAIR_SLOTS];
     let n = slot_count(shape);
     let end = n + n;
-    replay_slots(
+    Ok(replay_slots(
         file,
         piece,
         &events,
@@ -179,5 +162,5 @@ pub fn replay_accepted<'a>(
         Query { shape, property },
         choices,
         &mut all[..end],
-    )
+    ))
 }

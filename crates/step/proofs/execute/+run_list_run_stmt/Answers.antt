@@ -11,29 +11,25 @@ run_list-bounds-text-at t c =
 pub run_list-overflow_add-p : goal.run_list-overflow_add-p
 run_list-overflow_add-p t c = omega (arith, list_live _ _ _ _ _ c.requires.0)
 
-pub run_list-loop-left-init : goal.run_list-loop-left-init
-run_list-loop-left-init t c = going_start _ _ _ _ _ _ _ _ c.wide-left.ensures.0 c.requires.0
+pub run_list-loop-init : goal.run_list-loop-init
+run_list-loop-init t c = going_start _ _ _ _ _ _ _ _ (omega arith) c.requires.0
 
 pub run_list-run_stmt-p-requires : goal.run_list-run_stmt-p-requires
-run_list-run_stmt-p-requires t c = (
-  omega (
-    arith,
-    list_live _ _ _ _ _ c.requires.0,
-    c.loop-left.invariant.on,
-    stmt_live _ _ _ _ _ (seq_first _ _ _ _ _ _ c.loop-left.invariant.live c.loop-left-test.true),
-  ),
-  (seq_first _ _ _ _ _ _ c.loop-left.invariant.live c.loop-left-test.true, omega arith, omega arith, omega (arith, c.loop-left.invariant.size)),
-)
+run_list-run_stmt-p-requires t c =
+    let first = seq_first _ _ _ _ _ _ c.loop.invariant.live (omega arith) in (
+      omega (arith, list_live _ _ _ _ _ c.requires.0, c.loop.invariant.on, stmt_live _ _ _ _ _ first),
+      (first, omega arith, omega arith, omega (arith, c.loop.invariant.size)),
+    )
 
-pub run_list-loop-left-preserved : goal.run_list-loop-left-preserved
-run_list-loop-left-preserved t c =
-    going_on _ _ _ _ _ _ _ _ _ _ _ _ c.loop-left-test.true c.loop-left.invariant c.run_stmt-p.ensures
+pub run_list-loop-preserved : goal.run_list-loop-preserved
+run_list-loop-preserved t c =
+    going_on _ _ _ _ _ _ _ _ _ _ _ _ _ (omega arith) c.loop.invariant c.run_stmt-p.ensures
 
 pub run_list-shape_of-slots : goal.run_list-shape_of-slots
-run_list-shape_of-slots t c = c.loop-left.invariant.size
+run_list-shape_of-slots t c = c.loop.invariant.size
 
 pub run_list-returns : goal.run_list-returns
-run_list-returns t c = going_end _ _ _ _ _ _ _ _ _ _ c.loop-left-test.false c.loop-left.invariant
+run_list-returns t c = going_end _ _ _ _ _ _ _ _ _ _ (omega arith) c.loop.invariant
 
 pub run_stmt-bounds-text-at : goal.run_stmt-bounds-text-at
 run_stmt-bounds-text-at t c = omega (arith, stmt_live _ _ _ _ _ c.requires.0)

@@ -1,5 +1,6 @@
 use Rattle.std.proofs.Common.{◌≡◌, ℕ, ◌*◌, false, get_or, sym, ap, ◌∙◌, arith, rules}
 use Rattle.design.specs.Limits.{max_depth}
+use Rattle.step.proofs.Counts.{bit_from}
 use Rattle.step.proofs.Runs.{assign_inside, assign_int, runs_int, assign_bool, runs_bool}
 use Rattle.step.proofs.execute.run_assign.Goals as goal
 
@@ -67,4 +68,4 @@ returns-else-k-eq1 c =
     let kind : get_or c.args.file.now (3 * get_or c.args.text.now c.args.at 0) 0 ≡ 1 → ⊥ = λ e. c.if-k-eq1.false (ap (λ (v :
     ℕ). get_or c.args.file.now (3 * v) 0) c.wide-v.ensures.0 ∙ e) in
     let value = c.eval_bool-x.ensures c.args.file.now max_depth false (assign_bool _ _ _ _ c.requires.0 kind) in
-    runs_bool _ _ _ _ c.requires.0 kind _ _ _ _ _ _ _ _ c.wide-v.ensures.0 value.0 c.bit_of.ensures value.1 value.2 c.mark_if-else-k-eq1.ensures
+    runs_bool _ _ _ _ c.requires.0 kind _ _ _ _ _ _ _ _ c.wide-v.ensures.0 value.0 (c.from.ensures ∙ bit_from _) value.1 value.2 c.mark_if-else-k-eq1.ensures

@@ -8,9 +8,9 @@ use Rattle.step.proofs.interface.give_values.Goals as goal
 pub loop-i-preserved : goal.loop-i-preserved
 loop-i-preserved c =
     copying_mapped max_variables signed (pos 0) 0 c.args.slots.now c.loop-i.i c.loop-i.out _ (omega arith) (omega arith) (stored _ _ (omega (
-          arith,
-          c.type_inv.slots c.loop-i.i,
-        )) c.integer.ensures) c.loop-i.invariant
+      arith,
+      c.type_inv.slots c.loop-i.i,
+    )) c.integer.ensures) c.loop-i.invariant
 
 pub returns : goal.returns
 returns c =

@@ -1,4 +1,4 @@
-use Rattle.std.proofs.Common.{map, length, pos, sym, ◌∙◌, arith}
+use Rattle.std.proofs.Common.{pos, sym, ◌∙◌, arith}
 use Rattle.std.proofs.lemmas.Grind.{same_number_lists}
 use lib.ListN.{length-map, get_or-map}
 use Rattle.step.specs.Pattern.{wrap}

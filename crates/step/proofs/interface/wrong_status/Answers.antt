@@ -1,6 +1,6 @@
 use Rattle.std.proofs.Common.{arith}
 use Rattle.design.proofs.Places.{read}
-use Rattle.step.proofs.Entries.{statuses_start, statuses_wrong, statuses_right_lem, statuses_end, matrices_inside}
+use Rattle.step.proofs.Entries.{statuses_wrong, statuses_right_lem, statuses_end, matrices_inside}
 use Rattle.step.proofs.interface.wrong_status.Goals as goal
 
 pub trailer_word-mats-requires : goal.trailer_word-mats-requires

@@ -1,7 +1,7 @@
 use Rattle.std.proofs.Common.{arith}
 use Rattle.design.proofs.Places.{read}
 use Rattle.design.proofs.Indexed.{variables_inside}
-use Rattle.step.proofs.Entries.{values_start, values_wrong, values_right_lem, values_end}
+use Rattle.step.proofs.Entries.{values_wrong, values_right_lem, values_end}
 use Rattle.step.proofs.interface.wrong_value.Goals as goal
 
 pub value_right-requires : goal.value_right-requires

@@ -1,5 +1,3 @@
-use Rattle.std.proofs.Common.{length, sym, ap, ◌∙◌, arith}
-use lib.ListN.{length-replicate}
 use Rattle.step.proofs.Replays.{loading_inside, loading_on, loading_end}
 use Rattle.step.proofs.replaying.load_start.Goals as goal
 

@@ -1,5 +1,4 @@
-use Rattle.std.proofs.Common.{ℕ, ◌+◌, Bool, ap, ◌∙◌, ap₂, arith}
-use Rattle.step.specs.Operations.{replay_told}
+use Rattle.std.proofs.Common.{ℕ, ◌+◌, ap, ◌∙◌, arith}
 use Rattle.step.proofs.Counts.{bit_most, bit_from}
 use Rattle.step.proofs.Replays.{replaying_few, replaying_last, replaying_on, replaying_end}
 use Rattle.step.proofs.replaying.replay_choices.Goals as goal
@@ -22,5 +21,4 @@ loop-i-preserved c =
 
 pub returns : goal.returns
 returns c =
-    λ d e. ap₂ (λ (b : Bool) (k : ℕ). replay_told b k c.loop-i.read c.loop-i.guards) c.is_some.ensures c.unwrap_or.ensures
-    ∙ replaying_end _ _ _ _ _ _ _ _ _ _ _ (replaying_last _ _ _ _ _ _ _ _ _ _ _ c.loop-i.invariant c.loop-i-test.false) _ c.broken_by-broken-2.ensures (omega arith) d e
+    replaying_end _ _ _ _ _ _ _ _ _ _ _ (replaying_last _ _ _ _ _ _ _ _ _ _ _ c.loop-i.invariant c.loop-i-test.false) _ c.broken_by-broken-2.ensures (omega arith)
