@@ -9,6 +9,7 @@ ghost use Rattle.step.specs.Accepted.{is_read, past, after_stmt, after_list};
 
 use super::evaluate::{eval_bool, eval_int};
 use design::bytes::wide;
+use design::kind::Kind;
 use design::shape::Shape;
 use design::source::Source;
 
@@ -60,7 +61,7 @@ pub fn run_assign(
 {
     let v = wide(text[at]);
     let k = file[3 * v];
-    if k == 1 {
+    if k == Kind::Integer as u8 {
         let x = eval_int(text, at + 1, end, shape, slots);
         mark_if(x.passed, shape, slots);
         slots[v] = x.value;

@@ -12,6 +12,7 @@ ghost use Rattle.step.specs.Entries.{value_right, status_right, tests_of};
 
 use super::number::{integer, pattern};
 use design::index::{MATRICES_AT, trailer_word};
+use design::kind::Kind;
 use design::limits::{MAX_MATRICES, MAX_VARIABLES};
 use design::shape::Shape;
 
@@ -40,7 +41,7 @@ pub fn value_right(file: &[u8], variables: usize, i: usize, p: u16) -> bool
     if variables <= i {
         return p == 0;
     }
-    if file[3 * i] == 1 {
+    if file[3 * i] == Kind::Integer as u8 {
         return true;
     }
     p <= 1

@@ -201,13 +201,9 @@ pub fn keep_state(pair: &mut [u16], n: usize, keep: bool)
     requires { length pair.old ≡ n + n }
     ensures { pair.new ≡ kept_in keep n pair.old ++ drop n pair.old }
 {
-    if !keep {
-        return;
-    }
-    let mut i = 0;
-    while i < n {
-        pair[i] = pair[n + i];
-        i = i + 1;
+    if keep {
+        let (before, now) = pair.split_at_mut(n);
+        before.copy_from_slice(now);
     }
 }
 
