@@ -9,7 +9,7 @@ use lib.ListN.{length, length-append, length-map}
 use lib.Dec.{leb, eqb}
 use borrow.Author.Tests.{leb-true, le-leb, lt-leb, eq-eqb, ne_eqb}
 use Rattle.design.specs.Tree.{BoolExpr, Variable, Kind, boolean, integer, external, if_external, externals, Design, cell, raise, movers}
-use Rattle.design.specs.Limits.{max_bytes, trailer_bytes, last_version, constrained, offset_bytes, tail_bytes, max_variables, max_matrices, max_cells, max_movers, length_right, version_right, counts_right, movers_right}
+use Rattle.design.specs.Limits.{max_bytes, trailer_bytes, constrained, offset_bytes, tail_bytes, length_right, version_right, counts_right, movers_right}
 use Rattle.design.specs.Expression.{Names}
 use Rattle.design.specs.DesignFile.{Item, item, refused, Walk, need, after, items, offset, at16, Matrix, Entry, normal, invalid, variable_at, matrix_at, event_at, events, events_from, cell_at, cells_from, invariant_at, constraint_at}
 use Rattle.design.specs.Check.{event_in, normals, invalids, sections, trailer, version, has_constraint, items_end, constraint_offset, variable_count, matrix_count, cell_count, body, last, check, refusal, names_of, names_by, trailer_counts, trailer_offsets}
@@ -338,20 +338,8 @@ module _ (file : List ℕ) (end : ℕ) (cs : Counts) (os : Offsets) where
               ∙ ap (λ (j : ℕ). answer (u, j)) (movers_length s4.vs s4.ms s4.es y ∙ sym (ap₂ ◌+◌ s4.normal s4.counts)))
 
 -- the tests of the limits
-pub length_short : (n : ℕ) → n < trailer_bytes → false ≡ length_right n
-length_short n h = simp (lt-leb trailer_bytes n h)
-
-pub length_last : (n : ℕ) → trailer_bytes ≤ n → leb n max_bytes ≡ length_right n
-length_last n h = simp (le-leb trailer_bytes n h)
-
 pub length_low : (t : Bool) (n : ℕ) → t ≡ length_right n → t ≡ true → trailer_bytes ≤ n
 length_low t n e h = leb-true _ _ (and_inv (leb trailer_bytes n) (leb n max_bytes) (sym e ∙ h)).0
-
-pub version_none : (v : ℕ) → v < 1 → false ≡ version_right v
-version_none v h = simp (lt-leb 1 v h)
-
-pub version_last : (v : ℕ) → 1 ≤ v → leb v last_version ≡ version_right v
-version_last v h = simp (le-leb 1 v h)
 
 -- the bytes behind the items, and where the constraint stands
 pub tail_by : (v : ℕ) (t b : Bool) → t ≡ constrained v → t ≡ b → cond b (offset_bytes + trailer_bytes) trailer_bytes ≡ tail_bytes v
@@ -382,25 +370,6 @@ module _ (file : List ℕ) where
 
     pub offset_none : t ≡ false → end ≡ constraint_offset file
     offset_none h = n ∙ ap (λ (x : Bool). cond x (at16 file (items_end file)) (items_end file)) (sym h ∙ e)
-
-module _ (v m c : ℕ) where
-  pub counts_variables : max_variables < v → false ≡ counts_right v m c
-  counts_variables h = simp (lt-leb v max_variables h)
-
-  pub counts_no_matrix : v ≤ max_variables → m < 1 → false ≡ counts_right v m c
-  counts_no_matrix g h = simp (le-leb v max_variables g, lt-leb 1 m h)
-
-  pub counts_matrices : v ≤ max_variables → 1 ≤ m → max_matrices < m → false ≡ counts_right v m c
-  counts_matrices g k h = simp (le-leb v max_variables g, le-leb 1 m k, lt-leb m max_matrices h)
-
-  pub counts_last : v ≤ max_variables → 1 ≤ m → m ≤ max_matrices → leb c max_cells ≡ counts_right v m c
-  counts_last g k h = simp (le-leb v max_variables g, le-leb 1 m k, le-leb m max_matrices h)
-
-pub movers_none : (n : ℕ) → n < 1 → false ≡ movers_right n
-movers_none n h = simp (lt-leb 1 n h)
-
-pub movers_last : (n : ℕ) → 1 ≤ n → leb n max_movers ≡ movers_right n
-movers_last n h = simp (le-leb 1 n h)
 
 -- the whole file
 module _ (file : List ℕ) where

@@ -8,12 +8,12 @@ ghost use Rattle.design.specs.Answers.{walked};
 ghost use Rattle.design.specs.Answer.{told};
 
 use super::bytes::{wide, word};
-use super::item::fill_length;
+use super::item::{Items, fill_length};
 use super::kind::CellKind;
 use super::limits::MAX_NEST;
 use super::refusal::Refused;
 use super::shape::Shape;
-use super::source::{Items, Source};
+use super::source::Source;
 
 // A cell's place, as a number that ascends.
 pub fn rank_at(file: &[u8], at: usize) -> usize

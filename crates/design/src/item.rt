@@ -2,7 +2,7 @@
 ghost use Rattle.std.specs.Prelude.{◌≡◌, ◌+◌, ◌*◌, ◌≤◌, length};
 ghost use Rattle.design.specs.DesignFile.{variable_at, matrix_at, event_at, invariant_at, constraint_at, filling};
 ghost use Rattle.design.specs.Expression.{with_later, bool_expr};
-ghost use Rattle.design.specs.Limits.{max_depth};
+ghost use Rattle.design.specs.Limits.{max_depth, trailer_bytes};
 ghost use Rattle.design.specs.Check.{names_of};
 ghost use Rattle.design.specs.Answers.{walked, length_filled};
 ghost use Rattle.design.specs.Answer.{told};
@@ -12,7 +12,18 @@ use super::bytes::{wide, word};
 use super::kind::Kind;
 use super::limits::{MAX_DEPTH, MAX_EVENTS, MAX_STATUSES};
 use super::refusal::Refused;
-use super::source::{Items, Source};
+use super::shape::Shape;
+use super::source::Source;
+
+// The items of a file, which end at `end`, before the trailer.
+#[derive(Clone, Copy)]
+pub struct Items<'a> {
+    pub file: &'a [u8],
+    pub end: usize,
+    pub shape: Shape,
+    ghost room: { end + trailer_bytes ≤ length file.now },
+    ghost kinds: { 3 * shape.variables ≤ length file.now },
+}
 
 // What was read must fill its length up to `past`.
 pub fn fill_length(read: Option<usize>, past: usize, refusal: Refused) -> Result<usize, Refused>

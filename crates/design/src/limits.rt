@@ -47,10 +47,7 @@ pub const PAIR_BITS: usize = 2 * MAX_BITS;
 pub fn length_right(bytes: usize) -> bool
     ensures { result ≡ length_right bytes }
 {
-    if bytes < TRAILER {
-        return false;
-    }
-    bytes <= MAX_BYTES
+    TRAILER <= bytes && bytes <= MAX_BYTES
 }
 
 // Whether a file of this version has a constraint.
@@ -75,34 +72,19 @@ pub fn tail_bytes(version: usize) -> usize
 pub fn version_right(version: usize) -> bool
     ensures { result ≡ version_right version }
 {
-    if version < 1 {
-        return false;
-    }
-    version <= LAST_VERSION
+    1 <= version && version <= LAST_VERSION
 }
 
 // Whether a trailer may have these counts.
 pub fn counts_right(variables: usize, matrices: usize, cells: usize) -> bool
     ensures { result ≡ counts_right variables matrices cells }
 {
-    if MAX_VARIABLES < variables {
-        return false;
-    }
-    if matrices < 1 {
-        return false;
-    }
-    if MAX_MATRICES < matrices {
-        return false;
-    }
-    cells <= MAX_CELLS
+    variables <= MAX_VARIABLES && 1 <= matrices && matrices <= MAX_MATRICES && cells <= MAX_CELLS
 }
 
 // Whether a design may have so many movers.
 pub fn movers_right(movers: usize) -> bool
     ensures { result ≡ movers_right movers }
 {
-    if movers < 1 {
-        return false;
-    }
-    movers <= MAX_MOVERS
+    1 <= movers && movers <= MAX_MOVERS
 }

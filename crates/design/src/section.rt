@@ -8,11 +8,10 @@ ghost use Rattle.design.specs.Answers.{walked, expressions_at, counted, raises, 
 ghost use Rattle.design.specs.Answer.{told};
 
 use super::bytes::wide;
-use super::item::{check_matrix, check_variable};
+use super::item::{Items, check_matrix, check_variable};
 use super::kind::{CellKind, Kind};
 use super::refusal::Refused;
 use super::shape::{Counts, Offsets, shape_of};
-use super::source::Items;
 
 // The variables, from byte 0 on, with the number of externals.
 pub fn check_variables(file: &[u8], end: usize, nv: usize) -> Result<(usize, usize), Refused>

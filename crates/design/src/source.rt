@@ -1,6 +1,5 @@
-// What expressions, actions and items are read from.
-ghost use Rattle.std.specs.Prelude.{◌+◌, ◌*◌, ◌≤◌, length};
-ghost use Rattle.design.specs.Limits.{trailer_bytes};
+// What expressions and actions are read from.
+ghost use Rattle.std.specs.Prelude.{◌*◌, ◌≤◌, length};
 
 use super::shape::Shape;
 
@@ -12,15 +11,5 @@ pub struct Source<'a> {
     pub file: &'a [u8],
     pub shape: Shape,
     ghost inside: { end ≤ length text.now },
-    ghost kinds: { 3 * shape.variables ≤ length file.now },
-}
-
-// The items of a file, which end at `end`, before the trailer.
-#[derive(Clone, Copy)]
-pub struct Items<'a> {
-    pub file: &'a [u8],
-    pub end: usize,
-    pub shape: Shape,
-    ghost room: { end + trailer_bytes ≤ length file.now },
     ghost kinds: { 3 * shape.variables ≤ length file.now },
 }
