@@ -106,8 +106,8 @@ module _ (file events' : List ℕ) (h : Shape) (slots : State) (ready : ReadySta
     tested t b e i j k s' q =
         let stands : t ≡ status_stands l slots c.matrix c.status = i ∙ ap₂ (λ (x y : ℕ). status_stands l slots x y) (sym is.matrix) (sym is.status) in
         let both : b ≡ status_and_event l slots c.matrix c.status c.event = j x.tree x.parts
-            ∙ ap₂ (λ (i j : ℕ). status_and_event l slots i j (event_in x.parts.rows (c_matrix file p) (c_event file p))) (sym is.matrix) (sym is.status)
-            ∙ ap (status_and_event l slots c.matrix c.status) (sym is.event) in
+        ∙ ap₂ (λ (i j : ℕ). status_and_event l slots i j (event_in x.parts.rows (c_matrix file p) (c_event file p))) (sym is.matrix) (sym is.status)
+        ∙ ap (status_and_event l slots c.matrix c.status) (sym is.event) in
         let all : e ≡ enabled l slots (cell c) = k ∙ ap (λ (y : Bool). y && eval_bool l slots c.guard) both in (
           q ∙ ap (λ (y : Bool). cond y (effect l slots (cell c)) slots) all,
           ap (λ (y : Bool). record { event = y; guard = b; idle = not e }) stands

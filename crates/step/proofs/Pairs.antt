@@ -1,8 +1,7 @@
 -- A pair of states, one behind the other: the later one is kept as the earlier, and a property is judged on both. Assumes nothing.
-use Rattle.std.proofs.Common.{◌≡◌, ℕ, zero, suc, ◌+◌, ◌-◌, ◌<◌, ◌≤◌, Bool, true, false, ltb, List, ◌++◌, length, get_or, take, drop, set, sym, refl, ap, ◌∙◌, ap₂, append-nil, add-one, arith, length-append, length-drop, length-set, take-append-drop, drop_of_length-le, length-take-le, get_or-drop, take_all, take_at, drop-set-lt, drop_at, ltb-false}
+use Rattle.std.proofs.Common.{◌≡◌, ℕ, zero, suc, ◌+◌, ◌-◌, ◌<◌, ◌≤◌, Bool, true, false, ltb, List, ◌++◌, length, take, drop, sym, refl, ap, ◌∙◌, ap₂, append-nil, arith, length-append, length-drop, take-append-drop, drop_of_length-le, length-take-le, take_all, take_at, drop_at, ltb-false}
 use mathlib.Core.Bool.{false≢true}
 use mathlib.Core.Option.{Option, some}
-use lib.Seq.{paste, paste-zero, paste-suc}
 use borrow.Rule.Slice.PartMut.{put_mid}
 use Rattle.design.specs.Tree.{Design}
 use Rattle.design.specs.State.{State, Layout, layout, layout_of}

@@ -39,11 +39,9 @@ pub fn expression<'a>(file: &'a [u8], piece: &'a [u8]) -> &'a [u8]
     requires { Accepted file.now }
     ensures { result.now ≡ expression_text file.now piece.now }
 {
-    if 0 < piece.len() {
-        return piece;
+    if piece.is_empty() {
+        &file[invariant(file)]
+    } else {
+        piece
     }
-    let stands = invariant(file);
-    let at = stands.at;
-    let end = stands.end;
-    &file[at..end]
 }

@@ -5,6 +5,6 @@ use Rattle.step.proofs.mover.move_external.Goals.{then-enabled, else-enabled}
 
 pub returns : goal.returns
 returns c = λ l. raised l _ _ _ (elim c.if-enabled.branch [
-    | then-enabled w ↦ rw (eq-eqb _ _ w.if-enabled.true) w.slots-is
-    | else-enabled w ↦ rw (ne_eqb _ _ w.if-enabled.false) w.slots-is
-  ])
+  | then-enabled w ↦ rw (eq-eqb _ _ w.if-enabled.true) w.slots-is
+  | else-enabled w ↦ rw (ne_eqb _ _ w.if-enabled.false) w.slots-is
+])
