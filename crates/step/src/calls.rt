@@ -18,9 +18,8 @@ ghost use Rattle.step.specs.Ready.{ReadyState};
 use super::interface::{
     Entries, copy_slots, give_mark, give_statuses, give_values, patterns, wrong_entry,
 };
-use super::limits::LAST_STATE_PROPERTY;
 use super::mover::move_chosen;
-use super::property::property_true;
+use super::property::{judges_steps, property_true};
 use super::replaying::load_start;
 use super::{Started, Stepped};
 use design::index::{index_cells, index_events, shape};
@@ -163,7 +162,7 @@ pub fn holds_accepted(
     if let Some(wrong) = wrong_entry(file, shape, entries) {
         return Err(Refused::Entry(wrong));
     }
-    if LAST_STATE_PROPERTY < property {
+    if judges_steps(property) {
         return Err(Refused::Property);
     }
     Ok(holds_right(file, shape, property, entries))

@@ -39,12 +39,10 @@ pub fn value_right(file: &[u8], variables: usize, i: usize, p: u16) -> bool
     ensures { result ≡ value_right file.now variables i p }
 {
     if variables <= i {
-        return p == 0;
+        p == 0
+    } else {
+        file[3 * i] == Kind::Integer as u8 || p <= 1
     }
-    if file[3 * i] == Kind::Integer as u8 {
-        return true;
-    }
-    p <= 1
 }
 
 // The index of the first wrong value.
@@ -65,9 +63,10 @@ pub fn status_right(file: &[u8], mats: usize, matrices: usize, m: usize, s: u16)
     ensures { result ≡ status_right file.now mats matrices m s }
 {
     if matrices <= m {
-        return s == 0;
+        s == 0
+    } else {
+        s < u16::from(file[mats + 2 * m])
     }
-    s < (file[mats + 2 * m] as u16)
 }
 
 // The index of the first wrong status.

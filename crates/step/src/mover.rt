@@ -105,7 +105,7 @@ pub fn act_cell(file: &[u8], shape: Shape, p: usize, slots: &mut [u16])
     let past = middle + word(file, p + 6);
     run_list(file, file, middle, past, shape, MAX_NEST, slots);
     let m = wide(file[p]);
-    slots[shape.variables + m] = file[p + 4] as u16;
+    slots[shape.variables + m] = u16::from(file[p + 4]);
 }
 
 // A normal cell moves, if it is enabled: its status is compared first, then its event, then its guard, and it leaves off at the first that fails.

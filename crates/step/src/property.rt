@@ -116,7 +116,7 @@ pub fn true_at<'a>(
         → result ≡ true_at d (property_of file.now piece.now d property) (before_in first (slot_count shape) pair.now) (drop (slot_count shape) pair.now) }
 {
     let n = slot_count(shape);
-    if property <= LAST_STATE_PROPERTY {
+    if !judges_steps(property) {
         return property_true(file, piece, events, shape, property, &pair[n..]);
     }
     if first {
