@@ -12,7 +12,7 @@ load_entries-requires c =
 
 pub move_chosen-tested-requires : goal.move_chosen-tested-requires
 move_chosen-tested-requires c =
-    (ready_same _ _ _ _ _ (omega (arith, c.slots-1.given)) c.requires.0, c.requires.1, c.requires.2)
+    (ready_same _ _ _ _ _ (omega arith) c.requires.0, c.requires.1, c.requires.2)
 
 pub returns : goal.returns
 returns c =

@@ -47,7 +47,7 @@ run_stmt-run_assign-requires t c = (
 )
 
 pub run_stmt-shape_of-slots-then-op-eq32 : goal.run_stmt-shape_of-slots-then-op-eq32
-run_stmt-shape_of-slots-then-op-eq32 t c = omega (arith, c.slots-1.given)
+run_stmt-shape_of-slots-then-op-eq32 t c = omega arith
 
 pub run_stmt-returns-then-op-eq32 : goal.run_stmt-returns-then-op-eq32
 run_stmt-returns-then-op-eq32 t c =
@@ -82,7 +82,7 @@ run_stmt-run_list-m-requires t c =
         then,
         omega arith,
         omega arith,
-        omega (arith, c.slots-in-32-to-33-1.given),
+        omega arith,
       ),
     )
 
@@ -111,11 +111,11 @@ run_stmt-run_list-requires t c =
         list_forward _ _ _ _ _ _ then c.skip_list-m.ensures,
         list_live _ _ _ _ _ other,
       ),
-      (other, omega arith, omega arith, omega (arith, c.slots-in-32-to-33-1.given)),
+      (other, omega arith, omega arith, omega arith),
     )
 
 pub run_stmt-shape_of-slots-then-c : goal.run_stmt-shape_of-slots-then-c
-run_stmt-shape_of-slots-then-c t c = omega (arith, c.slots-in-32-to-33-1.given, c.slots-then-c-1.given)
+run_stmt-shape_of-slots-then-c t c = omega arith
 
 pub run_stmt-returns-then-c : goal.run_stmt-returns-then-c
 run_stmt-returns-then-c t c =
@@ -123,7 +123,7 @@ run_stmt-returns-then-c t c =
     runs_then _ _ _ _ _ c.requires.0 c.if-op-eq32.false _ test.1 _ _ _ _ _ _ _ _ test.0 test.2 c.mark_if.ensures c.if-c.true c.run_list-m.ensures c.skip_list.ensures
 
 pub run_stmt-shape_of-slots-else-c : goal.run_stmt-shape_of-slots-else-c
-run_stmt-shape_of-slots-else-c t c = omega (arith, c.slots-in-32-to-33-1.given, c.slots-else-c-1.given)
+run_stmt-shape_of-slots-else-c t c = omega arith
 
 pub run_stmt-returns-else-c : goal.run_stmt-returns-else-c
 run_stmt-returns-else-c t c =

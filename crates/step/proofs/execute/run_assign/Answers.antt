@@ -29,7 +29,7 @@ eval_int-x-requires c =
 
 pub bounds-slots-v : goal.bounds-slots-v
 bounds-slots-v c =
-    omega (arith, c.slots-1.given, c.wide-v.ensures.0, (assign_inside _ _ _ _ c.requires.0).1)
+    omega (arith, c.wide-v.ensures.0, (assign_inside _ _ _ _ c.requires.0).1)
 
 pub overflow_add-at-else-k : goal.overflow_add-at-else-k
 overflow_add-at-else-k c = omega (arith, (assign_inside _ _ _ _ c.requires.0).0)
@@ -49,10 +49,10 @@ eval_bool-x-requires c =
 
 pub bounds-slots-v-else-k : goal.bounds-slots-v-else-k
 bounds-slots-v-else-k c =
-    omega (arith, c.slots-else-k-1.given, c.wide-v.ensures.0, (assign_inside _ _ _ _ c.requires.0).1)
+    omega (arith, c.wide-v.ensures.0, (assign_inside _ _ _ _ c.requires.0).1)
 
 pub shape_of-slots-then-k : goal.shape_of-slots-then-k
-shape_of-slots-then-k c = search (rules, c.slots-1.given)
+shape_of-slots-then-k c = search rules
 
 pub returns-then-k : goal.returns-then-k
 returns-then-k c =
@@ -61,7 +61,7 @@ returns-then-k c =
     runs_int _ _ _ _ c.requires.0 kind _ _ _ _ _ _ _ c.wide-v.ensures.0 value.0 value.1 value.2 c.mark_if.ensures
 
 pub shape_of-slots-else-k : goal.shape_of-slots-else-k
-shape_of-slots-else-k c = search (rules, c.slots-else-k-1.given)
+shape_of-slots-else-k c = search rules
 
 pub returns-else-k : goal.returns-else-k
 returns-else-k c =

@@ -22,7 +22,7 @@ load_start-requires c =
 
 pub replay_choices-requires : goal.replay_choices-requires
 replay_choices-requires c =
-    replayable_same _ _ _ _ _ _ _ _ (omega (arith, c.pair-1.given)) c.requires.0
+    replayable_same _ _ _ _ _ _ _ _ (omega arith) c.requires.0
 
 pub returns : goal.returns
 returns c =
