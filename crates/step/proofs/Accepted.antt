@@ -3,11 +3,11 @@ use Rattle.std.proofs.Common.{◌≡◌, ℕ, Bool, true, false, refl}
 use mathlib.Core.Bool.{false≢true}
 use Rattle.design.specs.Reading.{Read, got, bad, bind, provided}
 use Rattle.design.specs.Answers.{found}
-use Rattle.design.specs.declared.expression.Found.TheVariants.{At}
+use Rattle.std.specs.Prelude.{Some}
 use Rattle.step.specs.Accepted.{is_read, past, value_of}
 
 -- it is found, as the checkers say it
-pub read_found : {A : Type 0} (x : Read A) → is_read x ≡ true → At (past x) ≡ found x
+pub read_found : {A : Type 0} (x : Read A) → is_read x ≡ true → Some (past x) ≡ found x
 read_found (got a n) h = refl
 read_found bad h = absurd (false≢true h)
 

@@ -1,5 +1,5 @@
 -- What the readers find at a cell of an accepted file, and what the cell does. Assumes nothing.
-use Rattle.std.proofs.Common.{◌≡◌, ℕ, zero, suc, ◌+◌, ◌*◌, ◌<◌, ◌≤◌, Bool, true, false, cond, not, ◌&&◌, eqb, List, length, get_or, set, sym, refl, ap, ◌∙◌, ap₂, arith}
+use Rattle.std.proofs.Common.{◌≡◌, ℕ, zero, suc, ◌+◌, ◌*◌, ◌<◌, ◌≤◌, Bool, true, false, cond, not, ◌&&◌, eqb, List, length, get_or, set, sym, refl, ap, ◌∙◌, ap₂, arith, ne_eqb}
 use Rattle.design.specs.Tree.{Stmts, Cell, Design, cell, raise, truth}
 use Rattle.design.specs.Limits.{trailer_bytes, max_bytes, max_variables, max_matrices, max_events, max_depth, max_nest}
 use Rattle.design.specs.State.{State, Layout, layout_of}
@@ -99,39 +99,20 @@ module _ (file events' : List ℕ) (h : Shape) (slots : State) (ready : ReadySta
     abbrev Answer : State → Tested → Type 0
     Answer s' r = (s' ≡ move l slots (cell c)) × (r ≡ tested_of l slots (cell c))
 
-    -- what the three tests say is what comes of testing the cell
-    tested : (t e g : Bool) → t ≡ status_stands l slots c.matrix c.status → e ≡ eval_bool l slots c.event → g ≡ eval_bool l slots c.guard
-        → (s' : State) → s' ≡ cond ((t && e) && g) (effect l slots (cell c)) slots → Answer s' (record { event = t; guard = t && e; idle = not ((t && e) && g) })
+    -- what the three tests say, each made where the one before it is true, is what comes of testing the cell
+    pub tested : (t b e : Bool) → t ≡ status_stands l slots (c_matrix file p) (c_status file p) → BothAre p b → e ≡ (b && eval_bool l slots c.guard)
+        → (s' : State) → s' ≡ cond e (effect l slots (cell c)) slots → Answer s' (record { event = t; guard = b; idle = not e })
     unfolding enabled move event_read_of guard_read_of
-    tested t e g i j k s' q =
-        let both : t && e ≡ status_and_event l slots c.matrix c.status c.event = ap₂ (λ (x y : Bool). x && y) i j in
-        let all : (t && e) && g ≡ enabled l slots (cell c) = ap₂ (λ (x y : Bool). x && y) both k in (
-          q ∙ ap (λ (b : Bool). cond b (effect l slots (cell c)) slots) all,
-          ap (λ (b : Bool). record { event = b; guard = t && e; idle = not ((t && e) && g) }) i
-              ∙ ap₂ (λ (x y : Bool). record { event = status_stands l slots c.matrix c.status; guard = x; idle = not y }) both all,
+    tested t b e i j k s' q =
+        let stands : t ≡ status_stands l slots c.matrix c.status = i ∙ ap₂ (λ (x y : ℕ). status_stands l slots x y) (sym is.matrix) (sym is.status) in
+        let both : b ≡ status_and_event l slots c.matrix c.status c.event = j x.tree x.parts
+        ∙ ap₂ (λ (i j : ℕ). status_and_event l slots i j (event_in x.parts.rows (c_matrix file p) (c_event file p))) (sym is.matrix) (sym is.status)
+        ∙ ap (status_and_event l slots c.matrix c.status) (sym is.event) in
+        let all : e ≡ enabled l slots (cell c) = k ∙ ap (λ (y : Bool). y && eval_bool l slots c.guard) both in (
+          q ∙ ap (λ (y : Bool). cond y (effect l slots (cell c)) slots) all,
+          ap (λ (y : Bool). record { event = y; guard = b; idle = not e }) stands
+              ∙ ap₂ (λ (y z : Bool). record { event = status_stands l slots c.matrix c.status; guard = y; idle = not z }) both all,
         )
-
-    -- the status and the event that the cell has in the tree
-    module _ (t : Bool) (k : t ≡ status_stands l slots (c_matrix file p) (c_status file p)) where
-      stands : (b : Bool) → t ≡ b → b ≡ status_stands l slots c.matrix c.status
-      stands b e = sym e ∙ k ∙ ap₂ (λ (x y : ℕ). status_stands l slots x y) (sym is.matrix) (sym is.status)
-
-      pub status_fails : t ≡ false → Answer slots (record { event = false; guard = false; idle = true })
-      status_fails f = tested false _ _ (stands false f) refl refl slots refl
-
-      module _ (f : t ≡ true) (e : Bool) (j : EventIs p e) where
-        happens : (b : Bool) → e ≡ b → b ≡ eval_bool l slots c.event
-        happens b q = sym q ∙ j x.tree x.parts ∙ ap (eval_bool l slots) (sym is.event)
-
-        pub event_fails : e ≡ false → Answer slots (record { event = true; guard = false; idle = true })
-        event_fails q = tested true false _ (stands true f) (happens false q) refl slots refl
-
-        module _ (q : e ≡ true) (g : Bool) (y : g ≡ eval_bool l slots c.guard) where
-          pub guard_fails : g ≡ false → Answer slots (record { event = true; guard = true; idle = true })
-          guard_fails z = tested true true false (stands true f) (happens true q) (sym z ∙ y) slots refl
-
-          pub cell_moves : g ≡ true → (s' : State) → s' ≡ effect l slots (cell c) → Answer s' (record { event = true; guard = true; idle = false })
-          cell_moves z s' u = tested true true true (stands true f) (happens true q) (sym z ∙ y) s' u
 
     pub acted : (m n : ℕ) → m ≡ c_middle file p → n ≡ c_past file p → (s : State) → s ≡ after_list l (list file N n max_nest m) slots
         → (i v : ℕ) → i ≡ c_matrix file p → v ≡ c_target file p → set s (nv + i) v ≡ effect l slots (cell c)
@@ -141,23 +122,22 @@ module _ (file events' : List ℕ) (h : Shape) (slots : State) (ready : ReadySta
         ap (λ (t : State). set t (nv + i) v) ran
         ∙ ap₂ (λ (k : ℕ) (t : ℕ). set (execute_all c.action l slots) (nv + k) t) (y ∙ sym is.matrix) (z ∙ sym is.target)
 
--- an external
-nonzero : (n : ℕ) → 0 < n → truth n ≡ true
-nonzero zero h = absurd (omega arith)
-nonzero (suc n) h = refl
+-- a test made where the one before it is true
+pub and_made : (a b c : Bool) → a ≡ true → b ≡ c → b ≡ (a && c)
+and_made a b c e q = q ∙ ap (λ (t : Bool). t && c) (sym e)
 
-nothing : (n : ℕ) → n ≤ 0 → truth n ≡ false
-nothing zero h = refl
-nothing (suc n) h = absurd (omega arith)
+pub and_left : (a b c : Bool) → a ≡ false → b ≡ a → b ≡ (a && c)
+and_left a b c e q = q ∙ e ∙ ap (λ (t : Bool). t && c) (sym e)
+
+-- an external
+zero_false : (n : ℕ) → eqb n 0 ≡ not (truth n)
+zero_false zero = refl
+zero_false (suc n) = ne_eqb (suc n) 0 (λ e. omega arith)
 
 abbrev external : Bool → Tested
 external idle = record { event = false; guard = false; idle = idle }
 
 module _ (y : Layout) (s : State) (v : ℕ) where
-  pub raised_idle : 0 < get_or s v 0 → (s ≡ move y s (raise v)) × (external true ≡ tested_of y s (raise v))
-  unfolding move enabled event_read_of guard_read_of
-  raised_idle h = let e = nonzero (get_or s v 0) h in (ap (λ (t : Bool). cond (not t) (effect y s (raise v)) s) (sym e), ap (λ (t : Bool). external (not (not t))) (sym e))
-
-  pub raised : get_or s v 0 ≤ 0 → (set s v 1 ≡ move y s (raise v)) × (external false ≡ tested_of y s (raise v))
+  pub raised : (s' : State) → s' ≡ cond (eqb (get_or s v 0) 0) (set s v 1) s → (s' ≡ move y s (raise v)) × (external (not (eqb (get_or s v 0) 0)) ≡ tested_of y s (raise v))
   unfolding move enabled effect event_read_of guard_read_of
-  raised h = let e = nothing (get_or s v 0) h in (ap (λ (t : Bool). cond (not t) (set s v 1) s) (sym e), ap (λ (t : Bool). external (not (not t))) (sym e))
+  raised s' q = let e = zero_false (get_or s v 0) in (q ∙ ap (λ (t : Bool). cond t (set s v 1) s) e, ap (λ (t : Bool). external (not t)) e)

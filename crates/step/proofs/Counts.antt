@@ -1,5 +1,6 @@
 -- REPLAY's counts of events and guards read, on the run. Assumes nothing.
-use Rattle.std.proofs.Common.{◌≡◌, ℕ, ◌+◌, ◌≤◌, Bool, true, false, ◌&&◌, List, [], ◌∷◌, ◌++◌, length, arith}
+use Rattle.std.proofs.Common.{◌≡◌, ℕ, ◌+◌, ◌≤◌, Bool, true, false, ◌&&◌, List, [], ◌∷◌, ◌++◌, length, refl, arith}
+use mir.Val.{bool_byte}
 use mathlib.Core.Option.{Option, none, some}
 use lib.ListN.{get_elem?}
 use Rattle.design.specs.Tree.{Design, Mover, cell, raise, movers, bit}
@@ -11,6 +12,11 @@ use Rattle.step.specs.StatusEventGuard.{event_read_of, guard_read_of, of_named, 
 pub bit_most : (b : Bool) → bit b ≤ 1
 bit_most true = omega arith
 bit_most false = omega arith
+
+-- as the library counts a truth value
+pub bit_from : (b : Bool) → bool_byte b ≡ bit b
+bit_from true = refl
+bit_from false = refl
 
 and_within : (a b : Bool) → bit (a && b) ≤ bit a
 and_within true b = bit_most b

@@ -1,22 +1,24 @@
 -- The entries of the calls: their tests, and the loops over them. Assumes nothing.
-use Rattle.std.proofs.Common.{◌≡◌, ℕ, zero, suc, ◌+◌, ◌-◌, ◌*◌, ◌<◌, ◌≤◌, Bool, true, false, cond, ◌&&◌, eqb, ltb, leb, List, [], ◌∷◌, ◌++◌, map, length, get_or, take, drop, set, replicate, sym, refl, ap, ◌∙◌, ap₂, add-one, arith, length-drop, get_or-drop, take_all, ltb-false, ltb-true, le-ltb, lt-ltb, ne_eqb, le-leb}
+use Rattle.std.proofs.Common.{◌≡◌, ℕ, zero, suc, ◌+◌, ◌-◌, ◌*◌, ◌<◌, ◌≤◌, Bool, true, false, cond, ◌&&◌, eqb, ltb, leb, List, [], ◌∷◌, ◌++◌, map, length, get_or, take, drop, set, replicate, sym, refl, ap, ◌∙◌, ap₂, add-one, arith, length-append, length-drop, get_or-drop, take_all, ltb-false, ltb-true, le-ltb, lt-ltb, ne_eqb, le-leb}
 use lib.ListN.{length-map, length-replicate, get_or-map}
 use lib.Seq.{paste, paste-zero, paste-suc, length-paste}
 use borrow.Author.Tests.{lt-leb}
 use Rattle.design.specs.Tree.{Kind, boolean, Variable, Design}
 use Rattle.design.specs.DesignFile.{Item, item, need, Matrix, kind, at8, matrix_at}
-use Rattle.design.specs.Limits.{max_statuses, max_events, max_variables, max_matrices, max_slots}
+use Rattle.design.specs.Limits.{max_statuses, max_events, max_variables, max_matrices}
 use Rattle.design.specs.Check.{check, accepted, items_end, variable_count, matrix_count, matrices_offset}
 use Rattle.design.specs.Places.{Accepted}
 use Rattle.design.specs.Sections.{Parts}
 use Rattle.design.proofs.Sections.{whole, need_inv, item_same}
 use Rattle.design.proofs.Positions.{variable_stands, matrix_stands}
 use Rattle.design.proofs.Places.{read, matrix_inside}
-use Rattle.step.specs.Interface.{right_kind, values_right, statuses_right, first_wrong}
+use Rattle.std.specs.Prelude.{Some, None}
+use Rattle.std.specs.Bool.{then_some}
+use Rattle.step.specs.Interface.{right_kind, values_right, statuses_right, first_wrong, wrong_at}
 use Rattle.step.specs.Entries.{value_right, status_right, tests_of}
 use Rattle.step.specs.declared.interface.Entries.{Entries}
 use Rattle.design.proofs.Widths.{variable_is, matrix_count_lem}
-use Rattle.step.proofs.Looking.{Looking, looking_start, looking_wrong, looking_right, looking_end}
+use Rattle.step.proofs.Looking.{Looking, wrong_is, right_is, wrong_here, right_here, looking_start, looking_wrong, looking_right, looking_end}
 use Rattle.step.proofs.Replays.{drop_replicate}
 
 pub values_length : (xs : List Variable) (ps : List ℕ) → length (values_right xs ps) ≡ length ps
@@ -123,13 +125,13 @@ module _ (file : List ℕ) (nv : ℕ) (e : nv ≡ variable_count file) (ps : Lis
   values_start = record { of = λ d c. looking_start (values_right d.variables ps) }
 
   module _ (i : ℕ) (g : ValuesAt i) (l : i < max_variables) (r : Bool) (h : r ≡ value_right file nv i (get_or ps i 0)) where
-    pub values_wrong : r ≡ false → (d : Design) → check file ≡ accepted d → i ≡ first_wrong (values_right d.variables ps)
+    pub values_wrong : r ≡ false → (d : Design) → check file ≡ accepted d → Some i ≡ wrong_at (values_right d.variables ps)
     values_wrong f d c = looking_wrong (values_right d.variables ps) i true (g.of d c) (omega (arith, values_length d.variables ps)) (value_at_lem file d c nv e ps i (omega arith) true ∙ sym h ∙ f)
 
     pub values_right_lem : r ≡ true → ValuesAt (i + 1)
     values_right_lem t = record { of = λ d c. looking_right (values_right d.variables ps) i true (g.of d c) (omega (arith, values_length d.variables ps)) (value_at_lem file d c nv e ps i (omega arith) true ∙ sym h ∙ t) }
 
-  pub values_end : (i : ℕ) → max_variables ≤ i → ValuesAt i → (d : Design) → check file ≡ accepted d → i ≡ first_wrong (values_right d.variables ps)
+  pub values_end : (i : ℕ) → max_variables ≤ i → ValuesAt i → (d : Design) → check file ≡ accepted d → None ≡ wrong_at (values_right d.variables ps)
   values_end i l g d c = looking_end (values_right d.variables ps) i (omega (arith, values_length d.variables ps)) (g.of d c)
 
 module _ (file : List ℕ) (mats nm : ℕ) (q : mats ≡ matrices_offset file) (e : nm ≡ matrix_count file) (ss : List ℕ) (n : length ss ≡ max_matrices) where
@@ -140,27 +142,40 @@ module _ (file : List ℕ) (mats nm : ℕ) (q : mats ≡ matrices_offset file) (
   statuses_start = record { of = λ d c. looking_start (statuses_right d.statuses ss) }
 
   module _ (i : ℕ) (g : StatusesAt i) (l : i < max_matrices) (r : Bool) (h : r ≡ status_right file mats nm i (get_or ss i 0)) where
-    pub statuses_wrong : r ≡ false → (d : Design) → check file ≡ accepted d → i ≡ first_wrong (statuses_right d.statuses ss)
+    pub statuses_wrong : r ≡ false → (d : Design) → check file ≡ accepted d → Some i ≡ wrong_at (statuses_right d.statuses ss)
     statuses_wrong f d c = looking_wrong (statuses_right d.statuses ss) i true (g.of d c) (omega (arith, statuses_length d.statuses ss)) (status_at file d c mats nm q e ss i (omega arith) true ∙ sym h ∙ f)
 
     pub statuses_right_lem : r ≡ true → StatusesAt (i + 1)
     statuses_right_lem t = record { of = λ d c. looking_right (statuses_right d.statuses ss) i true (g.of d c) (omega (arith, statuses_length d.statuses ss)) (status_at file d c mats nm q e ss i (omega arith) true ∙ sym h ∙ t) }
 
-  pub statuses_end : (i : ℕ) → max_matrices ≤ i → StatusesAt i → (d : Design) → check file ≡ accepted d → i ≡ first_wrong (statuses_right d.statuses ss)
+  pub statuses_end : (i : ℕ) → max_matrices ≤ i → StatusesAt i → (d : Design) → check file ≡ accepted d → None ≡ wrong_at (statuses_right d.statuses ss)
   statuses_end i l g d c = looking_end (statuses_right d.statuses ss) i (omega (arith, statuses_length d.statuses ss)) (g.of d c)
 
 -- the first wrong one of two lists
-pub first_of_two : (xs ys : List Bool) (i : ℕ) → i ≡ first_wrong xs → i < length xs → i ≡ first_wrong (xs ++ ys)
-first_of_two [] ys i e l = absurd (omega arith)
-first_of_two (false ∷ xs) ys i e l = e
-first_of_two (true ∷ xs) ys zero e l = absurd (omega arith)
-first_of_two (true ∷ xs) ys (suc i) e l = ap suc (first_of_two xs ys i (omega arith) (omega arith))
+first_of_two : (xs ys : List Bool) → first_wrong xs < length xs → first_wrong (xs ++ ys) ≡ first_wrong xs
+first_of_two [] ys l = absurd (omega arith)
+first_of_two (false ∷ xs) ys l = refl
+first_of_two (true ∷ xs) ys l = ap suc (first_of_two xs ys (omega arith))
 
-pub second_of_two : (xs ys : List Bool) (m n : ℕ) → length xs ≤ first_wrong xs → n ≡ length xs → m ≡ first_wrong ys → n + m ≡ first_wrong (xs ++ ys)
-second_of_two [] ys m n l e h = omega arith
-second_of_two (false ∷ xs) ys m n l e h = absurd (omega arith)
-second_of_two (true ∷ xs) ys m zero l e h = absurd (omega arith)
-second_of_two (true ∷ xs) ys m (suc n) l e h = (let z : suc n + m ≡ suc (n + m) = omega arith in z) ∙ ap suc (second_of_two xs ys m n (omega arith) (omega arith) h)
+second_of_two : (xs ys : List Bool) → length xs ≤ first_wrong xs → first_wrong (xs ++ ys) ≡ length xs + first_wrong ys
+second_of_two [] ys l = omega arith
+second_of_two (false ∷ xs) ys l = absurd (omega arith)
+second_of_two (true ∷ xs) ys l = omega (arith, second_of_two xs ys (omega arith))
+
+module _ (xs ys : List Bool) where
+  wrong_in_first : (i : ℕ) → Some i ≡ wrong_at xs → Some i ≡ wrong_at (xs ++ ys)
+  wrong_in_first i e =
+      let (q, l) = wrong_here xs i e in
+      wrong_is (xs ++ ys) i (omega (arith, first_of_two xs ys (omega arith))) (omega (arith, length-append xs ys))
+
+  module _ (e : None ≡ wrong_at xs) where
+    wrong_in_second : (n i : ℕ) → n ≡ length xs → Some i ≡ wrong_at ys → Some (n + i) ≡ wrong_at (xs ++ ys)
+    wrong_in_second n i m f =
+        let (q, l) = wrong_here ys i f in
+        wrong_is (xs ++ ys) (n + i) (omega (arith, second_of_two xs ys (right_here xs e))) (omega (arith, length-append xs ys))
+
+    right_in_both : None ≡ wrong_at ys → None ≡ wrong_at (xs ++ ys)
+    right_in_both f = right_is (xs ++ ys) (omega (arith, second_of_two xs ys (right_here xs e), right_here ys f, length-append xs ys))
 
 -- a loop that copies
 pub record Copying {A : Type 0} (dst : List A) (at : ℕ) (src : List A) (i : ℕ) (now : List A) : Type 0 where
@@ -214,21 +229,22 @@ module _ (d : Design) (e : Entries) (n : length e.patterns ≡ max_variables) (k
   abbrev mt : List Bool
   mt = leb e.mark 1 ∷ []
 
-  pub first_entry : (i : ℕ) → i ≡ first_wrong vt → i < max_variables → i ≡ first_wrong (tests_of d e)
-  first_entry i h l = first_of_two vt (st ++ mt) i h (omega (arith, values_length d.variables e.patterns))
+  pub first_entry : (i : ℕ) → Some i ≡ wrong_at vt → Some i ≡ wrong_at (tests_of d e)
+  first_entry i h = wrong_in_first vt (st ++ mt) i h
 
-  module _ (i m : ℕ) (h : i ≡ first_wrong vt) (l : max_variables ≤ i) (q : m ≡ first_wrong st) where
-    behind_values : (j : ℕ) → j ≡ first_wrong (st ++ mt) → max_variables + j ≡ first_wrong (tests_of d e)
-    behind_values j z = let x = values_length d.variables e.patterns in second_of_two vt (st ++ mt) j max_variables (omega arith) (omega arith) z
+  pub status_within : (m : ℕ) → Some m ≡ wrong_at st → m < max_matrices
+  status_within m q = let (x, l) = wrong_here st m q in omega (arith, statuses_length d.statuses e.statuses)
 
-    pub status_entry : m < max_matrices → max_variables + m ≡ first_wrong (tests_of d e)
-    status_entry o = behind_values m (first_of_two st mt m q (omega (arith, statuses_length d.statuses e.statuses)))
+  module _ (h : None ≡ wrong_at vt) where
+    pub status_entry : (m : ℕ) → Some m ≡ wrong_at st → Some (max_variables + m) ≡ wrong_at (tests_of d e)
+    status_entry m q = wrong_in_second vt (st ++ mt) h max_variables m (omega (arith, values_length d.variables e.patterns)) (wrong_in_first st mt m q)
 
-    behind_statuses : max_matrices ≤ m → (j : ℕ) → j ≡ first_wrong mt → max_variables + (max_matrices + j) ≡ first_wrong (tests_of d e)
-    behind_statuses o j z = let x = statuses_length d.statuses e.statuses in behind_values (max_matrices + j) (second_of_two st mt j max_matrices (omega arith) (omega arith) z)
-
-    pub mark_entry : max_matrices ≤ m → 1 < e.mark → max_variables + max_matrices ≡ first_wrong (tests_of d e)
-    mark_entry o z = omega (arith, behind_statuses o 0 (sym (ap (λ (t : Bool). first_wrong (t ∷ [])) (lt-leb e.mark 1 z))))
-
-    pub no_entry : max_matrices ≤ m → e.mark ≤ 1 → max_slots ≡ first_wrong (tests_of d e)
-    no_entry o z = omega (arith, behind_statuses o 1 (sym (ap (λ (t : Bool). first_wrong (t ∷ [])) (le-leb e.mark 1 z))))
+    -- the mark is judged where all before it are right
+    pub mark_entry : None ≡ wrong_at st → then_some (ltb 1 e.mark) (max_variables + max_matrices) ≡ wrong_at (tests_of d e)
+    mark_entry q = go (ltb 1 e.mark) refl
+      where
+        go : (t : Bool) → ltb 1 e.mark ≡ t → then_some t (max_variables + max_matrices) ≡ wrong_at (tests_of d e)
+        go true z =
+            wrong_in_second vt (st ++ mt) h max_variables max_matrices (omega (arith, values_length d.variables e.patterns))
+            (wrong_in_second st mt q max_matrices 0 (omega (arith, statuses_length d.statuses e.statuses)) (sym (ap (λ (b : Bool). wrong_at (b ∷ [])) (lt-leb e.mark 1 (ltb-true 1 e.mark z)))))
+        go false z = right_in_both vt (st ++ mt) h (right_in_both st mt q (sym (ap (λ (b : Bool). wrong_at (b ∷ [])) (le-leb e.mark 1 (ltb-false 1 e.mark z)))))

@@ -5,7 +5,8 @@ use Rattle.design.specs.Tree.{Design}
 use Rattle.design.specs.Check.{Checked, check, refusal}
 use Rattle.design.specs.Answer.{Answer, refused, answer, need, of_checked, on_design}
 use Rattle.design.specs.Places.{Accepted}
-use Rattle.design.specs.declared.Refusal.{Refusal}
+use Rattle.design.specs.Refusal.{Refusal, number_of, place_of, refusal_of as refusal_of_refused}
+use Rattle.design.specs.declared.refusal.Refused.{Refused}
 use Rattle.design.proofs.Places.{read}
 use Rattle.step.specs.Limits.{last_property, max_bound}
 use Rattle.step.specs.Piece.{piece_right}
@@ -41,6 +42,14 @@ module _ {A : Type 0} (file : List ℕ) (call : Design → Answer A) where
   pub on_accepted : (h : Accepted file) → on_design file call ≡ call (read file h).tree
   unfolding on_design
   on_accepted h = ap (λ (x : Checked). of_checked x call) (read file h).is
+
+-- the numbers of the documents begin at 1
+pub some_number : (e : Refused) → number_of e ≡ 0 → ⊥
+some_number e q = grind arith
+
+-- what CHECK refuses, a call on the design refuses
+pub check_handed : {A : Type 0} (file : List ℕ) (call : Design → Answer A) (e : Refused) → refusal_of_refused e ≡ refusal (check file) → refused (number_of e) (place_of e) ≡ on_design file call
+check_handed file call e q = sym (on_refused file call (refusal_of_refused e) q (some_number e))
 
 -- a call that the gate lets pass
 pub record Passed (file piece : List ℕ) (p k : ℕ) : Type 0 where

@@ -1,5 +1,5 @@
 -- Sums, differences, products and the order of patterns are the wrapped ones of the signed numbers that they stand for. Assumes nothing.
-use Rattle.std.proofs.Common.{◌≡◌, ℕ, zero, suc, ◌+◌, ◌-◌, ◌*◌, ◌%◌, ◌<◌, ◌≤◌, Bool, true, false, cond, ltb, ◌⊎◌, ℤ, pos, negsuc, ◌+ℤ◌, ◌-ℤ◌, ◌*ℤ◌, neg_ℤ, sym, refl, ap, ◌∙◌, ap₂, inl, inr, ⊎_elim, mul_comm, add-mul, mul-le-mul, mul-add, arith, ltb-false, ltb-true, le-ltb, lt-ltb}
+use Rattle.std.proofs.Common.{◌≡◌, ℕ, zero, suc, ◌+◌, ◌-◌, ◌*◌, ◌%◌, ◌<◌, ◌≤◌, Bool, true, false, cond, ltb, ◌⊎◌, ℤ, pos, negsuc, ◌+ℤ◌, ◌-ℤ◌, ◌*ℤ◌, neg_ℤ, sym, refl, ap, ◌∙◌, ap₂, inl, inr, ⊎_elim, mul_comm, add-mul, mul-add, arith, ltb-false, ltb-true, le-ltb, lt-ltb}
 use lib.IntN.{sub_ℕ}
 use lib.Signed.{lt_z}
 use Rattle.step.specs.Pattern.{plus, minus, times, below, signed, wrap}
@@ -119,7 +119,3 @@ module _ (a b : ℕ) (h : a < 65536) (k : b < 65536) where
 pub wrap_signed : (p : ℕ) → p < 65536 → wrap (signed p) ≡ p
 unfolding wrap
 wrap_signed p h = ⊎_elim (λ x. ap wrap x.is ∙ (let u = x.under in let z : p % 65536 ≡ p = omega arith in z)) (λ x. ap wrap x.is ∙ (let o = x.over in let z : (65536 - suc (65535 - p) % 65536) % 65536 ≡ p = omega arith in z)) (half p h)
-
--- two patterns' product, before it is wrapped, fits 64 bits
-pub times_small : (a b : ℕ) → a < 65536 → b < 65536 → a * b ≤ 65535 * 65535
-times_small a b h k = mul-le-mul (let z : a ≤ 65535 = omega arith in z) (let z : b ≤ 65535 = omega arith in z)

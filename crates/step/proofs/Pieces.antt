@@ -11,7 +11,8 @@ use Rattle.design.specs.Check.{names, names_of, trailer_counts, invariant_offset
 use Rattle.design.specs.Answers.{found, shape_of}
 use Rattle.design.specs.Places.{Accepted, Shaped}
 use Rattle.design.specs.Sections.{Parts}
-use Rattle.design.specs.declared.expression.Found.TheVariants.{At, Bad}
+use Rattle.std.specs.Prelude.{Option, Some}
+use Rattle.std.specs.Option.{option_eq}
 use Rattle.design.specs.declared.shape.Shape.{Shape}
 use Rattle.design.proofs.Sections.{and_inv}
 use Rattle.design.proofs.Moved.{bool_in_part}
@@ -28,13 +29,9 @@ filled : (bytes : ℕ) (r : Read BoolExpr) → fills bytes r ≡ true → r ≡ 
 filled bytes (got e n) t = ap (got e) (eqb-true n bytes t)
 filled bytes bad t = absurd (false≢true t)
 
-fills_found : (bytes n : ℕ) (r : Read BoolExpr) → At n ≡ found r → eqb n bytes ≡ fills bytes r
-fills_found bytes n (got e m) q = ap (λ (j : ℕ). eqb j bytes) (let z : n ≡ m = cc in z)
-fills_found bytes n bad q = let z : ◌≡◌ {A = ℕ} 0 1 = cc in absurd (omega arith)
-
-fills_bad : (bytes : ℕ) (r : Read BoolExpr) → Bad ≡ found r → false ≡ fills bytes r
-fills_bad bytes (got e m) q = let z : ◌≡◌ {A = ℕ} 0 1 = cc in absurd (omega arith)
-fills_bad bytes bad q = refl
+fills_found : (bytes : ℕ) (r : Read BoolExpr) → option_eq eqb (found r) (Some bytes) ≡ fills bytes r
+fills_found bytes (got e n) = refl
+fills_found bytes bad = refl
 
 -- the tests of the code, in order
 module _ (file piece : List ℕ) (p : ℕ) where
@@ -76,11 +73,8 @@ module _ (file piece : List ℕ) (p : ℕ) where
         same : found (bool_expr piece (with_later false (names_of file h)) (length piece) max_depth 0) ≡ found (piece_read file piece)
         same = ap (λ (x : Shape). found (bool_expr piece (with_later false (names_of file x)) (length piece) max_depth 0)) e
 
-        pub piece_found : (n : ℕ) → At n ≡ found (bool_expr piece (with_later false (names_of file h)) (length piece) max_depth 0) → eqb n (length piece) ≡ piece_right file piece p
-        piece_found n q = fills_found (length piece) n (piece_read file piece) (q ∙ same) ∙ sym here
-
-        pub piece_bad : Bad ≡ found (bool_expr piece (with_later false (names_of file h)) (length piece) max_depth 0) → false ≡ piece_right file piece p
-        piece_bad q = fills_bad (length piece) (piece_read file piece) (q ∙ same) ∙ sym here
+        pub piece_found : (o : Option ℕ) → o ≡ found (bool_expr piece (with_later false (names_of file h)) (length piece) max_depth 0) → option_eq eqb o (Some (length piece)) ≡ piece_right file piece p
+        piece_found o q = ap (λ (x : Option ℕ). option_eq eqb x (Some (length piece))) (q ∙ same) ∙ fills_found (length piece) (piece_read file piece) ∙ sym here
 
 -- the piece that has no bytes is right
 pub no_piece_right : (file : List ℕ) (p : ℕ) → piece_right file no_piece p ≡ true

@@ -1,24 +1,24 @@
 -- The loops of a replay: the first state is loaded, and each choice acts on what the one before it left. Assumes nothing.
-use Rattle.std.proofs.Common.{◌≡◌, ℕ, zero, suc, ◌+◌, ◌*◌, ◌<◌, ◌≤◌, Bool, true, false, cond, not, ◌&&◌, ◌||◌, eqb, ltb, leb, List, [], ◌∷◌, ◌++◌, map, length, get_or, take, drop, set, replicate, sym, refl, ap, ◌∙◌, subst, ap₂, add-one, arith, length-set, drop_of_length-le, take_all, drop-cons, take_at, drop_at, ne_eqb}
-use mathlib.Core.Bool.{false≢true}
+use Rattle.std.proofs.Common.{◌≡◌, ℕ, zero, suc, ◌+◌, ◌*◌, ◌<◌, ◌≤◌, Bool, true, false, cond, ◌&&◌, ◌||◌, eqb, ltb, leb, List, [], ◌∷◌, ◌++◌, map, length, get_or, take, drop, set, replicate, sym, refl, ap, ◌∙◌, subst, ap₂, add-one, arith, length-set, drop_of_length-le, take_all, drop-cons, take_at, drop_at, ne_eqb}
 use mathlib.Core.Option.{Option, none, some}
+use Rattle.std.specs.Prelude.{Option as Maybe, Some, None, is_some}
+use Rattle.step.specs.declared.Replayed.{Replayed}
 use lib.ListN.{length-map, length-replicate, get_or-map}
 use lib.Seq.{paste, paste-zero, paste-suc}
 use Rattle.design.specs.Tree.{Variable, boolean, Design, bit}
 use Rattle.design.specs.State.{State, start}
 use Rattle.design.specs.DesignFile.{Item, item, need, kind, at8, at16, variable_at}
 use Rattle.design.specs.Check.{check, accepted, items_end, variable_count, matrix_count}
-use Rattle.design.specs.Answer.{answer}
 use Rattle.design.specs.Places.{Accepted}
 use Rattle.design.specs.Sections.{Parts}
 use Rattle.design.proofs.Sections.{whole, need_inv, item_same}
 use Rattle.design.proofs.Positions.{variable_stands}
 use Rattle.design.proofs.Places.{read}
-use Rattle.step.specs.Limits.{last_state_property, max_bound}
+use Rattle.step.specs.Limits.{last_state_property}
 use Rattle.step.specs.Property.{Property, property_of}
 use Rattle.step.specs.OneStep.{step, true_at}
 use Rattle.step.specs.StatusEventGuard.{event_read_by, guard_read_by, count_from}
-use Rattle.step.specs.Operations.{first_break, run_told, replay_told, replayed}
+use Rattle.step.specs.Operations.{first_break, break_told, run_told}
 use Rattle.step.specs.Ready.{ReadyState, ReadyPair, before_in, kept_in, Replayable, tested_by}
 use Rattle.step.specs.declared.mover.Tested.{Tested}
 use Rattle.step.specs.declared.replaying.Query.{Query}
@@ -126,85 +126,86 @@ counted_end d test s₀ cs now i k g l =
     let none : count_from d test now (drop i cs) ≡ 0 = ap (count_from d test now) (drop_of_length-le cs l) in
     omega (arith, g.same, none)
 
--- What the walk has in its variables by step i of the run from s₀, `before` and `now` being the states before and at i: whether the property broke, the step, and the counts.
+-- the first break: the one that the walk has, or the first of the rest
+abbrev break_or : Maybe ℕ → Option ℕ → Option ℕ
+break_or (Some at) rest = some at
+break_or None rest = rest
+
+-- What the walk has in its variables by step i of the run from s₀, `before` and `now` being the states before and at i: the first break, if there was one, and the counts.
 -- The run's first break is the one that it has, or the first from i on.
-pub record SoFar (d : Design) (q : Property) (s₀ : State) (cs : List ℕ) (before : Option State) (now : State) (i : ℕ) (broken : Bool) (at e k : ℕ) : Type 0 where
-  pub breaks : first_break d q none s₀ cs 0 ≡ cond broken (some at) (first_break d q before now (drop i cs) i)
-  pub unbroken : broken ≡ false → at ≡ 0
+pub record SoFar (d : Design) (q : Property) (s₀ : State) (cs : List ℕ) (before : Option State) (now : State) (i : ℕ) (broken : Maybe ℕ) (e k : ℕ) : Type 0 where
+  pub breaks : first_break d q none s₀ cs 0 ≡ break_or broken (first_break d q before now (drop i cs) i)
   pub events : Counted d (event_read_by d) s₀ cs now i e
   pub guards : Counted d (guard_read_by d) s₀ cs now i k
 
--- the first two with step i judged
-module _ (was holds : Bool) (at i : ℕ) (broken : Bool) (at' : ℕ) (h : broken ≡ (was || not holds)) (f : at' ≡ cond was at (cond broken i at)) where
-  -- the first break is the one before, or, if the property is false now, it is now
-  first_judged : (rest : Option ℕ) → cond was (some at) (cond holds rest (some i)) ≡ cond broken (some at') rest
-  first_judged rest = go was holds ∙ sym (ap₂ (λ (b : Bool) (k : ℕ). cond b (some k) rest) h (f ∙ ap (λ (b : Bool). cond was at (cond b i at)) h))
-    where
-      go : (b t : Bool) → cond b (some at) (cond t rest (some i)) ≡ cond (b || not t) (some (cond b at (cond (b || not t) i at))) rest
-      go true t = refl
-      go false true = refl
-      go false false = refl
+-- with step i judged the first break is the one before, or, if the property is false now, it is now
+first_judged : (was : Maybe ℕ) (holds : Bool) (i : ℕ) (broken : Maybe ℕ) → broken ≡ cond (is_some was || holds) was (Some i) → (rest : Option ℕ) → break_or was (cond holds rest (some i)) ≡ break_or broken rest
+first_judged was holds i broken h rest = go was holds ∙ sym (ap (λ (b : Maybe ℕ). break_or b rest) h)
+  where
+    go : (b : Maybe ℕ) (t : Bool) → break_or b (cond t rest (some i)) ≡ break_or (cond (is_some b || t) b (Some i)) rest
+    go (Some at) t = refl
+    go None true = refl
+    go None false = refl
 
-  still_unbroken : (was ≡ false → at ≡ 0) → broken ≡ false → at' ≡ 0
-  still_unbroken u e = f ∙ ap (λ (b : Bool). cond was at (cond b i at)) e ∙ go was (sym h ∙ e) u
-    where
-      go : (b : Bool) → (b || not holds) ≡ false → (b ≡ false → at ≡ 0) → cond b at at ≡ 0
-      go true e u = absurd (false≢true (sym e))
-      go false e u = u refl
+-- what the walk has at the end is the run's first break
+told_is : (broken : Maybe ℕ) (o : Option ℕ) → o ≡ break_or broken none → broken ≡ break_told o
+told_is (Some at) o f = sym (ap break_told f)
+told_is None o f = sym (ap break_told f)
 
--- what the walk has at the end is what REPLAY answers
-told_is : (broken : Bool) (at events guards : ℕ) (o : Option ℕ) → (broken ≡ false → at ≡ 0) → o ≡ cond broken (some at) none → replay_told broken at events guards ≡ replayed (answer (o, events, guards))
-told_is true at events guards o u f = ap (λ (z : Option ℕ). replayed (answer (z, events, guards))) (sym f)
-told_is false at events guards o u f = ap (λ (k : ℕ). replay_told false k events guards) (u refl) ∙ ap (λ (z : Option ℕ). replayed (answer (z, events, guards))) (sym f)
-
-module _ (d : Design) (q : Property) (s₀ : State) (cs : List ℕ) (before : Option State) (now : State) (i : ℕ) (was : Bool) (at events guards : ℕ) (g : SoFar d q s₀ cs before now i was at events guards)
-    (broken : Bool) (at' : ℕ) (h : broken ≡ (was || not (true_at d q before now))) (f : at' ≡ cond was at (cond broken i at)) where
+module _ (d : Design) (q : Property) (s₀ : State) (cs : List ℕ) (before : Option State) (now : State) (i : ℕ) (was : Maybe ℕ) (events guards : ℕ) (g : SoFar d q s₀ cs before now i was events guards)
+    (broken : Maybe ℕ) (h : broken ≡ cond (is_some was || true_at d q before now) was (Some i)) where
   abbrev holds : Bool
   holds = true_at d q before now
 
   -- a choice: the property is judged in the state that it acts on, and it is counted by what was read
-  so_far_on : i < length cs → SoFar d q s₀ cs (some now) (step d now (get_or cs i 0)) (suc i) broken at' (events + bit (event_read_by d now (get_or cs i 0))) (guards + bit (guard_read_by d now (get_or cs i 0)))
+  so_far_on : i < length cs → SoFar d q s₀ cs (some now) (step d now (get_or cs i 0)) (suc i) broken (events + bit (event_read_by d now (get_or cs i 0))) (guards + bit (guard_read_by d now (get_or cs i 0)))
   unfolding first_break
   so_far_on l = record {
-    breaks = g.breaks ∙ ap (λ (xs : List ℕ). cond was (some at) (first_break d q before now xs i)) (drop-cons cs i 0 l)
-        ∙ first_judged was holds at i broken at' h f (first_break d q (some now) (step d now (get_or cs i 0)) (drop (suc i) cs) (suc i));
-    unbroken = still_unbroken was holds at i broken at' h f g.unbroken;
+    breaks = g.breaks ∙ ap (λ (xs : List ℕ). break_or was (first_break d q before now xs i)) (drop-cons cs i 0 l)
+        ∙ first_judged was holds i broken h (first_break d q (some now) (step d now (get_or cs i 0)) (drop (suc i) cs) (suc i));
     events = counted_on d (event_read_by d) s₀ cs now i events g.events l;
     guards = counted_on d (guard_read_by d) s₀ cs now i guards g.guards l;
   }
 
-  so_far_end : length cs ≤ i → replay_told broken at' events guards ≡ replayed (answer (run_told d q s₀ cs))
+  so_far_end : length cs ≤ i → ◌≡◌ {A = Replayed} (record { broken = broken; events = events; guards = guards }) (run_told d q s₀ cs)
   unfolding first_break
   so_far_end l =
-      told_is broken at' events guards (first_break d q none s₀ cs 0) (still_unbroken was holds at i broken at' h f g.unbroken)
-      (g.breaks ∙ ap (λ (xs : List ℕ). cond was (some at) (first_break d q before now xs i)) (drop_of_length-le cs l) ∙ first_judged was holds at i broken at' h f none)
-      ∙ ap₂ (λ (e k : ℕ). replayed (answer (first_break d q none s₀ cs 0, e, k)))
+      ap (λ (b : Maybe ℕ). record { broken = b; events = events; guards = guards })
+      (told_is broken (first_break d q none s₀ cs 0) (g.breaks ∙ ap (λ (xs : List ℕ). break_or was (first_break d q before now xs i)) (drop_of_length-le cs l) ∙ first_judged was holds i broken h none))
+      ∙ ap₂ (λ (e k : ℕ). record { broken = break_told (first_break d q none s₀ cs 0); events = e; guards = k })
       (counted_end d (event_read_by d) s₀ cs now i events g.events l) (counted_end d (guard_read_by d) s₀ cs now i guards g.guards l)
 
 -- the loop: `pair` has the state before and the state now, of n slots each
-pub record Replaying (file piece : List ℕ) (p n : ℕ) (cs : List ℕ) (pair₀ : State) (i : ℕ) (pair : State) (broken : Bool) (at events guards : ℕ) : Type 0 where
+pub record Replaying (file piece : List ℕ) (p n : ℕ) (cs : List ℕ) (pair₀ : State) (i : ℕ) (pair : State) (broken : Maybe ℕ) (events guards : ℕ) : Type 0 where
   pub inside : i ≤ length cs
   pub size : length pair ≡ length pair₀
-  pub so_far : (d : Design) → check file ≡ accepted d → SoFar d (property_of file piece d p) (drop n pair₀) cs (before_in (eqb i 0) n pair) (drop n pair) i broken at events guards
+  pub so_far : (d : Design) → check file ≡ accepted d → SoFar d (property_of file piece d p) (drop n pair₀) cs (before_in (eqb i 0) n pair) (drop n pair) i broken events guards
 
-pub replaying_start : (file piece : List ℕ) (p n : ℕ) (cs : List ℕ) (pair : State) → Replaying file piece p n cs pair 0 pair false 0 0 0
+pub replaying_start : (file piece : List ℕ) (p n : ℕ) (cs : List ℕ) (pair : State) → Replaying file piece p n cs pair 0 pair None 0 0
 replaying_start file piece p n cs pair = record {
   inside = omega arith;
   size = refl;
-  so_far = λ d e. record { breaks = refl; unbroken = λ u. refl; events = record { same = omega arith; few = omega arith }; guards = record { same = omega arith; few = omega arith } };
+  so_far = λ d e. record { breaks = refl; events = record { same = omega arith; few = omega arith }; guards = record { same = omega arith; few = omega arith } };
 }
 
--- the counts stay below the bound while choices are left
-pub replaying_few : (file piece : List ℕ) (p n : ℕ) (cs : List ℕ) (pair₀ : State) (i : ℕ) (pair : State) (broken : Bool) (at events guards : ℕ) → Replaying file piece p n cs pair₀ i pair broken at events guards
-    → Accepted file → i < length cs → length cs ≤ max_bound → (events < max_bound) × (guards < max_bound)
-replaying_few file piece p n cs pair₀ i pair broken at events guards g a l b =
+-- the counts are no more than the choices so far
+pub replaying_few : (file piece : List ℕ) (p n : ℕ) (cs : List ℕ) (pair₀ : State) (i : ℕ) (pair : State) (broken : Maybe ℕ) (events guards : ℕ) → Replaying file piece p n cs pair₀ i pair broken events guards
+    → Accepted file → (events ≤ i) × (guards ≤ i)
+replaying_few file piece p n cs pair₀ i pair broken events guards g a =
     let t = read file a in
     let w = g.so_far t.tree t.is in
-    (omega (arith, w.events.few), omega (arith, w.guards.few))
+    (w.events.few, w.guards.few)
 
--- `broken` and `at'` are the walk's first two variables with step i judged
-module _ (file piece : List ℕ) (p n : ℕ) (cs : List ℕ) (pair₀ : State) (i : ℕ) (pair : State) (was : Bool) (at events guards : ℕ) (g : Replaying file piece p n cs pair₀ i pair was at events guards)
-    (broken : Bool) (at' : ℕ) (h : (d : Design) (w : Parts file d) → broken ≡ (was || not (true_at d (property_of file piece d p) (before_in (eqb i 0) n pair) (drop n pair)))) (f : at' ≡ cond was at (cond broken i at)) where
+-- past the last choice
+pub replaying_last : (file piece : List ℕ) (p n : ℕ) (cs : List ℕ) (pair₀ : State) (i : ℕ) (pair : State) (broken : Maybe ℕ) (events guards : ℕ) → Replaying file piece p n cs pair₀ i pair broken events guards
+    → length cs ≤ i → Replaying file piece p n cs pair₀ (length cs) pair broken events guards
+replaying_last file piece p n cs pair₀ i pair broken events guards g l =
+    let k = g.inside in
+    subst (λ (j : ℕ). Replaying file piece p n cs pair₀ j pair broken events guards) (let z : i ≡ length cs = omega arith in z) g
+
+-- `broken` is the walk's first break with step i judged
+module _ (file piece : List ℕ) (p n : ℕ) (cs : List ℕ) (pair₀ : State) (i : ℕ) (pair : State) (was : Maybe ℕ) (events guards : ℕ) (g : Replaying file piece p n cs pair₀ i pair was events guards)
+    (broken : Maybe ℕ) (h : (d : Design) (w : Parts file d) → broken ≡ cond (is_some was || true_at d (property_of file piece d p) (before_in (eqb i 0) n pair) (drop n pair)) was (Some i)) where
   abbrev now : State
   now = drop n pair
 
@@ -218,7 +219,7 @@ module _ (file piece : List ℕ) (p n : ℕ) (cs : List ℕ) (pair₀ : State) (
   pub replaying_on : i < length cs → length pair₀ ≡ n + n → (c : ℕ) → c ≡ get_or cs i 0 → (keep : Bool) → keep ≡ ltb last_state_property p
       → (pair' : State) (t : Tested) → length pair' ≡ length pair
       → ((d : Design) → check file ≡ accepted d → (pair' ≡ kept_in keep n pair ++ step d now c) × (t ≡ tested_by d now c))
-      → (e k : ℕ) → e ≡ events + bit t.event → k ≡ guards + bit t.guard → Replaying file piece p n cs pair₀ (i + 1) pair' broken at' e k
+      → (e k : ℕ) → e ≡ events + bit t.event → k ≡ guards + bit t.guard → Replaying file piece p n cs pair₀ (i + 1) pair' broken e k
   replaying_on l long c q keep kp pair' t m next e k u v = rw (add-one i) (record {
     inside = omega arith;
     size = m ∙ g.size;
@@ -233,23 +234,15 @@ module _ (file piece : List ℕ) (p n : ℕ) (cs : List ℕ) (pair₀ : State) (
         ∙ ap some (ap (take n) r.0 ∙ take_at (kept_in keep n pair) s n front) in
         let read : e ≡ events + bit (event_read_by d now c) = u ∙ ap (λ (x : Tested). events + bit x.event) r.1 in
         let guarded : k ≡ guards + bit (guard_read_by d now c) = v ∙ ap (λ (x : Tested). guards + bit x.guard) r.1 in
-        let w = subst (λ (j : ℕ). SoFar d q' s₀ cs (some now) (step d now j) (suc i) broken at' (events + bit (event_read_by d now j)) (guards + bit (guard_read_by d now j))) (sym q)
-        (so_far_on d q' s₀ cs (before_in (eqb i 0) n pair) now i was at events guards (g.so_far d a) broken at' (h d (whole file d a).parts) f l) in
+        let w = subst (λ (j : ℕ). SoFar d q' s₀ cs (some now) (step d now j) (suc i) broken (events + bit (event_read_by d now j)) (guards + bit (guard_read_by d now j))) (sym q)
+        (so_far_on d q' s₀ cs (before_in (eqb i 0) n pair) now i was events guards (g.so_far d a) broken (h d (whole file d a).parts) l) in
         rw first (rw second (rw read (rw guarded (record {
-          breaks = w.breaks ∙ ap (cond broken (some at')) (kept_break d keep kp s (drop (suc i) cs) (suc i));
-          unbroken = w.unbroken;
+          breaks = w.breaks ∙ ap (break_or broken) (kept_break d keep kp s (drop (suc i) cs) (suc i));
           events = w.events;
           guards = w.guards;
         }))));
   })
 
-  pub replaying_end : length cs ≤ i → (d : Design) → check file ≡ accepted d → replay_told broken at' events guards ≡ replayed (answer (run_told d (property_of file piece d p) (drop n pair₀) cs))
+  pub replaying_end : length cs ≤ i → (d : Design) → check file ≡ accepted d → ◌≡◌ {A = Replayed} (record { broken = broken; events = events; guards = guards }) (run_told d (property_of file piece d p) (drop n pair₀) cs)
   replaying_end l d e =
-      so_far_end d (property_of file piece d p) (drop n pair₀) cs (before_in (eqb i 0) n pair) now i was at events guards (g.so_far d e) broken at' (h d (whole file d e).parts) f l
-
--- a step is broken because one before it was, or because the property is false there
-pub broken_before : (was now : Bool) → was ≡ true → true ≡ (was || now)
-broken_before was now e = sym (ap (λ (b : Bool). b || now) e)
-
-pub broken_now : (was holds r : Bool) → was ≡ false → r ≡ holds → not r ≡ (was || not holds)
-broken_now was holds r e f = ap not f ∙ sym (ap (λ (b : Bool). b || not holds) e)
+      so_far_end d (property_of file piece d p) (drop n pair₀) cs (before_in (eqb i 0) n pair) now i was events guards (g.so_far d e) broken (h d (whole file d e).parts) l

@@ -9,7 +9,9 @@ use Rattle.design.specs.Reading.{Read, got, bad, bind}
 use Rattle.design.specs.Expression.{Names, int_expr, bool_expr}
 use Rattle.design.specs.Action.{stmt_op, assignment, statements, list_of, statement, list}
 use Rattle.design.specs.Answers.{found}
-use Rattle.design.specs.declared.expression.Found.TheVariants.{At, Bad}
+use Rattle.std.specs.Prelude.{None}
+use Rattle.std.specs.Option.{unwrap_or}
+use Rattle.std.proofs.lemmas.Option.{none-some}
 use Rattle.design.proofs.Readers.{stmt_none}
 use Rattle.design.proofs.Forward.{list_on, stmt_on}
 use Rattle.step.specs.Evaluation.{eval_int, eval_bool, passes_int, passes_bool}
@@ -17,13 +19,9 @@ use Rattle.step.specs.OneStep.{marked_if, execute, execute_all}
 use Rattle.step.specs.Accepted.{is_read, past, int_value, bool_value, int_passes, bool_passes, after_stmt, after_list}
 use Rattle.step.proofs.Accepted.{read_found, provided_read, bind_read, one_first, one_past, two, two_first, two_second, two_past, two_value, three, three_first, three_second, three_third, three_past}
 
-pub found_past : {A : Type 0} (x : Read A) (m : ℕ) → At m ≡ found x → m ≡ past x
-found_past (got a n) m e = cc
-found_past bad m e = let z : ◌≡◌ {A = ℕ} 0 1 = cc in absurd (omega arith)
-
-pub found_bad : {A : Type 0} (x : Read A) → Bad ≡ found x → 0 ≡ past x
-found_bad (got a n) e = let z : ◌≡◌ {A = ℕ} 0 1 = cc in absurd (omega arith)
-found_bad bad e = refl
+pub found_past : {A : Type 0} (x : Read A) → unwrap_or (found x) 0 ≡ past x
+found_past (got a n) = refl
+found_past bad = refl
 
 refused : {A : Type 0} {x : Read A} → is_read x ≡ true → x ≡ bad → ⊥
 refused h e = false≢true (sym (ap is_read e) ∙ h)
@@ -139,12 +137,14 @@ module _ (text : List ℕ) (N : Names) (end : ℕ) where
       let e = list_in k at (list_live k at h) ∙ ap (λ (j : ℕ). Q k j (at + 1)) (sym q) in
       record { live = sym (ap is_read e) ∙ h; same = sym (ap (λ (x : Read Stmts). after_list y x s) e); ends = sym (ap past e); size = refl; on = omega arith }
 
-  pub going_on : (y : Layout) (k at : ℕ) (s₀ : State) (n p : ℕ) (s s' : State) (m : ℕ) → 0 < n → Going y k at s₀ n p s → (s' ≡ after_stmt y (S k p) s) × (m ≡ past (S k p)) → Going y k at s₀ (n - 1) m s'
-  going_on y k at s₀ n p s s' m l g r =
+  pub going_on : (y : Layout) (k at : ℕ) (s₀ : State) (n n' p : ℕ) (s s' : State) (m : ℕ) → n ≡ n' + 1 → Going y k at s₀ n p s → (s' ≡ after_stmt y (S k p) s) × (m ≡ past (S k p)) → Going y k at s₀ n' m s'
+  going_on y k at s₀ n n' p s s' m e g r =
+      let l : 0 < n = omega arith in
       let t = seq_rest k n p g.live l y s s' m r.0 r.1 in
       let f = stmt_forward k p m (seq_first k n p g.live l) r.1 in
       let o = g.on in
-      record { live = t.0; same = t.1 ∙ g.same; ends = t.2 ∙ g.ends; size = ap length r.0 ∙ length_stmt y (S k p) s ∙ g.size; on = omega arith }
+      subst (λ (j : ℕ). Going y k at s₀ j m s') (let z : n - 1 ≡ n' = omega arith in z)
+      (record { live = t.0; same = t.1 ∙ g.same; ends = t.2 ∙ g.ends; size = ap length r.0 ∙ length_stmt y (S k p) s ∙ g.size; on = omega arith })
 
   pub going_end : (y : Layout) (k at : ℕ) (s₀ : State) (n p : ℕ) (s : State) → n ≤ 0 → Going y k at s₀ n p s → (s ≡ after_list y (L k at) s₀) × (p ≡ past (L k at))
   unfolding execute_all
@@ -162,8 +162,8 @@ module _ (text : List ℕ) (N : Names) (end : ℕ) where
     pub stmt_unknown : (get_or text at 0 < 0x20) ⊎ (0x22 ≤ get_or text at 0) → ⊥
     stmt_unknown s = go (S k at) h (stmt_none text N end k at (stmt_live k at h) s)
       where
-        go : (x : Read Stmt) → is_read x ≡ true → Bad ≡ found x → ⊥
-        go (got a n) g e = let z : ◌≡◌ {A = ℕ} 0 1 = cc in omega arith
+        go : (x : Read Stmt) → is_read x ≡ true → None ≡ found x → ⊥
+        go (got a n) g e = none-some n e
         go bad g e = false≢true g
 
     module _ (e : get_or text at 0 ≡ 0x20) where

@@ -17,7 +17,8 @@ use Rattle.step.specs.OneStep.{marked, status_and_event, no_invalid, true_at, ho
 use Rattle.design.specs.declared.shape.Shape.{Shape}
 use Rattle.design.proofs.Widths.{layout_is}
 use Rattle.step.specs.Ready.{ReadyState}
-use Rattle.step.proofs.Cells.{BothAre}
+use Rattle.design.specs.Limits.{max_bytes}
+use Rattle.step.proofs.Cells.{sizes, BothAre}
 
 -- the layout of the tree, by the shape of the file
 pub same_layout : (file : List ℕ) (d : Design) (w : Parts file d) (h : Shape) → Shaped file h → layout_of h ≡ layout d
@@ -96,6 +97,10 @@ module _ (file events' : List ℕ) (h : Shape) (slots : State) (ready : ReadySta
 
     pub scan_fields : CellFields file p
     scan_fields = cell_fields file (event_in tree.all.parts.rows) p (entry tree.tree tree.all.parts) (stands tree.tree tree.all.parts)
+
+    -- the cell's header is inside the file, which is short
+    pub scan_room : (p + 8 ≤ length file) × (length file ≤ max_bytes)
+    scan_room = (omega (arith, scan_fields.header, sizes file events' h slots ready), (sizes file events' h slots ready).1)
 
     split : (d : Design) (w : Parts file d) → drop i w.entries ≡ entry d w ∷ drop (suc i) w.entries
     unfolding entry

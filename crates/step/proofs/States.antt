@@ -1,6 +1,5 @@
 -- The answers of START, STEP and HOLDS, by the tests that led to them. Assumes nothing.
-use Rattle.std.proofs.Common.{◌≡◌, ℕ, zero, suc, ◌+◌, ◌-◌, ◌<◌, ◌≤◌, Bool, true, false, ltb, leb, List, [], ◌∷◌, ◌++◌, map, length, get_or, take, drop, set, replicate, ℤ, pos, sym, refl, ap, ◌∙◌, ap₂, append_assoc, arith, length-append, length-drop, length-set, length-take-le, le-ltb, lt-ltb, eq-eqb, ne_eqb, le-leb}
-use lib.ListN.{length-map}
+use Rattle.std.proofs.Common.{◌≡◌, ℕ, zero, suc, ◌+◌, ◌-◌, ◌<◌, ◌≤◌, Bool, ltb, leb, List, [], ◌∷◌, ◌++◌, map, length, get_or, take, drop, set, replicate, ℤ, pos, sym, refl, ap, ◌∙◌, ap₂, append_assoc, arith, length-append, length-drop, length-set, length-take-le, le-ltb, lt-ltb, le-leb}
 use lib.Seq.{paste, length-paste, take-paste}
 use borrow.Author.Tests.{lt-leb}
 use Rattle.design.specs.Tree.{Design, movers}
@@ -8,7 +7,9 @@ use Rattle.design.specs.State.{State, Layout, layout, layout_of, slot_count, sta
 use Rattle.design.specs.Check.{accepted, check, refusal}
 use Rattle.design.specs.Answer.{Answer, refused, answer, need}
 use Rattle.design.specs.Places.{Accepted, Shaped}
-use Rattle.design.specs.declared.Refusal.{Refusal}
+use Rattle.design.specs.Refusal.{number_of, place_of, refusal_of}
+use Rattle.design.specs.declared.refusal.Refused.{Refused}
+use Rattle.std.specs.Prelude.{Some, None}
 use Rattle.design.specs.declared.shape.Shape.{Shape}
 use Rattle.design.specs.Sections.{Parts}
 use Rattle.design.proofs.Sections.{whole}
@@ -19,20 +20,18 @@ use Rattle.step.specs.Limits.{last_state_property}
 use Rattle.step.specs.Piece.{no_piece}
 use Rattle.step.specs.Property.{property_of}
 use Rattle.step.specs.OneStep.{step, holds}
-use Rattle.step.specs.Interface.{values_right, statuses_right, first_wrong, entries_right, slots_given, values_of, statuses_of, mark_of, StateEntries, entries_of}
+use Rattle.step.specs.Interface.{values_right, statuses_right, first_wrong, entries_right, slots_given, values_of, statuses_of, mark_of, wrong_at, entries_of}
 use Rattle.step.specs.Entries.{tests_of, slots_entered}
 use Rattle.step.specs.declared.interface.Entries.{Entries}
-use Rattle.step.specs.Operations.{refused_at, all_right, started, START, next, stepped, STEP, held, HOLDS}
+use Rattle.step.specs.Operations.{all_right, START, next, stepped, STEP, HOLDS}
 use Rattle.step.specs.Ready.{tested_by}
 use Rattle.step.specs.declared.mover.Tested.{Tested}
 use Rattle.step.specs.declared.Started.{Started}
 use Rattle.step.specs.declared.Stepped.{Stepped}
-use Rattle.step.specs.declared.Held.{Held}
-use Rattle.step.proofs.Gates.{need_no, need_yes, on_refused, on_accepted}
-use Rattle.step.proofs.Answering.{wrong_most}
+use Rattle.step.proofs.Gates.{need_no, need_yes, check_handed, on_accepted}
+use Rattle.step.proofs.Answering.{need_wrong, need_right}
 use Rattle.step.proofs.Scanning.{same_layout}
-use Rattle.step.proofs.Entries.{values_length, statuses_length}
-use Rattle.design.specs.Limits.{max_variables, max_matrices, max_slots}
+use Rattle.design.specs.Limits.{max_variables, max_matrices}
 
 -- the last slot
 set_last : (xs ys : List ℕ) (k m : ℕ) → length xs ≡ k → length ys ≡ 1 → set (xs ++ ys) k m ≡ xs ++ (m ∷ [])
@@ -89,7 +88,7 @@ module _ (file : List ℕ) (d : Design) (c : check file ≡ accepted d) (h : Sha
   mark_is : (s : State) (m : ℕ) → m ≡ get_or s (layout_of h).mark 0 → m ≡ mark_of d s
   mark_is s m k = k ∙ ap (λ (l : Layout). get_or s l.mark 0) (same_layout file d w h q)
 
-  pub entries_are : (s : State) (vs : List ℤ) (ss : List ℕ) (m : ℕ) → Given h s vs ss m → ◌≡◌ {A = StateEntries} (record { values = vs; statuses = ss; mark = m }) (entries_of d s)
+  pub entries_are : (s : State) (vs : List ℤ) (ss : List ℕ) (m : ℕ) → Given h s vs ss m → ◌≡◌ {A = Started} (record { values = vs; statuses = ss; mark = m }) (entries_of d s)
   entries_are s vs ss m g =
       ap₂ (λ (x : List ℤ) (y : List ℕ). record { values = x; statuses = y; mark = m }) (values_are s vs g.values) (statuses_are s ss g.statuses)
       ∙ ap (λ (x : ℕ). record { values = values_of d s; statuses = statuses_of d s; mark = x }) (mark_is s m g.mark)
@@ -100,56 +99,33 @@ module _ (file : List ℕ) (d : Design) (c : check file ≡ accepted d) (h : Sha
       ∙ ap₂ (λ (i j : ℕ). take i (map wrap values) ++ (take j e.statuses ++ (e.mark ∷ []))) variables_are matrices_are
 
   pub step_answer_lem : (s s' : State) (vs : List ℤ) (ss : List ℕ) (m : ℕ) (r : Tested) (choice : ℕ) → (s' ≡ step d s choice) × (r ≡ tested_by d s choice) → Given h s' vs ss m
-      → ◌≡◌ {A = Stepped} (record { refusal = refused_at 0 0; values = vs; statuses = ss; mark = m; idle = r.idle }) (stepped (answer (next d s choice)))
+      → ◌≡◌ {A = Stepped} (record { values = vs; statuses = ss; mark = m; idle = r.idle }) (next d s choice)
   step_answer_lem s s' vs ss m r choice k g =
-      ap₂ (λ (x : StateEntries) (b : Bool). stepped (answer (x, b))) (entries_are s' vs ss m g ∙ ap (entries_of d) k.0) (ap (λ (t : Tested). t.idle) k.1)
+      ap₂ stepped (entries_are s' vs ss m g ∙ ap (entries_of d) k.0) (ap (λ (t : Tested). t.idle) k.1)
 
 -- START
-pub start_refused : (file : List ℕ) (r : Refusal) → r ≡ refusal (check file) → (r.number ≡ 0 → ⊥) → started (refused r.number r.place) ≡ START file
+pub start_refused : (file : List ℕ) (e : Refused) → refusal_of e ≡ refusal (check file) → refused (number_of e) (place_of e) ≡ START file
 unfolding START
-start_refused file r e z = sym (ap started (on_refused file _ r e z))
+start_refused file e q = check_handed file _ e q
 
 pub start_answer_lem : (file : List ℕ) → Accepted file → (h : Shape) → Shaped file h → (s : State) (vs : List ℤ) (ss : List ℕ) (m : ℕ) → ((d : Design) → check file ≡ accepted d → s ≡ start d) → Given h s vs ss m
-    → ◌≡◌ {A = Started} (record { refusal = refused_at 0 0; values = vs; statuses = ss; mark = m }) (START file)
+    → answer (record { values = vs; statuses = ss; mark = m }) ≡ START file
 unfolding START
 start_answer_lem file a h q s vs ss m k g =
     let t = read file a in
-    ap (λ (x : StateEntries). started (answer x)) (entries_are file t.tree t.is h q s vs ss m g ∙ ap (entries_of t.tree) (k t.tree t.is)) ∙ sym (ap started (on_accepted file _ a))
+    ap answer (entries_are file t.tree t.is h q s vs ss m g ∙ ap (entries_of t.tree) (k t.tree t.is)) ∙ sym (on_accepted file _ a)
 
--- the tests of the entries
-module _ (d : Design) (values : List ℤ) (e : Entries) (a : e.patterns ≡ map wrap values) (n : length values ≡ max_variables) (k : length e.statuses ≡ max_matrices) (wrong : ℕ) (h : wrong ≡ first_wrong (tests_of d e)) where
-  abbrev vt : List Bool
-  vt = values_right d.variables (map wrap values)
-
-  abbrev st : List Bool
-  st = statuses_right d.statuses e.statuses
-
-  abbrev ts : List Bool
-  ts = entries_right d values e.statuses e.mark
-
-  pub wrong_is : wrong ≡ first_wrong ts
-  wrong_is = h ∙ ap (λ (x : List ℕ). first_wrong (values_right d.variables x ++ (st ++ (leb e.mark 1 ∷ [])))) a
-
-  slots_long : length ts ≡ max_slots
-  slots_long =
-      let x : length vt ≡ max_variables = values_length d.variables (map wrap values) ∙ length-map values wrap ∙ n in
-      let y : length st ≡ max_matrices = statuses_length d.statuses e.statuses ∙ k in
-      omega (arith, length-append vt (st ++ (leb e.mark 1 ∷ [])), length-append st (leb e.mark 1 ∷ []))
-
-  pub wrong_found : wrong < max_slots → all_right ts ≡ false
-  wrong_found l = ne_eqb (first_wrong ts) (length ts) (λ q. let x = slots_long in let y = wrong_is in omega arith)
-
-  pub none_wrong : max_slots ≤ wrong → all_right ts ≡ true
-  none_wrong l = eq-eqb (first_wrong ts) (length ts) (let x = slots_long in let y = wrong_is in let z = wrong_most ts in omega arith)
+-- the tests of the entries, by patterns
+same_tests : (d : Design) (values : List ℤ) (e : Entries) → e.patterns ≡ map wrap values → wrong_at (tests_of d e) ≡ wrong_at (entries_right d values e.statuses e.mark)
+same_tests d values e a = ap (λ (x : List ℕ). wrong_at (values_right d.variables x ++ (statuses_right d.statuses e.statuses ++ (leb e.mark 1 ∷ [])))) a
 
 -- STEP; `e` is what the code makes of the values, statuses and mark
 module _ (file : List ℕ) (values : List ℤ) (ss : List ℕ) (mark choice : ℕ) where
-  pub step_refused : (r : Refusal) → r ≡ refusal (check file) → (r.number ≡ 0 → ⊥) → stepped (refused r.number r.place) ≡ STEP file values ss mark choice
+  pub step_refused : (e : Refused) → refusal_of e ≡ refusal (check file) → refused (number_of e) (place_of e) ≡ STEP file values ss mark choice
   unfolding STEP
-  step_refused r e z = sym (ap stepped (on_refused file _ r e z))
+  step_refused e q = check_handed file _ e q
 
-  module _ (x : Accepted file) (ps : List ℕ) (a : ps ≡ map wrap values) (n : length values ≡ max_variables) (k : length ss ≡ max_matrices) (wrong : ℕ)
-      (h : (d : Design) → check file ≡ accepted d → wrong ≡ first_wrong (tests_of d (record { patterns = ps; statuses = ss; mark = mark }))) where
+  module _ (x : Accepted file) (ps : List ℕ) (a : ps ≡ map wrap values) where
     d : Design
     d = (read file x).tree
 
@@ -163,39 +139,35 @@ module _ (file : List ℕ) (values : List ℤ) (ss : List ℕ) (mark choice : �
     abbrev tests : List Bool
     tests = entries_right d values ss mark
 
-    abbrev ends : Answer (StateEntries × Bool)
+    abbrev ends : Answer Stepped
     ends = need (ltb choice (length (movers d))) 12 0 (answer (next d (slots_given d values ss mark) choice))
 
-    answers : stepped (need (all_right tests) 11 (first_wrong tests) ends) ≡ STEP file values ss mark choice
+    answers : need (all_right tests) 11 (first_wrong tests) ends ≡ STEP file values ss mark choice
     unfolding STEP d
-    answers = sym (ap stepped (on_accepted file _ x))
+    answers = sym (on_accepted file _ x)
 
-    pub step_11 : wrong < max_slots → stepped (refused 11 wrong) ≡ STEP file values ss mark choice
-    step_11 l =
-        ap (λ (j : ℕ). stepped (refused 11 j)) (wrong_is d values e a n k wrong (h d c))
-        ∙ sym (ap stepped (need_no (all_right tests) 11 (first_wrong tests) ends (wrong_found d values e a n k wrong (h d c) l))) ∙ answers
+    pub step_11 : (wrong : ℕ) → ((d : Design) → check file ≡ accepted d → Some wrong ≡ wrong_at (tests_of d e)) → refused 11 wrong ≡ STEP file values ss mark choice
+    step_11 wrong h = sym (need_wrong tests 11 ends wrong (h d c ∙ same_tests d values e a)) ∙ answers
 
-    module _ (l : max_slots ≤ wrong) (w : ℕ) (m : (d : Design) → check file ≡ accepted d → w ≡ length (movers d)) where
-      after_11 : stepped ends ≡ STEP file values ss mark choice
-      after_11 = sym (ap stepped (need_yes (all_right tests) 11 (first_wrong tests) ends (none_wrong d values e a n k wrong (h d c) l))) ∙ answers
+    module _ (h : (d : Design) → check file ≡ accepted d → None ≡ wrong_at (tests_of d e)) (w : ℕ) (m : (d : Design) → check file ≡ accepted d → w ≡ length (movers d)) where
+      after_11 : ends ≡ STEP file values ss mark choice
+      after_11 = sym (need_right tests 11 ends (h d c ∙ same_tests d values e a)) ∙ answers
 
-      pub step_12 : w ≤ choice → stepped (refused 12 0) ≡ STEP file values ss mark choice
-      step_12 o = sym (ap stepped (need_no (ltb choice (length (movers d))) 12 0 _ (le-ltb choice (length (movers d)) (let z = m d c in omega arith)))) ∙ after_11
+      pub step_12 : w ≤ choice → refused 12 0 ≡ STEP file values ss mark choice
+      step_12 o = sym (need_no (ltb choice (length (movers d))) 12 0 _ (le-ltb choice (length (movers d)) (let z = m d c in omega arith))) ∙ after_11
 
-      pub step_done : choice < w → (y : Shape) → Shaped file y → (i : ℕ) → i ≡ choice → (r : Stepped) → ((d : Design) → check file ≡ accepted d → r ≡ stepped (answer (next d (slots_entered y e) i))) → r ≡ STEP file values ss mark choice
+      pub step_done : choice < w → (y : Shape) → Shaped file y → (i : ℕ) → i ≡ choice → (r : Stepped) → ((d : Design) → check file ≡ accepted d → r ≡ next d (slots_entered y e) i) → answer r ≡ STEP file values ss mark choice
       step_done o y q i t r f =
-          f d c ∙ ap (λ (j : ℕ). stepped (answer (next d (slots_entered y e) j))) t
-          ∙ ap (λ (s : State). stepped (answer (next d s choice))) (slots_are file d c y q values e a)
-          ∙ sym (ap stepped (need_yes (ltb choice (length (movers d))) 12 0 (answer (next d (slots_given d values ss mark) choice)) (lt-ltb choice (length (movers d)) (let z = m d c in omega arith)))) ∙ after_11
+          ap answer (f d c ∙ ap (next d (slots_entered y e)) t ∙ ap (λ (s : State). next d s choice) (slots_are file d c y q values e a))
+          ∙ sym (need_yes (ltb choice (length (movers d))) 12 0 (answer (next d (slots_given d values ss mark) choice)) (lt-ltb choice (length (movers d)) (let z = m d c in omega arith))) ∙ after_11
 
 -- HOLDS
 module _ (file : List ℕ) (values : List ℤ) (ss : List ℕ) (mark p : ℕ) where
-  pub holds_refused : (r : Refusal) → r ≡ refusal (check file) → (r.number ≡ 0 → ⊥) → held (refused r.number r.place) ≡ HOLDS file values ss mark p
+  pub holds_refused : (e : Refused) → refusal_of e ≡ refusal (check file) → refused (number_of e) (place_of e) ≡ HOLDS file values ss mark p
   unfolding HOLDS
-  holds_refused r e z = sym (ap held (on_refused file _ r e z))
+  holds_refused e q = check_handed file _ e q
 
-  module _ (x : Accepted file) (ps : List ℕ) (a : ps ≡ map wrap values) (n : length values ≡ max_variables) (k : length ss ≡ max_matrices) (wrong : ℕ)
-      (h : (d : Design) → check file ≡ accepted d → wrong ≡ first_wrong (tests_of d (record { patterns = ps; statuses = ss; mark = mark }))) where
+  module _ (x : Accepted file) (ps : List ℕ) (a : ps ≡ map wrap values) where
     d' : Design
     d' = (read file x).tree
 
@@ -212,24 +184,21 @@ module _ (file : List ℕ) (values : List ℤ) (ss : List ℕ) (mark p : ℕ) wh
     abbrev ends' : Answer Bool
     ends' = need (leb p last_state_property) 13 0 (answer (holds d' (property_of file no_piece d' p) (slots_given d' values ss mark)))
 
-    answers' : held (need (all_right tests') 11 (first_wrong tests') ends') ≡ HOLDS file values ss mark p
+    answers' : need (all_right tests') 11 (first_wrong tests') ends' ≡ HOLDS file values ss mark p
     unfolding HOLDS d'
-    answers' = sym (ap held (on_accepted file _ x))
+    answers' = sym (on_accepted file _ x)
 
-    pub holds_11 : wrong < max_slots → held (refused 11 wrong) ≡ HOLDS file values ss mark p
-    holds_11 l =
-        ap (λ (j : ℕ). held (refused 11 j)) (wrong_is d' values e' a n k wrong (h d' c'))
-        ∙ sym (ap held (need_no (all_right tests') 11 (first_wrong tests') ends' (wrong_found d' values e' a n k wrong (h d' c') l))) ∙ answers'
+    pub holds_11 : (wrong : ℕ) → ((d : Design) → check file ≡ accepted d → Some wrong ≡ wrong_at (tests_of d e')) → refused 11 wrong ≡ HOLDS file values ss mark p
+    holds_11 wrong h = sym (need_wrong tests' 11 ends' wrong (h d' c' ∙ same_tests d' values e' a)) ∙ answers'
 
-    module _ (l : max_slots ≤ wrong) where
-      then_11 : held ends' ≡ HOLDS file values ss mark p
-      then_11 = sym (ap held (need_yes (all_right tests') 11 (first_wrong tests') ends' (none_wrong d' values e' a n k wrong (h d' c') l))) ∙ answers'
+    module _ (h : (d : Design) → check file ≡ accepted d → None ≡ wrong_at (tests_of d e')) where
+      then_11 : ends' ≡ HOLDS file values ss mark p
+      then_11 = sym (need_right tests' 11 ends' (h d' c' ∙ same_tests d' values e' a)) ∙ answers'
 
-      pub holds_13 : last_state_property < p → held (refused 13 0) ≡ HOLDS file values ss mark p
-      holds_13 o = sym (ap held (need_no (leb p last_state_property) 13 0 _ (lt-leb p last_state_property o))) ∙ then_11
+      pub holds_13 : last_state_property < p → refused 13 0 ≡ HOLDS file values ss mark p
+      holds_13 o = sym (need_no (leb p last_state_property) 13 0 _ (lt-leb p last_state_property o)) ∙ then_11
 
-      pub holds_done : p ≤ last_state_property → (y : Shape) → Shaped file y → (r : Bool) → ((d : Design) (w : Parts file d) → r ≡ holds d (property_of file no_piece d p) (slots_entered y e')) → ◌≡◌ {A = Held} (record { refusal = refused_at 0 0; holds = r }) (HOLDS file values ss mark p)
+      pub holds_done : p ≤ last_state_property → (y : Shape) → Shaped file y → (r : Bool) → ((d : Design) (w : Parts file d) → r ≡ holds d (property_of file no_piece d p) (slots_entered y e')) → answer r ≡ HOLDS file values ss mark p
       holds_done o y q r f =
-          ap (λ (b : Bool). held (answer b)) (f d' (whole file d' c').parts)
-          ∙ ap (λ (s : State). held (answer (holds d' (property_of file no_piece d' p) s))) (slots_are file d' c' y q values e' a)
-          ∙ sym (ap held (need_yes (leb p last_state_property) 13 0 (answer (holds d' (property_of file no_piece d' p) (slots_given d' values ss mark))) (le-leb p last_state_property o))) ∙ then_11
+          ap answer (f d' (whole file d' c').parts ∙ ap (holds d' (property_of file no_piece d' p)) (slots_are file d' c' y q values e' a))
+          ∙ sym (need_yes (leb p last_state_property) 13 0 (answer (holds d' (property_of file no_piece d' p) (slots_given d' values ss mark))) (le-leb p last_state_property o)) ∙ then_11

@@ -2,7 +2,7 @@
 use Rattle.std.specs.Prelude.{ℕ, List, nat_le}
 use Rattle.design.specs.Tree.{Design}
 use Rattle.design.specs.Answer.{Answer, refused, answer, need, on_design}
-use Rattle.design.specs.declared.Refusal.{Refusal}
+use Rattle.design.specs.Refusal.{Refusal}
 use Rattle.step.specs.Limits.{last_property, max_bound}
 use Rattle.step.specs.Piece.{piece_right}
 use Rattle.step.specs.Property.{Property, property_of}

@@ -1,10 +1,11 @@
 -- The state as the calls take and give it, 32 values, 8 statuses and the mark, and refusal 11 (document 01, "Turned-back calls"; document 02, R-5).
 -- A value is a signed 16-bit number. In a slot stands its pattern.
-use Rattle.std.specs.Prelude.{ℕ, suc, ◌-◌, Bool, true, false, List, [], ◌∷◌, ◌++◌, map, length, take, replicate, ℤ, pos, ◌==◌, nat_le, nat_lt, slice_index}
+use Rattle.std.specs.Prelude.{ℕ, suc, ◌-◌, Bool, true, false, cond, Option, Some, None, List, [], ◌∷◌, ◌++◌, map, length, take, replicate, ℤ, pos, ◌==◌, nat_le, nat_lt, slice_index}
 use Rattle.design.specs.Tree.{Kind, boolean, integer, external, Variable, Design}
 use Rattle.design.specs.State.{State, layout, statuses_in}
 use Rattle.design.specs.Limits.{max_variables, max_matrices}
 use Rattle.step.specs.Pattern.{signed, wrap}
+use Rattle.step.specs.declared.Started.{Started}
 
 -- "Boolean not 0/1": an external is a Boolean too
 abbrev pub right_kind : Kind → ℕ → Bool
@@ -30,6 +31,10 @@ first_wrong [] = 0
 first_wrong (false ∷ ts) = 0
 first_wrong (true ∷ ts) = suc (first_wrong ts)
 
+-- the index of the first that is not right, if there is one
+abbrev pub wrong_at : List Bool → Option ℕ
+wrong_at ts = cond (nat_lt (first_wrong ts) (length ts)) (Some (first_wrong ts)) None
+
 module _ (d : Design) where
   -- "(place: first such index, statuses from 32)": there are 32 values. Of the mark "any value other than 0 or 1 is refusal 11 at place 40": behind 8 statuses.
   abbrev pub entries_right : List ℤ → List ℕ → ℕ → List Bool
@@ -50,10 +55,5 @@ module _ (d : Design) where
   mark_of s = slice_index s (layout d).mark
 
 -- a state as the calls give it
-pub record StateEntries : Type 0 where
-  pub values : List ℤ
-  pub statuses : List ℕ
-  pub mark : ℕ
-
-abbrev pub entries_of : Design → State → StateEntries
+abbrev pub entries_of : Design → State → Started
 entries_of d s = record { values = values_of d s; statuses = statuses_of d s; mark = mark_of d s }

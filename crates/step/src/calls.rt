@@ -5,84 +5,44 @@ ghost use Rattle.step.specs.Limits.{last_state_property};
 ghost use Rattle.design.specs.Tree.{Design};
 ghost use Rattle.design.specs.State.{slot_count};
 ghost use Rattle.design.specs.Check.{check, accepted};
-ghost use Rattle.design.specs.Answer.{refused, answer};
+ghost use Rattle.design.specs.Answer.{answer, told};
 ghost use Rattle.design.specs.Places.{Accepted, Shaped, MoversIndexed};
 ghost use Rattle.design.specs.Sections.{Parts};
 ghost use Rattle.step.specs.Piece.{no_piece};
 ghost use Rattle.step.specs.Property.{property_of};
 ghost use Rattle.step.specs.OneStep.{holds as holds_in};
-ghost use Rattle.step.specs.Operations.{started, START, next, stepped, STEP, held, HOLDS};
+ghost use Rattle.step.specs.Operations.{START, next, STEP, HOLDS};
 ghost use Rattle.step.specs.Entries.{slots_entered};
 ghost use Rattle.step.specs.Ready.{ReadyState};
 
 use super::interface::{
     Entries, copy_slots, give_mark, give_statuses, give_values, patterns, wrong_entry,
 };
-use super::limits::LAST_STATE_PROPERTY;
 use super::mover::move_chosen;
-use super::property::property_true;
+use super::property::{judges_steps, property_true};
 use super::replaying::load_start;
-use super::{Held, Started, Stepped};
-use design::Refusal;
+use super::{Started, Stepped};
 use design::index::{index_cells, index_events, shape};
 use design::limits::{EVENT_PLACES, MAX_MATRICES, MAX_MOVERS, MAX_SLOTS, MAX_VARIABLES};
+use design::refusal::Refused;
 use design::shape::{Shape, slot_count};
-
-pub fn refuse_start(number: u8, place: usize) -> Started
-    ensures { result ≡ started (refused number place) }
-{
-    Started {
-        refusal: Refusal { number, place },
-        values: [0i16; MAX_VARIABLES],
-        statuses: [0u16; MAX_MATRICES],
-        mark: 0,
-    }
-}
-
-pub fn refuse_step(number: u8, place: usize) -> Stepped
-    ensures { result ≡ stepped (refused number place) }
-{
-    Stepped {
-        refusal: Refusal { number, place },
-        values: [0i16; MAX_VARIABLES],
-        statuses: [0u16; MAX_MATRICES],
-        mark: 0,
-        idle: false,
-    }
-}
-
-pub fn refuse_holds(number: u8, place: usize) -> Held
-    ensures { result ≡ held (refused number place) }
-{
-    Held {
-        refusal: Refusal { number, place },
-        holds: false,
-    }
-}
 
 // The first state, by slots that are 0.
 pub fn start_slots(file: &[u8], shape: Shape, slots: &mut [u16]) -> Started
     requires { Accepted file.now × Shaped file.now shape × (slots.old ≡ replicate (slot_count shape) 0) }
-    ensures { result ≡ START file.now }
+    ensures { answer result ≡ START file.now }
 {
     load_start(file, shape, slots);
-    let values = give_values(shape.variables, slots);
-    let statuses = give_statuses(shape.variables, shape.matrices, slots);
-    let mark = give_mark(shape, slots);
     Started {
-        refusal: Refusal {
-            number: 0,
-            place: 0,
-        },
-        values,
-        statuses,
-        mark,
+        values: give_values(shape.variables, slots),
+        statuses: give_statuses(shape.variables, shape.matrices, slots),
+        mark: give_mark(shape, slots),
     }
 }
 
 pub fn start_accepted(file: &[u8]) -> Started
     requires { Accepted file.now }
-    ensures { result ≡ START file.now }
+    ensures { answer result ≡ START file.now }
 {
     let shape = shape(file, 0);
     let mut all = [0u16; MAX_SLOTS];
@@ -111,21 +71,14 @@ pub fn step_slots(
     slots: &mut [u16],
 ) -> Stepped
     requires { ReadyState file.now events.now shape slots.old × MoversIndexed file.now cells.now shape × (choice < shape.normals + shape.externals) }
-    ensures { (d : Design) → check file.now ≡ accepted d → result ≡ stepped (answer (next d (slots_entered shape entries) choice)) }
+    ensures { (d : Design) → check file.now ≡ accepted d → result ≡ next d (slots_entered shape entries) choice }
 {
     load_entries(shape, entries, slots);
     let tested = move_chosen(file, events, cells, shape, choice, slots);
-    let values = give_values(shape.variables, slots);
-    let statuses = give_statuses(shape.variables, shape.matrices, slots);
-    let mark = give_mark(shape, slots);
     Stepped {
-        refusal: Refusal {
-            number: 0,
-            place: 0,
-        },
-        values,
-        statuses,
-        mark,
+        values: give_values(shape.variables, slots),
+        statuses: give_statuses(shape.variables, shape.matrices, slots),
+        mark: give_mark(shape, slots),
         idle: tested.idle,
     }
 }
@@ -136,32 +89,30 @@ pub fn step_accepted(
     statuses: [u16; MAX_MATRICES],
     mark: u16,
     choice: u64,
-) -> Stepped
+) -> Result<Stepped, Refused>
     requires { Accepted file.now }
-    ensures { result ≡ STEP file.now values statuses mark choice }
+    ensures { told result ≡ STEP file.now values statuses mark choice }
 {
     let mut cells = [0u16; MAX_MOVERS];
     let normals = index_cells(file, &mut cells);
     let shape = shape(file, normals);
-    let ps = patterns(values);
     let entries = Entries {
-        patterns: ps,
+        patterns: patterns(values),
         statuses,
         mark,
     };
-    let wrong = wrong_entry(file, shape, entries);
-    if wrong < MAX_SLOTS {
-        return refuse_step(11, wrong);
+    if let Some(wrong) = wrong_entry(file, shape, entries) {
+        return Err(Refused::Entry(wrong));
     }
     let c = choice as usize;
     if shape.normals + shape.externals <= c {
-        return refuse_step(12, 0);
+        return Err(Refused::Choice(0));
     }
     let mut events = [0u16; EVENT_PLACES];
     index_events(file, &mut events);
     let mut all = [0u16; MAX_SLOTS];
     let n = slot_count(shape);
-    step_slots(file, &events, &cells, shape, c, entries, &mut all[..n])
+    Ok(step_slots(file, &events, &cells, shape, c, entries, &mut all[..n]))
 }
 
 // Whether the property is true in the state that the entries give, in `slots`.
@@ -198,30 +149,21 @@ pub fn holds_accepted(
     statuses: [u16; MAX_MATRICES],
     mark: u16,
     property: u64,
-) -> Held
+) -> Result<bool, Refused>
     requires { Accepted file.now }
-    ensures { result ≡ HOLDS file.now values statuses mark property }
+    ensures { told result ≡ HOLDS file.now values statuses mark property }
 {
     let shape = shape(file, 0);
-    let ps = patterns(values);
     let entries = Entries {
-        patterns: ps,
+        patterns: patterns(values),
         statuses,
         mark,
     };
-    let wrong = wrong_entry(file, shape, entries);
-    if wrong < MAX_SLOTS {
-        return refuse_holds(11, wrong);
+    if let Some(wrong) = wrong_entry(file, shape, entries) {
+        return Err(Refused::Entry(wrong));
     }
-    if LAST_STATE_PROPERTY < property {
-        return refuse_holds(13, 0);
+    if judges_steps(property) {
+        return Err(Refused::Property);
     }
-    let holds = holds_right(file, shape, property, entries);
-    Held {
-        refusal: Refusal {
-            number: 0,
-            place: 0,
-        },
-        holds,
-    }
+    Ok(holds_right(file, shape, property, entries))
 }

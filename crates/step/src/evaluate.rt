@@ -18,82 +18,59 @@ use design::shape::Shape;
 // A value, the position past its expression, and whether the expression passes the end: whether a sum, difference or product in it has an exact
 // value that 16 bits do not hold. Only statements and conditions ask for the last.
 #[derive(Clone, Copy)]
-pub struct IntAt {
-    pub value: u16,
-    pub next: usize,
-    pub passed: bool,
-}
-
-#[derive(Clone, Copy)]
-pub struct BoolAt {
-    pub value: bool,
+pub struct Valued<T> {
+    pub value: T,
     pub next: usize,
     pub passed: bool,
 }
 
 // Of an expression without operands.
-fn int_at(value: u16, next: usize) -> IntAt
+fn plain<T>(value: T, next: usize) -> Valued<T>
     ensures { (result.value ≡ value) × (result.next ≡ next) × (result.passed ≡ false) }
 {
-    IntAt {
+    Valued {
         value,
         next,
         passed: false,
     }
-}
-
-fn bool_at(value: bool, next: usize) -> BoolAt
-    ensures { (result.value ≡ value) × (result.next ≡ next) × (result.passed ≡ false) }
-{
-    BoolAt {
-        value,
-        next,
-        passed: false,
-    }
-}
-
-fn either(a: bool, b: bool) -> bool
-    ensures { result ≡ (a || b) }
-{
-    if a { true } else { b }
 }
 
 // Sum, difference.
-pub fn arithmetic(op: u8, a: IntAt, b: IntAt) -> IntAt
+pub fn arithmetic(op: u8, a: Valued<u16>, b: Valued<u16>) -> Valued<u16>
     ensures { (result.value ≡ (if nat_eq op 0x04 then plus a.value b.value else minus a.value b.value)) × (result.next ≡ b.next)
         × (result.passed ≡ ((a.passed || b.passed) || (if nat_eq op 0x04 then outside (signed a.value +ℤ signed b.value) else outside (signed a.value -ℤ signed b.value)))) }
 {
-    let before = either(a.passed, b.passed);
+    let before = a.passed || b.passed;
     if op == 0x04 {
-        return IntAt {
+        return Valued {
             value: plus16(a.value, b.value),
             next: b.next,
-            passed: either(before, sum_passes(a.value, b.value)),
+            passed: before || sum_passes(a.value, b.value),
         };
     }
-    IntAt {
+    Valued {
         value: minus16(a.value, b.value),
         next: b.next,
-        passed: either(before, difference_passes(a.value, b.value)),
+        passed: before || difference_passes(a.value, b.value),
     }
 }
 
 // Product by the constant c.
-pub fn multiplied(c: u16, a: IntAt) -> IntAt
+pub fn multiplied(c: u16, a: Valued<u16>) -> Valued<u16>
     ensures { (result.value ≡ times c a.value) × (result.next ≡ a.next) × (result.passed ≡ (a.passed || outside (signed c *ℤ signed a.value))) }
 {
-    IntAt {
+    Valued {
         value: times16(c, a.value),
         next: a.next,
-        passed: either(a.passed, product_passes(c, a.value)),
+        passed: a.passed || product_passes(c, a.value),
     }
 }
 
 // Not.
-pub fn negated(a: BoolAt) -> BoolAt
+pub fn negated(a: Valued<bool>) -> Valued<bool>
     ensures { (result.value ≡ not a.value) × (result.next ≡ a.next) × (result.passed ≡ a.passed) }
 {
-    BoolAt {
+    Valued {
         value: !a.value,
         next: a.next,
         passed: a.passed,
@@ -104,20 +81,16 @@ pub fn negated(a: BoolAt) -> BoolAt
 fn logic_value(op: u8, a: bool, b: bool) -> bool
     ensures { result ≡ (if nat_eq op 0x13 then a && b else a || b) }
 {
-    if op == 0x13 {
-        if a { b } else { false }
-    } else {
-        if a { true } else { b }
-    }
+    if op == 0x13 { a && b } else { a || b }
 }
 
-pub fn logic(op: u8, a: BoolAt, b: BoolAt) -> BoolAt
+pub fn logic(op: u8, a: Valued<bool>, b: Valued<bool>) -> Valued<bool>
     ensures { (result.value ≡ (if nat_eq op 0x13 then a.value && b.value else a.value || b.value)) × (result.next ≡ b.next) × (result.passed ≡ (a.passed || b.passed)) }
 {
-    BoolAt {
+    Valued {
         value: logic_value(op, a.value, b.value),
         next: b.next,
-        passed: either(a.passed, b.passed),
+        passed: a.passed || b.passed,
     }
 }
 
@@ -128,18 +101,18 @@ fn compare_value(op: u8, a: u16, b: u16) -> bool
     if op == 0x15 { a == b } else { below16(a, b) }
 }
 
-pub fn compare(op: u8, a: IntAt, b: IntAt) -> BoolAt
+pub fn compare(op: u8, a: Valued<u16>, b: Valued<u16>) -> Valued<bool>
     ensures { (result.value ≡ (if nat_eq op 0x15 then (a.value == b.value) else below a.value b.value)) × (result.next ≡ b.next) × (result.passed ≡ (a.passed || b.passed)) }
 {
-    BoolAt {
+    Valued {
         value: compare_value(op, a.value, b.value),
         next: b.next,
-        passed: either(a.passed, b.passed),
+        passed: a.passed || b.passed,
     }
 }
 
 // The integer expression at `at`, which the reader accepts.
-pub fn eval_int(text: &[u8], at: usize, end: usize, shape: Shape, slots: &[u16]) -> IntAt
+pub fn eval_int(text: &[u8], at: usize, end: usize, shape: Shape, slots: &[u16]) -> Valued<u16>
     requires { ((file : List ℕ) × (depth : ℕ) × (later : Bool) × (slots_needed later shape ≤ length slots.now)
         × (is_read (int_expr text.now (with_later later (names_of file shape)) end depth at) ≡ true)) × (end ≤ length text.now) }
     ensures { (file : List ℕ) (depth : ℕ) (later : Bool) → is_read (int_expr text.now (with_later later (names_of file shape)) end depth at) ≡ true
@@ -150,14 +123,14 @@ pub fn eval_int(text: &[u8], at: usize, end: usize, shape: Shape, slots: &[u16])
     let op = text[at];
     let p = at + 1;
     match op {
-        0x01 => int_at(word(text, p) as u16, p + 2),
+        0x01 => plain(word(text, p) as u16, p + 2),
         0x02 => {
             let v = wide(text[p]);
-            int_at(slots[v], p + 1)
+            plain(slots[v], p + 1)
         }
         0x03 => {
             let m = wide(text[p]);
-            int_at(slots[shape.variables + m], p + 1)
+            plain(slots[shape.variables + m], p + 1)
         }
         0x04..=0x05 => {
             let a = eval_int(text, p, end, shape, slots);
@@ -166,11 +139,11 @@ pub fn eval_int(text: &[u8], at: usize, end: usize, shape: Shape, slots: &[u16])
         }
         0x06 => {
             let v = wide(text[p]);
-            int_at(slots[shape.variables + shape.matrices + 1 + v], p + 1)
+            plain(slots[shape.variables + shape.matrices + 1 + v], p + 1)
         }
         0x07 => {
             let m = wide(text[p]);
-            int_at(
+            plain(
                 slots[shape.variables + (shape.variables + shape.matrices + 1 + m)],
                 p + 1,
             )
@@ -179,12 +152,12 @@ pub fn eval_int(text: &[u8], at: usize, end: usize, shape: Shape, slots: &[u16])
             let a = eval_int(text, p + 2, end, shape, slots);
             multiplied(word(text, p) as u16, a)
         }
-        _ => int_at(0, at),
+        _ => plain(0, at),
     }
 }
 
 // The Boolean expression at `at`, likewise.
-pub fn eval_bool(text: &[u8], at: usize, end: usize, shape: Shape, slots: &[u16]) -> BoolAt
+pub fn eval_bool(text: &[u8], at: usize, end: usize, shape: Shape, slots: &[u16]) -> Valued<bool>
     requires { ((file : List ℕ) × (depth : ℕ) × (later : Bool) × (slots_needed later shape ≤ length slots.now)
         × (is_read (bool_expr text.now (with_later later (names_of file shape)) end depth at) ≡ true)) × (end ≤ length text.now) }
     ensures { (file : List ℕ) (depth : ℕ) (later : Bool) → is_read (bool_expr text.now (with_later later (names_of file shape)) end depth at) ≡ true
@@ -195,10 +168,10 @@ pub fn eval_bool(text: &[u8], at: usize, end: usize, shape: Shape, slots: &[u16]
     let op = text[at];
     let p = at + 1;
     match op {
-        0x10 => bool_at(0 < text[p], p + 1),
+        0x10 => plain(0 < text[p], p + 1),
         0x11 => {
             let v = wide(text[p]);
-            bool_at(0 < slots[v], p + 1)
+            plain(0 < slots[v], p + 1)
         }
         0x12 => {
             let a = eval_bool(text, p, end, shape, slots);
@@ -216,8 +189,8 @@ pub fn eval_bool(text: &[u8], at: usize, end: usize, shape: Shape, slots: &[u16]
         }
         0x17 => {
             let v = wide(text[p]);
-            bool_at(0 < slots[shape.variables + shape.matrices + 1 + v], p + 1)
+            plain(0 < slots[shape.variables + shape.matrices + 1 + v], p + 1)
         }
-        _ => bool_at(false, at),
+        _ => plain(false, at),
     }
 }

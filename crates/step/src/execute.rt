@@ -4,21 +4,14 @@ ghost use Rattle.std.specs.Prelude.{◌≡◌, ◌+◌, ◌*◌, ◌≤◌, true
 ghost use Rattle.design.specs.Action.{assignment, statement, list};
 ghost use Rattle.design.specs.Check.{names_of};
 ghost use Rattle.design.specs.State.{slot_count, layout_of};
-ghost use Rattle.design.specs.Tree.{bit};
 ghost use Rattle.step.specs.OneStep.{marked_if};
 ghost use Rattle.step.specs.Accepted.{is_read, past, after_stmt, after_list};
 
 use super::evaluate::{eval_bool, eval_int};
-use design::action::check_list;
 use design::bytes::wide;
-use design::expression::Found;
+use design::kind::Kind;
 use design::shape::Shape;
-
-pub fn bit_of(b: bool) -> u16
-    ensures { result ≡ bit b }
-{
-    if b { 1 } else { 0 }
-}
+use design::source::Source;
 
 // Sets the mark where what was carried out passed the end.
 pub fn mark_if(passed: bool, shape: Shape, slots: &mut [u16])
@@ -42,10 +35,13 @@ pub fn skip_list(
     requires { (end ≤ length text.now) × (3 * shape.variables ≤ length file.now) }
     ensures { result ≡ past (list text.now (names_of file.now shape) end nest at) }
 {
-    match check_list(text, file, at, end, shape, nest) {
-        Found::At(n) => n,
-        Found::Bad => 0,
-    }
+    let source = Source {
+        text,
+        end,
+        file,
+        shape,
+    };
+    source.check_list(at, nest).unwrap_or(0)
 }
 
 // What follows the operator byte of an assignment.
@@ -65,7 +61,7 @@ pub fn run_assign(
 {
     let v = wide(text[at]);
     let k = file[3 * v];
-    if k == 1 {
+    if k == Kind::Integer as u8 {
         let x = eval_int(text, at + 1, end, shape, slots);
         mark_if(x.passed, shape, slots);
         slots[v] = x.value;
@@ -73,7 +69,7 @@ pub fn run_assign(
     } else {
         let x = eval_bool(text, at + 1, end, shape, slots);
         mark_if(x.passed, shape, slots);
-        slots[v] = bit_of(x.value);
+        slots[v] = u16::from(x.value);
         x.next
     }
 }
@@ -132,11 +128,10 @@ pub fn run_list(
         ≡ after_list (layout_of shape) (list text.now (names_of file.now shape) end nest at) slots.old) × (result
         ≡ past (list text.now (names_of file.now shape) end nest at)) }
 {
-    let mut left = wide(text[at]);
+    let count = text[at];
     let mut p = at + 1;
-    while 0 < left {
+    for _ in 0..count {
         p = run_stmt(text, file, p, end, shape, nest, slots);
-        left = left - 1;
     }
     p
 }

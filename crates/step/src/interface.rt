@@ -7,12 +7,13 @@ ghost use Rattle.design.specs.Places.{Accepted, Shaped};
 ghost use Rattle.design.specs.Limits.{max_variables, max_matrices};
 ghost use Rattle.design.specs.State.{layout_of, slot_count};
 ghost use Rattle.step.specs.Pattern.{signed, wrap};
-ghost use Rattle.step.specs.Interface.{first_wrong, values_right, statuses_right};
+ghost use Rattle.step.specs.Interface.{wrong_at, values_right, statuses_right};
 ghost use Rattle.step.specs.Entries.{value_right, status_right, tests_of};
 
 use super::number::{integer, pattern};
 use design::index::{MATRICES_AT, trailer_word};
-use design::limits::{MAX_MATRICES, MAX_SLOTS, MAX_VARIABLES};
+use design::kind::Kind;
+use design::limits::{MAX_MATRICES, MAX_VARIABLES};
 use design::shape::Shape;
 
 // The entries that a call takes, the values as patterns; they are passed by value.
@@ -30,13 +31,7 @@ const MARK_PLACE: usize = MAX_VARIABLES + MAX_MATRICES;
 pub fn patterns(values: [i16; MAX_VARIABLES]) -> [u16; MAX_VARIABLES]
     ensures { result ≡ map wrap values }
 {
-    let mut out = [0u16; MAX_VARIABLES];
-    let mut i = 0;
-    while i < MAX_VARIABLES {
-        out[i] = pattern(values[i]);
-        i = i + 1;
-    }
-    out
+    values.map(pattern)
 }
 
 pub fn value_right(file: &[u8], variables: usize, i: usize, p: u16) -> bool
@@ -44,27 +39,23 @@ pub fn value_right(file: &[u8], variables: usize, i: usize, p: u16) -> bool
     ensures { result ≡ value_right file.now variables i p }
 {
     if variables <= i {
-        return p == 0;
+        p == 0
+    } else {
+        file[3 * i] == Kind::Integer as u8 || p <= 1
     }
-    if file[3 * i] == 1 {
-        return true;
-    }
-    p <= 1
 }
 
-// The index of the first wrong value; 32 where all are right.
-pub fn wrong_value(file: &[u8], variables: usize, ps: [u16; MAX_VARIABLES]) -> usize
+// The index of the first wrong value.
+pub fn wrong_value(file: &[u8], variables: usize, ps: [u16; MAX_VARIABLES]) -> Option<usize>
     requires { Accepted file.now × (variables ≡ variable_count file.now) }
-    ensures { (d : Design) → check file.now ≡ accepted d → result ≡ first_wrong (values_right d.variables ps) }
+    ensures { (d : Design) → check file.now ≡ accepted d → result ≡ wrong_at (values_right d.variables ps) }
 {
-    let mut i = 0;
-    while i < MAX_VARIABLES {
-        if !value_right(file, variables, i, ps[i]) {
-            return i;
+    for (i, p) in ps.iter().enumerate() {
+        if !value_right(file, variables, i, *p) {
+            return Some(i);
         }
-        i = i + 1;
     }
-    i
+    None
 }
 
 pub fn status_right(file: &[u8], mats: usize, matrices: usize, m: usize, s: u16) -> bool
@@ -72,46 +63,38 @@ pub fn status_right(file: &[u8], mats: usize, matrices: usize, m: usize, s: u16)
     ensures { result ≡ status_right file.now mats matrices m s }
 {
     if matrices <= m {
-        return s == 0;
+        s == 0
+    } else {
+        s < u16::from(file[mats + 2 * m])
     }
-    s < (file[mats + 2 * m] as u16)
 }
 
-// The index of the first wrong status; 8 where all are right.
-pub fn wrong_status(file: &[u8], matrices: usize, ss: [u16; MAX_MATRICES]) -> usize
+// The index of the first wrong status.
+pub fn wrong_status(file: &[u8], matrices: usize, ss: [u16; MAX_MATRICES]) -> Option<usize>
     requires { Accepted file.now × (matrices ≡ matrix_count file.now) }
-    ensures { (d : Design) → check file.now ≡ accepted d → result ≡ first_wrong (statuses_right d.statuses ss) }
+    ensures { (d : Design) → check file.now ≡ accepted d → result ≡ wrong_at (statuses_right d.statuses ss) }
 {
     let mats = trailer_word(file, MATRICES_AT);
-    let mut m = 0;
-    while m < MAX_MATRICES {
-        if !status_right(file, mats, matrices, m, ss[m]) {
-            return m;
+    for (m, s) in ss.iter().enumerate() {
+        if !status_right(file, mats, matrices, m, *s) {
+            return Some(m);
         }
-        m = m + 1;
     }
-    m
+    None
 }
 
-// The index of the first wrong entry, statuses from 32, the mark 40; 41 where all are right.
-pub fn wrong_entry(file: &[u8], shape: Shape, entries: Entries) -> usize
+// The index of the first wrong entry, statuses from 32, the mark 40.
+pub fn wrong_entry(file: &[u8], shape: Shape, entries: Entries) -> Option<usize>
     requires { Accepted file.now × Shaped file.now shape }
-    ensures { (d : Design) → check file.now ≡ accepted d → result ≡ first_wrong (tests_of d entries) }
+    ensures { (d : Design) → check file.now ≡ accepted d → result ≡ wrong_at (tests_of d entries) }
 {
-    let ps = entries.patterns;
-    let i = wrong_value(file, shape.variables, ps);
-    if i < MAX_VARIABLES {
-        return i;
+    if let Some(i) = wrong_value(file, shape.variables, entries.patterns) {
+        return Some(i);
     }
-    let ss = entries.statuses;
-    let m = wrong_status(file, shape.matrices, ss);
-    if m < MAX_MATRICES {
-        return MAX_VARIABLES + m;
+    if let Some(m) = wrong_status(file, shape.matrices, entries.statuses) {
+        return Some(MAX_VARIABLES + m);
     }
-    if 1 < entries.mark {
-        return MARK_PLACE;
-    }
-    MAX_SLOTS
+    (1 < entries.mark).then_some(MARK_PLACE)
 }
 
 // The first n of `from` into the slots at `at`.
@@ -119,11 +102,7 @@ pub fn copy_slots(from: &[u16], n: usize, at: usize, slots: &mut [u16])
     requires { (n ≤ length from.now) × (at + n ≤ length slots.old) }
     ensures { slots.new ≡ paste slots.old at from.now n }
 {
-    let mut i = 0;
-    while i < n {
-        slots[at + i] = from[i];
-        i = i + 1;
-    }
+    slots[at..at + n].copy_from_slice(&from[..n]);
 }
 
 // The values of the first n slots, and 0 after them.
@@ -132,10 +111,8 @@ pub fn give_values(n: usize, slots: &[u16]) -> [i16; MAX_VARIABLES]
     ensures { result ≡ take n (map signed slots.now) ++ replicate (max_variables - n) (pos 0) }
 {
     let mut out = [0i16; MAX_VARIABLES];
-    let mut i = 0;
-    while i < n {
+    for i in 0..n {
         out[i] = integer(slots[i]);
-        i = i + 1;
     }
     out
 }
@@ -146,11 +123,7 @@ pub fn give_statuses(n: usize, k: usize, slots: &[u16]) -> [u16; MAX_MATRICES]
     ensures { result ≡ take k (drop n slots.now) ++ replicate (max_matrices - k) 0 }
 {
     let mut out = [0u16; MAX_MATRICES];
-    let mut i = 0;
-    while i < k {
-        out[i] = slots[n + i];
-        i = i + 1;
-    }
+    out[..k].copy_from_slice(&slots[n..n + k]);
     out
 }
 

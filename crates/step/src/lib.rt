@@ -14,20 +14,18 @@ pub mod property;
 pub mod replaying;
 
 ghost use Rattle.std.specs.Prelude.{◌≡◌};
+ghost use Rattle.design.specs.Answer.{told};
 ghost use Rattle.step.specs.Operations.{START, STEP, HOLDS, REPLAY};
 
-use calls::{
-    holds_accepted, refuse_holds, refuse_start, refuse_step, start_accepted, step_accepted,
-};
-use design::Refusal;
+use calls::{holds_accepted, start_accepted, step_accepted};
 use design::limits::{MAX_MATRICES, MAX_VARIABLES};
+use design::refusal::Refused;
 use gate::gate;
-use replaying::{refuse_replay, replay_accepted};
+use replaying::replay_accepted;
 
-// A refusal of number 0 is none.
+// A state as the calls give it.
 #[derive(Clone, Copy)]
 pub struct Started {
-    pub refusal: Refusal,
     pub values: [i16; MAX_VARIABLES],
     pub statuses: [u16; MAX_MATRICES],
     pub mark: u16,
@@ -35,38 +33,26 @@ pub struct Started {
 
 #[derive(Clone, Copy)]
 pub struct Stepped {
-    pub refusal: Refusal,
     pub values: [i16; MAX_VARIABLES],
     pub statuses: [u16; MAX_MATRICES],
     pub mark: u16,
     pub idle: bool,
 }
 
-#[derive(Clone, Copy)]
-pub struct Held {
-    pub refusal: Refusal,
-    pub holds: bool,
-}
-
 // The first breaking step, where there is one; how many choices had their event read, and how many their guard.
 #[derive(Clone, Copy)]
 pub struct Replayed {
-    pub refusal: Refusal,
-    pub broken: bool,
-    pub step: usize,
+    pub broken: Option<usize>,
     pub events: usize,
     pub guards: usize,
 }
 
 // START
-pub fn start(file: &[u8]) -> Started
-    ensures { result ≡ START file.now }
+pub fn start(file: &[u8]) -> Result<Started, Refused>
+    ensures { told result ≡ START file.now }
 {
-    let checked = design::check(file);
-    if checked.number != 0 {
-        return refuse_start(checked.number, checked.place);
-    }
-    start_accepted(file)
+    design::check(file)?;
+    Ok(start_accepted(file))
 }
 
 // STEP
@@ -76,13 +62,10 @@ pub fn step(
     statuses: [u16; MAX_MATRICES],
     mark: u16,
     choice: u64,
-) -> Stepped
-    ensures { result ≡ STEP file.now values statuses mark choice }
+) -> Result<Stepped, Refused>
+    ensures { told result ≡ STEP file.now values statuses mark choice }
 {
-    let checked = design::check(file);
-    if checked.number != 0 {
-        return refuse_step(checked.number, checked.place);
-    }
+    design::check(file)?;
     step_accepted(file, values, statuses, mark, choice)
 }
 
@@ -93,23 +76,22 @@ pub fn holds(
     statuses: [u16; MAX_MATRICES],
     mark: u16,
     property: u64,
-) -> Held
-    ensures { result ≡ HOLDS file.now values statuses mark property }
+) -> Result<bool, Refused>
+    ensures { told result ≡ HOLDS file.now values statuses mark property }
 {
-    let checked = design::check(file);
-    if checked.number != 0 {
-        return refuse_holds(checked.number, checked.place);
-    }
+    design::check(file)?;
     holds_accepted(file, values, statuses, mark, property)
 }
 
 // REPLAY
-pub fn replay<'a>(file: &'a [u8], piece: &'a [u8], property: u64, choices: &[u8]) -> Replayed
-    ensures { result ≡ REPLAY file.now piece.now property choices.now }
+pub fn replay<'a>(
+    file: &'a [u8],
+    piece: &'a [u8],
+    property: u64,
+    choices: &[u8],
+) -> Result<Replayed, Refused>
+    ensures { told result ≡ REPLAY file.now piece.now property choices.now }
 {
-    let refusal = gate(file, piece, property, choices.len() as u64);
-    if refusal.number != 0 {
-        return refuse_replay(refusal.number, refusal.place);
-    }
+    gate(file, piece, property, choices.len() as u64)?;
     replay_accepted(file, piece, property, choices)
 }

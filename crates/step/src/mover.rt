@@ -84,10 +84,7 @@ pub fn status_and_event(
         ≡ status_and_event (layout_of shape) slots.now (c_matrix file.now p) (c_status file.now p)
         (event_in parts.rows (c_matrix file.now p) (c_event file.now p)) }
 {
-    if !status_stands(file, shape, p, slots) {
-        return false;
-    }
-    cell_event(file, events, shape, p, slots)
+    status_stands(file, shape, p, slots) && cell_event(file, events, shape, p, slots)
 }
 
 // Whether the guard of a normal cell is true.
@@ -96,11 +93,7 @@ pub fn guard_true(file: &[u8], shape: Shape, p: usize, slots: &[u16]) -> bool
     ensures { (x : NormalCell file.now p) → result ≡ eval_bool (layout_of shape) slots.now x.cell.guard }
 {
     let n = wide(file[p + 5]);
-    if n == 0 {
-        return true;
-    }
-    let x = eval_bool(file, p + 8, p + 8 + n, shape, slots);
-    x.value
+    n == 0 || eval_bool(file, p + 8, p + 8 + n, shape, slots).value
 }
 
 // An enabled cell moves: its statements run, and the status becomes the target.
@@ -112,7 +105,7 @@ pub fn act_cell(file: &[u8], shape: Shape, p: usize, slots: &mut [u16])
     let past = middle + word(file, p + 6);
     run_list(file, file, middle, past, shape, MAX_NEST, slots);
     let m = wide(file[p]);
-    slots[shape.variables + m] = file[p + 4] as u16;
+    slots[shape.variables + m] = u16::from(file[p + 4]);
 }
 
 // A normal cell moves, if it is enabled: its status is compared first, then its event, then its guard, and it leaves off at the first that fails.
@@ -127,32 +120,16 @@ pub fn move_cell(
     ensures { (x : NormalCell file.now p) → (slots.new ≡ moves (layout_of shape) slots.old (cell x.cell)) × (result
         ≡ tested_of (layout_of shape) slots.old (cell x.cell)) }
 {
-    if !status_stands(file, shape, p, slots) {
-        return Tested {
-            event: false,
-            guard: false,
-            idle: true,
-        };
+    let event = status_stands(file, shape, p, slots);
+    let guard = event && cell_event(file, events, shape, p, slots);
+    let enabled = guard && guard_true(file, shape, p, slots);
+    if enabled {
+        act_cell(file, shape, p, slots);
     }
-    if !cell_event(file, events, shape, p, slots) {
-        return Tested {
-            event: true,
-            guard: false,
-            idle: true,
-        };
-    }
-    if !guard_true(file, shape, p, slots) {
-        return Tested {
-            event: true,
-            guard: true,
-            idle: true,
-        };
-    }
-    act_cell(file, shape, p, slots);
     Tested {
-        event: true,
-        guard: true,
-        idle: false,
+        event,
+        guard,
+        idle: !enabled,
     }
 }
 
@@ -161,18 +138,14 @@ pub fn move_external(v: usize, slots: &mut [u16]) -> Tested
     requires { v < length slots.old }
     ensures { (l : Layout) → (slots.new ≡ moves l slots.old (raise v)) × (result ≡ tested_of l slots.old (raise v)) }
 {
-    if 0 < slots[v] {
-        return Tested {
-            event: false,
-            guard: false,
-            idle: true,
-        };
+    let enabled = slots[v] == 0;
+    if enabled {
+        slots[v] = 1;
     }
-    slots[v] = 1;
     Tested {
         event: false,
         guard: false,
-        idle: false,
+        idle: !enabled,
     }
 }
 
@@ -201,13 +174,9 @@ pub fn keep_state(pair: &mut [u16], n: usize, keep: bool)
     requires { length pair.old ≡ n + n }
     ensures { pair.new ≡ kept_in keep n pair.old ++ drop n pair.old }
 {
-    if !keep {
-        return;
-    }
-    let mut i = 0;
-    while i < n {
-        pair[i] = pair[n + i];
-        i = i + 1;
+    if keep {
+        let (before, now) = pair.split_at_mut(n);
+        before.copy_from_slice(now);
     }
 }
 

@@ -4,10 +4,10 @@ ghost use Rattle.design.specs.Places.{Accepted};
 ghost use Rattle.step.specs.Piece.{piece_right};
 ghost use Rattle.step.specs.Ready.{expression_text};
 
-use design::expression::{Found, check_bool};
 use design::index::{invariant, trailer_counts};
 use design::limits::{MAX_BYTES, MAX_DEPTH};
 use design::shape::shape_of;
+use design::source::Source;
 
 // Whether the piece, if it has any bytes, is one Boolean expression that fills its length, of at most MAX_BYTES. For properties other than 0 it is not read.
 pub fn piece_right(file: &[u8], piece: &[u8], property: u64) -> bool
@@ -25,10 +25,13 @@ pub fn piece_right(file: &[u8], piece: &[u8], property: u64) -> bool
         return false;
     }
     let shape = shape_of(trailer_counts(file));
-    match check_bool(piece, file, 0, len, shape, false, MAX_DEPTH) {
-        Found::At(n) => n == len,
-        Found::Bad => false,
-    }
+    let source = Source {
+        text: piece,
+        end: len,
+        file,
+        shape,
+    };
+    source.check_bool(0, false, MAX_DEPTH) == Some(len)
 }
 
 // The bytes of property 0's expression: the piece if it has any bytes, else the invariant's part of the file.
@@ -36,11 +39,9 @@ pub fn expression<'a>(file: &'a [u8], piece: &'a [u8]) -> &'a [u8]
     requires { Accepted file.now }
     ensures { result.now ≡ expression_text file.now piece.now }
 {
-    if 0 < piece.len() {
-        return piece;
+    if piece.is_empty() {
+        &file[invariant(file)]
+    } else {
+        piece
     }
-    let stands = invariant(file);
-    let at = stands.at;
-    let end = stands.end;
-    &file[at..end]
 }

@@ -18,6 +18,7 @@ use super::mover::status_and_event;
 use super::piece::expression;
 use design::bytes::{wide, word};
 use design::index::{CELLS, CELLS_AT, constraint, has_constraint, trailer_word};
+use design::kind::CellKind;
 use design::limits::EVENT_PLACES;
 use design::shape::{Shape, slot_count};
 
@@ -38,15 +39,12 @@ pub fn no_invalid(file: &[u8], events: &[u16; EVENT_PLACES], shape: Shape, slots
 {
     let count = trailer_word(file, CELLS);
     let mut p = trailer_word(file, CELLS_AT);
-    let mut i = 0;
-    while i < count {
-        if file[p + 3] != 0 {
-            if status_and_event(file, events, shape, p, slots) {
-                return false;
-            }
+    for _ in 0..count {
+        let invalid = file[p + 3] != CellKind::Normal as u8;
+        if invalid && status_and_event(file, events, shape, p, slots) {
+            return false;
         }
         p = p + 8 + wide(file[p + 5]) + word(file, p + 6);
-        i = i + 1;
     }
     true
 }
@@ -98,7 +96,7 @@ pub fn constraint_true(file: &[u8], shape: Shape, pair: &[u16]) -> bool
         return true;
     }
     let stands = constraint(file);
-    let x = eval_bool(file, stands.at, stands.end, shape, pair);
+    let x = eval_bool(file, stands.start, stands.end, shape, pair);
     x.value
 }
 
@@ -118,7 +116,7 @@ pub fn true_at<'a>(
         → result ≡ true_at d (property_of file.now piece.now d property) (before_in first (slot_count shape) pair.now) (drop (slot_count shape) pair.now) }
 {
     let n = slot_count(shape);
-    if property <= LAST_STATE_PROPERTY {
+    if !judges_steps(property) {
         return property_true(file, piece, events, shape, property, &pair[n..]);
     }
     if first {

@@ -1,41 +1,33 @@
 // A list of choices, run from the first state.
-ghost use Rattle.std.specs.Prelude.{◌≡◌, ℕ, ◌+◌, ◌<◌, ◌≤◌, true, not, ◌||◌, map, length, drop, replicate, if◌then◌else◌, ◌==◌, nat_lt};
-ghost use Rattle.design.specs.Tree.{Design, bit};
+ghost use Rattle.std.specs.Prelude.{◌≡◌, ℕ, ◌+◌, ◌<◌, ◌≤◌, true, ◌||◌, Some, is_some, map, length, drop, replicate, if◌then◌else◌, ◌==◌, nat_lt};
+ghost use Rattle.design.specs.Tree.{Design};
 ghost use Rattle.design.specs.State.{start, slot_count};
 ghost use Rattle.design.specs.Check.{check, accepted};
-ghost use Rattle.design.specs.Answer.{refused, answer};
+ghost use Rattle.design.specs.Answer.{told};
 ghost use Rattle.design.specs.Places.{Accepted, Shaped};
 ghost use Rattle.design.specs.Sections.{Parts};
 ghost use Rattle.step.specs.Limits.{last_property, max_bound};
-ghost use Rattle.step.specs.Interface.{first_wrong};
+ghost use Rattle.step.specs.Interface.{wrong_at};
 ghost use Rattle.step.specs.Piece.{piece_right};
 ghost use Rattle.step.specs.Property.{property_of};
 ghost use Rattle.step.specs.OneStep.{true_at};
-ghost use Rattle.step.specs.Operations.{run_told, replayed, REPLAY};
+ghost use Rattle.step.specs.Operations.{run_told, REPLAY};
 ghost use Rattle.step.specs.Ready.{ReadyPair, before_in, Replayable};
 
 use super::Replayed;
 use super::mover::step_pair;
 use super::property::{judges_steps, true_at};
-use design::Refusal;
 use design::bytes::{wide, word};
 use design::index::{index_cells, index_events, shape};
 use design::limits::{EVENT_PLACES, MAX_MOVERS, PAIR_SLOTS};
+use design::refusal::Refused;
 use design::shape::{Shape, slot_count};
 
-// The place of the first choice that is not below w; the length where all are.
-pub fn first_over(choices: &[u8], w: usize) -> usize
-    ensures { result ≡ first_wrong (map (λ (c : ℕ). nat_lt c w) choices.now) }
+// The place of the first choice that is not below w.
+pub fn first_over(choices: &[u8], w: usize) -> Option<usize>
+    ensures { result ≡ wrong_at (map (λ (c : ℕ). nat_lt c w) choices.now) }
 {
-    let mut i = 0;
-    while i < choices.len() {
-        let c = wide(choices[i]);
-        if w <= c {
-            return i;
-        }
-        i = i + 1;
-    }
-    i
+    choices.iter().position(|choice| w <= wide(*choice))
 }
 
 // The first state, in slots that are 0, as its statuses and its mark are.
@@ -43,10 +35,8 @@ pub fn load_start(file: &[u8], shape: Shape, slots: &mut [u16])
     requires { Accepted file.now × Shaped file.now shape × (slots.old ≡ replicate (slot_count shape) 0) }
     ensures { (d : Design) → check file.now ≡ accepted d → slots.new ≡ start d }
 {
-    let mut v = 0;
-    while v < shape.variables {
+    for v in 0..shape.variables {
         slots[v] = word(file, 3 * v + 1) as u16;
-        v = v + 1;
     }
 }
 
@@ -57,56 +47,31 @@ pub struct Query {
     pub property: u64,
 }
 
-// Whether the property is false at step i or was before. Past the first break it is not judged.
-pub fn broken_at<'a>(
-    broken: bool,
+// The first step at which the property is false, up to step i. Past the first break it is not judged.
+pub fn broken_by<'a>(
+    broken: Option<usize>,
     file: &'a [u8],
     piece: &'a [u8],
     events: &[u16; EVENT_PLACES],
     query: Query,
     i: usize,
     pair: &[u16],
-) -> bool
+) -> Option<usize>
     requires { ReadyPair file.now events.now query.shape pair.now × (piece_right file.now piece.now query.property ≡ true) }
     ensures { (d : Design) (parts : Parts file.now d)
-        → result ≡ (broken || not (true_at d (property_of file.now piece.now d query.property) (before_in (i == 0) (slot_count query.shape) pair.now) (drop (slot_count query.shape) pair.now))) }
+        → result ≡ (if is_some broken || true_at d (property_of file.now piece.now d query.property) (before_in (i == 0) (slot_count query.shape) pair.now) (drop (slot_count query.shape) pair.now) then broken else Some i) }
 {
-    if broken {
-        return true;
-    }
-    !true_at(
-        file,
-        piece,
-        events,
-        query.shape,
-        query.property,
-        i == 0,
-        pair,
-    )
-}
-
-// The first step that broke: i, if the first break is now.
-pub fn first_step(was: bool, broken: bool, step: usize, i: usize) -> usize
-    ensures { result ≡ (if was then step else (if broken then i else step)) }
-{
-    if was {
-        return step;
-    }
-    if broken {
-        return i;
-    }
-    step
-}
-
-// One more, if it is counted.
-pub fn count_if(n: usize, counted: bool) -> usize
-    requires { n < max_bound }
-    ensures { result ≡ n + bit counted }
-{
-    if counted {
-        return n + 1;
-    }
-    n
+    let holds = broken.is_some()
+        || true_at(
+            file,
+            piece,
+            events,
+            query.shape,
+            query.property,
+            i == 0,
+            pair,
+        );
+    if holds { broken } else { Some(i) }
 }
 
 // The run from the second state of `pair`: the first step at which the property is false, and the counts of all choices. Each choice acts on the pair in place.
@@ -121,38 +86,28 @@ pub fn replay_choices<'a>(
 ) -> Replayed
     requires { Replayable file.now piece.now events.now cells.now query pair.old choices.now }
     ensures { (d : Design) → check file.now ≡ accepted d
-        → result ≡ replayed (answer (run_told d (property_of file.now piece.now d query.property) (drop (slot_count query.shape) pair.old) choices.now)) }
+        → result ≡ run_told d (property_of file.now piece.now d query.property) (drop (slot_count query.shape) pair.old) choices.now }
 {
-    let mut broken = false;
-    let mut step = 0;
+    let mut broken = None;
     let mut read = 0;
     let mut guards = 0;
-    let mut i = 0;
-    while i < choices.len() {
-        let now = broken_at(broken, file, piece, events, query, i, pair);
-        step = first_step(broken, now, step, i);
-        broken = now;
+    for (i, choice) in choices.iter().enumerate() {
+        broken = broken_by(broken, file, piece, events, query, i, pair);
         let tested = step_pair(
             file,
             events,
             cells,
             query.shape,
-            wide(choices[i]),
+            wide(*choice),
             judges_steps(query.property),
             pair,
         );
-        read = count_if(read, tested.event);
-        guards = count_if(guards, tested.guard);
-        i = i + 1;
+        read += usize::from(tested.event);
+        guards += usize::from(tested.guard);
     }
-    let now = broken_at(broken, file, piece, events, query, i, pair);
+    let broken = broken_by(broken, file, piece, events, query, choices.len(), pair);
     Replayed {
-        refusal: Refusal {
-            number: 0,
-            place: 0,
-        },
-        broken: now,
-        step: first_step(broken, now, step, i),
+        broken,
         events: read,
         guards,
     }
@@ -170,24 +125,12 @@ pub fn replay_slots<'a>(
 ) -> Replayed
     requires { Replayable file.now piece.now events.now cells.now query pair.old choices.now × (pair.old ≡ replicate (slot_count query.shape + slot_count query.shape) 0) }
     ensures { (d : Design) → check file.now ≡ accepted d
-        → result ≡ replayed (answer (run_told d (property_of file.now piece.now d query.property) (start d) choices.now)) }
+        → result ≡ run_told d (property_of file.now piece.now d query.property) (start d) choices.now }
 {
     let shape = query.shape;
     let n = slot_count(shape);
     load_start(file, shape, &mut pair[n..]);
     replay_choices(file, piece, events, cells, query, choices, pair)
-}
-
-pub fn refuse_replay(number: u8, place: usize) -> Replayed
-    ensures { result ≡ replayed (refused number place) }
-{
-    Replayed {
-        refusal: Refusal { number, place },
-        broken: false,
-        step: 0,
-        events: 0,
-        guards: 0,
-    }
 }
 
 // On an accepted file, with a right property and piece and few choices: the tables are filled once, for all steps.
@@ -196,23 +139,22 @@ pub fn replay_accepted<'a>(
     piece: &'a [u8],
     property: u64,
     choices: &[u8],
-) -> Replayed
+) -> Result<Replayed, Refused>
     requires { Accepted file.now × (property ≤ last_property file.now) × (piece_right file.now piece.now property ≡ true) × (length choices.now ≤ max_bound) }
-    ensures { result ≡ REPLAY file.now piece.now property choices.now }
+    ensures { told result ≡ REPLAY file.now piece.now property choices.now }
 {
     let mut cells = [0u16; MAX_MOVERS];
     let normals = index_cells(file, &mut cells);
     let shape = shape(file, normals);
-    let over = first_over(choices, shape.normals + shape.externals);
-    if over < choices.len() {
-        return refuse_replay(12, over);
+    if let Some(over) = first_over(choices, shape.normals + shape.externals) {
+        return Err(Refused::Choice(over));
     }
     let mut events = [0u16; EVENT_PLACES];
     index_events(file, &mut events);
     let mut all = [0u16; PAIR_SLOTS];
     let n = slot_count(shape);
     let end = n + n;
-    replay_slots(
+    Ok(replay_slots(
         file,
         piece,
         &events,
@@ -220,5 +162,5 @@ pub fn replay_accepted<'a>(
         Query { shape, property },
         choices,
         &mut all[..end],
-    )
+    ))
 }

@@ -13,7 +13,7 @@ load_entries-requires c =
 
 pub property_true-requires : goal.property_true-requires
 property_true-requires c =
-    (ready_same _ _ _ _ _ (omega (arith, c.slots-1.given)) c.requires.0, no_piece_right _ _, c.requires.1)
+    (ready_same _ _ _ _ _ (omega arith) c.requires.0, no_piece_right _ _, c.requires.1)
 
 pub returns : goal.returns
 returns c =

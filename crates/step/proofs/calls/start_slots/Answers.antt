@@ -5,37 +5,18 @@ use Rattle.step.proofs.Replays.{zeros_long}
 use Rattle.step.proofs.States.{start_answer_lem}
 use Rattle.step.proofs.calls.start_slots.Goals as goal
 
-pub give_values-values-requires : goal.give_values-values-requires
-give_values-values-requires c =
-    omega (
-      arith,
-      zeros_long (slot_count c.args.shape) c.args.slots.now c.requires.2,
-      c.slots-1.given,
-      sized _ c.requires.0 _ c.requires.1,
-    )
+pub give_values-requires : goal.give_values-requires
+give_values-requires c =
+    omega (arith, zeros_long (slot_count c.args.shape) c.args.slots.now c.requires.2, sized _ c.requires.0 _ c.requires.1)
 
-pub give_statuses-statuses-requires : goal.give_statuses-statuses-requires
-give_statuses-statuses-requires c =
-    omega (
-      arith,
-      zeros_long (slot_count c.args.shape) c.args.slots.now c.requires.2,
-      c.slots-1.given,
-      sized _ c.requires.0 _ c.requires.1,
-    )
-
-pub give_mark-mark-requires : goal.give_mark-mark-requires
-give_mark-mark-requires c =
-    omega (
-      arith,
-      zeros_long (slot_count c.args.shape) c.args.slots.now c.requires.2,
-      c.slots-1.given,
-      sized _ c.requires.0 _ c.requires.1,
-    )
+pub give_statuses-requires : goal.give_statuses-requires
+give_statuses-requires c =
+    omega (arith, zeros_long (slot_count c.args.shape) c.args.slots.now c.requires.2, sized _ c.requires.0 _ c.requires.1)
 
 pub returns : goal.returns
 returns c =
     start_answer_lem _ c.requires.0 _ c.requires.1 _ _ _ _ c.load_start.ensures (record {
-      values = c.give_values-values.ensures;
-      statuses = c.give_statuses-statuses.ensures;
-      mark = c.give_mark-mark.ensures;
+      values = c.give_values.ensures;
+      statuses = c.give_statuses.ensures;
+      mark = c.give_mark.ensures;
     })

@@ -15,22 +15,9 @@ pub bounds-text-p : goal.bounds-text-p
 bounds-text-p t c =
     omega (arith, (bool_constant _ _ _ _ _ c.requires.0.4 c.in-16.is).0)
 
-pub overflow_add-p-in-16 : goal.overflow_add-p-in-16
-overflow_add-p-in-16 t c =
-    omega (arith, (bool_constant _ _ _ _ _ c.requires.0.4 c.in-16.is).0)
-
 pub bounds-text-p-in-17 : goal.bounds-text-p-in-17
 bounds-text-p-in-17 t c =
     omega (arith, (bool_variable _ _ _ _ _ c.requires.0.4 false c.in-17.is).0)
-
-pub offset_bounds-slots-v : goal.offset_bounds-slots-v
-offset_bounds-slots-v t c =
-    omega (
-      arith,
-      c.wide-v.ensures.0,
-      boolean_slot c.args.text.now c.args.shape _ _ _ c.requires.0 false
-          c.in-17.is,
-    )
 
 pub bounds-slots-v : goal.bounds-slots-v
 bounds-slots-v t c =
@@ -41,10 +28,6 @@ bounds-slots-v t c =
           c.in-17.is,
     )
 
-pub overflow_add-p-in-17 : goal.overflow_add-p-in-17
-overflow_add-p-in-17 t c =
-    omega (arith, (bool_variable _ _ _ _ _ c.requires.0.4 false c.in-17.is).0)
-
 pub eval_bool-a-requires : goal.eval_bool-a-requires
 eval_bool-a-requires t c = let (file, depth, later, fits, h) = c.requires.0 in
     (omega (arith, (bool_live _ _ _ _ _ h).inside), ((file, depth - 1, later, fits, not_first _ _ _ _ _ h c.in-18.is), omega arith))
@@ -52,42 +35,6 @@ eval_bool-a-requires t c = let (file, depth, later, fits, h) = c.requires.0 in
 pub bounds-text-p-in-23 : goal.bounds-text-p-in-23
 bounds-text-p-in-23 t c =
     omega (arith, (bool_variable _ _ _ _ _ c.requires.0.4 true c.in-23.is).0)
-
-pub overflow_add-shape : goal.overflow_add-shape
-overflow_add-shape t c =
-    omega (
-      arith,
-      c.wide-v-in-23.ensures.0,
-      boolean_slot c.args.text.now c.args.shape _ _ _ c.requires.0 true
-          c.in-23.is,
-    )
-
-pub overflow_add-shape-in-23 : goal.overflow_add-shape-in-23
-overflow_add-shape-in-23 t c =
-    omega (
-      arith,
-      c.wide-v-in-23.ensures.0,
-      boolean_slot c.args.text.now c.args.shape _ _ _ c.requires.0 true
-          c.in-23.is,
-    )
-
-pub overflow_add-shape-in-23-2 : goal.overflow_add-shape-in-23-2
-overflow_add-shape-in-23-2 t c =
-    omega (
-      arith,
-      c.wide-v-in-23.ensures.0,
-      boolean_slot c.args.text.now c.args.shape _ _ _ c.requires.0 true
-          c.in-23.is,
-    )
-
-pub offset_bounds-slots-shape : goal.offset_bounds-slots-shape
-offset_bounds-slots-shape t c =
-    omega (
-      arith,
-      c.wide-v-in-23.ensures.0,
-      boolean_slot c.args.text.now c.args.shape _ _ _ c.requires.0 true
-          c.in-23.is,
-    )
 
 pub bounds-slots-shape : goal.bounds-slots-shape
 bounds-slots-shape t c =
@@ -97,10 +44,6 @@ bounds-slots-shape t c =
       boolean_slot c.args.text.now c.args.shape _ _ _ c.requires.0 true
           c.in-23.is,
     )
-
-pub overflow_add-p-in-23 : goal.overflow_add-p-in-23
-overflow_add-p-in-23 t c =
-    omega (arith, (bool_variable _ _ _ _ _ c.requires.0.4 true c.in-23.is).0)
 
 pub eval_bool-a-requires-in-19-to-20 : goal.eval_bool-a-requires-in-19-to-20
 eval_bool-a-requires-in-19-to-20 t c =
@@ -143,9 +86,9 @@ unfolding eval_bool passes_bool
 returns-in-16 t c =
     λ file depth later h.
     let k = bool_constant _ _ _ _ _ h c.in-16.is in (
-      c.bool_at.ensures.0 ∙ truth_test (get_or c.args.text.now (c.args.at + 1) 0) ∙ sym (ap (bool_value _ _) k.1),
-      c.bool_at.ensures.1 ∙ sym (ap past k.1),
-      c.bool_at.ensures.2 ∙ sym (ap (bool_passes _ _) k.1),
+      c.plain.ensures.0 ∙ truth_test (get_or c.args.text.now (c.args.at + 1) 0) ∙ sym (ap (bool_value _ _) k.1),
+      c.plain.ensures.1 ∙ sym (ap past k.1),
+      c.plain.ensures.2 ∙ sym (ap (bool_passes _ _) k.1),
     )
 
 pub returns-in-17 : goal.returns-in-17
@@ -153,10 +96,10 @@ unfolding eval_bool passes_bool
 returns-in-17 t c =
     λ file depth later h.
     let k = bool_variable _ _ _ _ _ h false c.in-17.is in (
-      c.bool_at-in-17.ensures.0 ∙ ap (λ (v : ℕ). ltb 0 (get_or c.args.slots.now v 0)) c.wide-v.ensures.0 ∙ truth_test (get_or
+      c.plain-in-17.ensures.0 ∙ ap (λ (v : ℕ). ltb 0 (get_or c.args.slots.now v 0)) c.wide-v.ensures.0 ∙ truth_test (get_or
           c.args.slots.now (get_or c.args.text.now (c.args.at + 1) 0) 0) ∙ sym (ap (bool_value _ _) k.2),
-      c.bool_at-in-17.ensures.1 ∙ sym (ap past k.2),
-      c.bool_at-in-17.ensures.2 ∙ sym (ap (bool_passes _ _) k.2),
+      c.plain-in-17.ensures.1 ∙ sym (ap past k.2),
+      c.plain-in-17.ensures.2 ∙ sym (ap (bool_passes _ _) k.2),
     )
 
 pub returns-in-18 : goal.returns-in-18
@@ -171,12 +114,12 @@ unfolding eval_bool passes_bool
 returns-in-23 t c =
     λ file depth later h.
     let k = bool_variable _ _ _ _ _ h true c.in-23.is in (
-      c.bool_at-in-23.ensures.0 ∙ ap (λ (v : ℕ). ltb 0 (get_or c.args.slots.now
+      c.plain-in-23.ensures.0 ∙ ap (λ (v : ℕ). ltb 0 (get_or c.args.slots.now
           (c.args.shape.variables + c.args.shape.matrices + 1 + v) 0)) c.wide-v-in-23.ensures.0
           ∙ truth_test (get_or c.args.slots.now (c.args.shape.variables + c.args.shape.matrices + 1 + get_or c.args.text.now
           (c.args.at + 1) 0) 0) ∙ sym (ap (bool_value _ _) k.2),
-      c.bool_at-in-23.ensures.1 ∙ sym (ap past k.2),
-      c.bool_at-in-23.ensures.2 ∙ sym (ap (bool_passes _ _) k.2),
+      c.plain-in-23.ensures.1 ∙ sym (ap past k.2),
+      c.plain-in-23.ensures.2 ∙ sym (ap (bool_passes _ _) k.2),
     )
 
 pub returns-in-19-to-20 : goal.returns-in-19-to-20

@@ -15,24 +15,9 @@ overflow_add-p t c = omega (arith, (int_live _ _ _ _ _ c.requires.0.4).inside)
 pub word-requires : goal.word-requires
 word-requires t c = omega (arith, (int_constant _ _ _ _ _ c.requires.0.4 c.in-1.is).0)
 
-pub overflow_cast-word : goal.overflow_cast-word
-overflow_cast-word t c = omega (arith, c.word.ensures.1)
-
-pub overflow_add-p-in-1 : goal.overflow_add-p-in-1
-overflow_add-p-in-1 t c = omega (arith, (int_constant _ _ _ _ _ c.requires.0.4 c.in-1.is).0)
-
 pub bounds-text-p : goal.bounds-text-p
 bounds-text-p t c =
     omega (arith, (int_variable _ _ _ _ _ c.requires.0.4 false c.in-2.is).0)
-
-pub offset_bounds-slots-v : goal.offset_bounds-slots-v
-offset_bounds-slots-v t c =
-    omega (
-      arith,
-      c.wide-v.ensures.0,
-      integer_slot c.args.text.now c.args.shape _ _ _ c.requires.0 false
-          c.in-2.is,
-    )
 
 pub bounds-slots-v : goal.bounds-slots-v
 bounds-slots-v t c =
@@ -43,31 +28,9 @@ bounds-slots-v t c =
           c.in-2.is,
     )
 
-pub overflow_add-p-in-2 : goal.overflow_add-p-in-2
-overflow_add-p-in-2 t c =
-    omega (arith, (int_variable _ _ _ _ _ c.requires.0.4 false c.in-2.is).0)
-
 pub bounds-text-p-in-3 : goal.bounds-text-p-in-3
 bounds-text-p-in-3 t c =
     omega (arith, (int_status _ _ _ _ _ c.requires.0.4 false c.in-3.is).0)
-
-pub overflow_add-shape : goal.overflow_add-shape
-overflow_add-shape t c =
-    omega (
-      arith,
-      c.wide-m.ensures.0,
-      status_slot_lem c.args.text.now c.args.shape _ _ _ c.requires.0 false
-          c.in-3.is,
-    )
-
-pub offset_bounds-slots-shape : goal.offset_bounds-slots-shape
-offset_bounds-slots-shape t c =
-    omega (
-      arith,
-      c.wide-m.ensures.0,
-      status_slot_lem c.args.text.now c.args.shape _ _ _ c.requires.0 false
-          c.in-3.is,
-    )
 
 pub bounds-slots-shape : goal.bounds-slots-shape
 bounds-slots-shape t c =
@@ -78,49 +41,9 @@ bounds-slots-shape t c =
           c.in-3.is,
     )
 
-pub overflow_add-p-in-3 : goal.overflow_add-p-in-3
-overflow_add-p-in-3 t c =
-    omega (arith, (int_status _ _ _ _ _ c.requires.0.4 false c.in-3.is).0)
-
 pub bounds-text-p-in-6 : goal.bounds-text-p-in-6
 bounds-text-p-in-6 t c =
     omega (arith, (int_variable _ _ _ _ _ c.requires.0.4 true c.in-6.is).0)
-
-pub overflow_add-shape-in-6 : goal.overflow_add-shape-in-6
-overflow_add-shape-in-6 t c =
-    omega (
-      arith,
-      c.wide-v-in-6.ensures.0,
-      integer_slot c.args.text.now c.args.shape _ _ _ c.requires.0 true
-          c.in-6.is,
-    )
-
-pub overflow_add-shape-in-6-2 : goal.overflow_add-shape-in-6-2
-overflow_add-shape-in-6-2 t c =
-    omega (
-      arith,
-      c.wide-v-in-6.ensures.0,
-      integer_slot c.args.text.now c.args.shape _ _ _ c.requires.0 true
-          c.in-6.is,
-    )
-
-pub overflow_add-shape-in-6-3 : goal.overflow_add-shape-in-6-3
-overflow_add-shape-in-6-3 t c =
-    omega (
-      arith,
-      c.wide-v-in-6.ensures.0,
-      integer_slot c.args.text.now c.args.shape _ _ _ c.requires.0 true
-          c.in-6.is,
-    )
-
-pub offset_bounds-slots-shape-in-6 : goal.offset_bounds-slots-shape-in-6
-offset_bounds-slots-shape-in-6 t c =
-    omega (
-      arith,
-      c.wide-v-in-6.ensures.0,
-      integer_slot c.args.text.now c.args.shape _ _ _ c.requires.0 true
-          c.in-6.is,
-    )
 
 pub bounds-slots-shape-in-6 : goal.bounds-slots-shape-in-6
 bounds-slots-shape-in-6 t c =
@@ -131,49 +54,9 @@ bounds-slots-shape-in-6 t c =
           c.in-6.is,
     )
 
-pub overflow_add-p-in-6 : goal.overflow_add-p-in-6
-overflow_add-p-in-6 t c =
-    omega (arith, (int_variable _ _ _ _ _ c.requires.0.4 true c.in-6.is).0)
-
 pub bounds-text-p-in-7 : goal.bounds-text-p-in-7
 bounds-text-p-in-7 t c =
     omega (arith, (int_status _ _ _ _ _ c.requires.0.4 true c.in-7.is).0)
-
-pub overflow_add-shape-in-7 : goal.overflow_add-shape-in-7
-overflow_add-shape-in-7 t c =
-    omega (
-      arith,
-      c.wide-m-in-7.ensures.0,
-      status_slot_lem c.args.text.now c.args.shape _ _ _ c.requires.0 true
-          c.in-7.is,
-    )
-
-pub overflow_add-shape-in-7-2 : goal.overflow_add-shape-in-7-2
-overflow_add-shape-in-7-2 t c =
-    omega (
-      arith,
-      c.wide-m-in-7.ensures.0,
-      status_slot_lem c.args.text.now c.args.shape _ _ _ c.requires.0 true
-          c.in-7.is,
-    )
-
-pub overflow_add-shape-in-7-3 : goal.overflow_add-shape-in-7-3
-overflow_add-shape-in-7-3 t c =
-    omega (
-      arith,
-      c.wide-m-in-7.ensures.0,
-      status_slot_lem c.args.text.now c.args.shape _ _ _ c.requires.0 true
-          c.in-7.is,
-    )
-
-pub overflow_add-shape-in-7-4 : goal.overflow_add-shape-in-7-4
-overflow_add-shape-in-7-4 t c =
-    omega (
-      arith,
-      c.wide-m-in-7.ensures.0,
-      status_slot_lem c.args.text.now c.args.shape _ _ _ c.requires.0 true
-          c.in-7.is,
-    )
 
 pub offset_bounds-slots-shape-in-7 : goal.offset_bounds-slots-shape-in-7
 offset_bounds-slots-shape-in-7 t c =
@@ -193,13 +76,6 @@ bounds-slots-shape-in-7 t c =
           c.requires.0 true c.in-7.is,
     )
 
-pub overflow_add-p-in-7 : goal.overflow_add-p-in-7
-overflow_add-p-in-7 t c =
-    omega (arith, (int_status _ _ _ _ _ c.requires.0.4 true c.in-7.is).0)
-
-pub overflow_add-p-in-8 : goal.overflow_add-p-in-8
-overflow_add-p-in-8 t c = omega (arith, (i_product _ _ _ _ _ c.requires.0.4 c.in-8.is).0)
-
 pub eval_int-a-requires : goal.eval_int-a-requires
 eval_int-a-requires t c =
     let (file, depth, later, fits, h) = c.requires.0 in (
@@ -210,9 +86,6 @@ eval_int-a-requires t c =
 pub word-requires-in-8 : goal.word-requires-in-8
 word-requires-in-8 t c =
     omega (arith, (i_product _ _ _ _ _ c.requires.0.4 c.in-8.is).0)
-
-pub overflow_cast-word-in-8 : goal.overflow_cast-word-in-8
-overflow_cast-word-in-8 t c = omega (arith, c.word-in-8.ensures.1)
 
 pub eval_int-a-requires-in-4-to-5 : goal.eval_int-a-requires-in-4-to-5
 eval_int-a-requires-in-4-to-5 t c = (
@@ -242,9 +115,9 @@ pub returns-in-1 : goal.returns-in-1
 unfolding eval_int passes_int
 returns-in-1 t c = λ file depth later h.
     let k = int_constant _ _ _ _ _ h c.in-1.is in (
-      c.int_at.ensures.0 ∙ c.word.ensures.0 ∙ sym (ap (int_value (layout_of c.args.shape) c.args.slots.now) k.1),
-      c.int_at.ensures.1 ∙ sym (ap past k.1),
-      c.int_at.ensures.2 ∙ sym (ap (int_passes (layout_of c.args.shape) c.args.slots.now) k.1),
+      c.plain.ensures.0 ∙ c.word.ensures.0 ∙ sym (ap (int_value (layout_of c.args.shape) c.args.slots.now) k.1),
+      c.plain.ensures.1 ∙ sym (ap past k.1),
+      c.plain.ensures.2 ∙ sym (ap (int_passes (layout_of c.args.shape) c.args.slots.now) k.1),
     )
 
 pub returns-in-2 : goal.returns-in-2
@@ -252,10 +125,10 @@ unfolding eval_int passes_int
 returns-in-2 t c =
     λ file depth later h.
     let k = int_variable _ _ _ _ _ h false c.in-2.is in (
-      c.int_at-in-2.ensures.0 ∙ ap (λ (v : ℕ). get_or c.args.slots.now (v) 0) c.wide-v.ensures.0 ∙ sym (ap (int_value (layout_of c.args.shape) c.args.slots.now)
+      c.plain-in-2.ensures.0 ∙ ap (λ (v : ℕ). get_or c.args.slots.now (v) 0) c.wide-v.ensures.0 ∙ sym (ap (int_value (layout_of c.args.shape) c.args.slots.now)
           k.2),
-      c.int_at-in-2.ensures.1 ∙ sym (ap past k.2),
-      c.int_at-in-2.ensures.2 ∙ sym (ap (int_passes (layout_of c.args.shape) c.args.slots.now) k.2),
+      c.plain-in-2.ensures.1 ∙ sym (ap past k.2),
+      c.plain-in-2.ensures.2 ∙ sym (ap (int_passes (layout_of c.args.shape) c.args.slots.now) k.2),
     )
 
 pub returns-in-3 : goal.returns-in-3
@@ -263,10 +136,10 @@ unfolding eval_int passes_int
 returns-in-3 t c =
     λ file depth later h.
     let k = int_status _ _ _ _ _ h false c.in-3.is in (
-      c.int_at-in-3.ensures.0 ∙ ap (λ (v : ℕ). get_or c.args.slots.now (c.args.shape.variables + v) 0)
+      c.plain-in-3.ensures.0 ∙ ap (λ (v : ℕ). get_or c.args.slots.now (c.args.shape.variables + v) 0)
           c.wide-m.ensures.0 ∙ sym (ap (int_value (layout_of c.args.shape) c.args.slots.now) k.2),
-      c.int_at-in-3.ensures.1 ∙ sym (ap past k.2),
-      c.int_at-in-3.ensures.2 ∙ sym (ap (int_passes (layout_of c.args.shape) c.args.slots.now) k.2),
+      c.plain-in-3.ensures.1 ∙ sym (ap past k.2),
+      c.plain-in-3.ensures.2 ∙ sym (ap (int_passes (layout_of c.args.shape) c.args.slots.now) k.2),
     )
 
 pub returns-in-6 : goal.returns-in-6
@@ -274,10 +147,10 @@ unfolding eval_int passes_int
 returns-in-6 t c =
     λ file depth later h.
     let k = int_variable _ _ _ _ _ h true c.in-6.is in (
-      c.int_at-in-6.ensures.0 ∙ ap (λ (v : ℕ). get_or c.args.slots.now (c.args.shape.variables + c.args.shape.matrices + 1 + v) 0)
+      c.plain-in-6.ensures.0 ∙ ap (λ (v : ℕ). get_or c.args.slots.now (c.args.shape.variables + c.args.shape.matrices + 1 + v) 0)
           c.wide-v-in-6.ensures.0 ∙ sym (ap (int_value (layout_of c.args.shape) c.args.slots.now) k.2),
-      c.int_at-in-6.ensures.1 ∙ sym (ap past k.2),
-      c.int_at-in-6.ensures.2 ∙ sym (ap (int_passes (layout_of c.args.shape) c.args.slots.now) k.2),
+      c.plain-in-6.ensures.1 ∙ sym (ap past k.2),
+      c.plain-in-6.ensures.2 ∙ sym (ap (int_passes (layout_of c.args.shape) c.args.slots.now) k.2),
     )
 
 pub returns-in-7 : goal.returns-in-7
@@ -285,11 +158,11 @@ unfolding eval_int passes_int
 returns-in-7 t c =
     λ file depth later h.
     let k = int_status _ _ _ _ _ h true c.in-7.is in (
-      c.int_at-in-7.ensures.0 ∙ ap (λ (v : ℕ). get_or c.args.slots.now (c.args.shape.variables +
+      c.plain-in-7.ensures.0 ∙ ap (λ (v : ℕ). get_or c.args.slots.now (c.args.shape.variables +
           (c.args.shape.variables + c.args.shape.matrices + 1 + v)) 0) c.wide-m-in-7.ensures.0 ∙ sym (ap
           (int_value (layout_of c.args.shape) c.args.slots.now) k.2),
-      c.int_at-in-7.ensures.1 ∙ sym (ap past k.2),
-      c.int_at-in-7.ensures.2 ∙ sym (ap (int_passes (layout_of c.args.shape) c.args.slots.now) k.2),
+      c.plain-in-7.ensures.1 ∙ sym (ap past k.2),
+      c.plain-in-7.ensures.2 ∙ sym (ap (int_passes (layout_of c.args.shape) c.args.slots.now) k.2),
     )
 
 pub returns-in-8 : goal.returns-in-8

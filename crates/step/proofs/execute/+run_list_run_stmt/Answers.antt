@@ -11,29 +11,25 @@ run_list-bounds-text-at t c =
 pub run_list-overflow_add-p : goal.run_list-overflow_add-p
 run_list-overflow_add-p t c = omega (arith, list_live _ _ _ _ _ c.requires.0)
 
-pub run_list-loop-left-init : goal.run_list-loop-left-init
-run_list-loop-left-init t c = going_start _ _ _ _ _ _ _ _ c.wide-left.ensures.0 c.requires.0
+pub run_list-loop-init : goal.run_list-loop-init
+run_list-loop-init t c = going_start _ _ _ _ _ _ _ _ (omega arith) c.requires.0
 
 pub run_list-run_stmt-p-requires : goal.run_list-run_stmt-p-requires
-run_list-run_stmt-p-requires t c = (
-  omega (
-    arith,
-    list_live _ _ _ _ _ c.requires.0,
-    c.loop-left.invariant.on,
-    stmt_live _ _ _ _ _ (seq_first _ _ _ _ _ _ c.loop-left.invariant.live c.loop-left-test.true),
-  ),
-  (seq_first _ _ _ _ _ _ c.loop-left.invariant.live c.loop-left-test.true, omega arith, omega arith, omega (arith, c.loop-left.invariant.size)),
-)
+run_list-run_stmt-p-requires t c =
+    let first = seq_first _ _ _ _ _ _ c.loop.invariant.live (omega arith) in (
+      omega (arith, list_live _ _ _ _ _ c.requires.0, c.loop.invariant.on, stmt_live _ _ _ _ _ first),
+      (first, omega arith, omega arith, omega (arith, c.loop.invariant.size)),
+    )
 
-pub run_list-loop-left-preserved : goal.run_list-loop-left-preserved
-run_list-loop-left-preserved t c =
-    going_on _ _ _ _ _ _ _ _ _ _ _ _ c.loop-left-test.true c.loop-left.invariant c.run_stmt-p.ensures
+pub run_list-loop-preserved : goal.run_list-loop-preserved
+run_list-loop-preserved t c =
+    going_on _ _ _ _ _ _ _ _ _ _ _ _ _ (omega arith) c.loop.invariant c.run_stmt-p.ensures
 
 pub run_list-shape_of-slots : goal.run_list-shape_of-slots
-run_list-shape_of-slots t c = c.loop-left.invariant.size
+run_list-shape_of-slots t c = c.loop.invariant.size
 
 pub run_list-returns : goal.run_list-returns
-run_list-returns t c = going_end _ _ _ _ _ _ _ _ _ _ c.loop-left-test.false c.loop-left.invariant
+run_list-returns t c = going_end _ _ _ _ _ _ _ _ _ _ (omega arith) c.loop.invariant
 
 pub run_stmt-bounds-text-at : goal.run_stmt-bounds-text-at
 run_stmt-bounds-text-at t c = omega (arith, stmt_live _ _ _ _ _ c.requires.0)
@@ -51,7 +47,7 @@ run_stmt-run_assign-requires t c = (
 )
 
 pub run_stmt-shape_of-slots-then-op-eq32 : goal.run_stmt-shape_of-slots-then-op-eq32
-run_stmt-shape_of-slots-then-op-eq32 t c = omega (arith, c.slots-1.given)
+run_stmt-shape_of-slots-then-op-eq32 t c = omega arith
 
 pub run_stmt-returns-then-op-eq32 : goal.run_stmt-returns-then-op-eq32
 run_stmt-returns-then-op-eq32 t c =
@@ -86,7 +82,7 @@ run_stmt-run_list-m-requires t c =
         then,
         omega arith,
         omega arith,
-        omega (arith, c.slots-in-32-to-33-1.given),
+        omega arith,
       ),
     )
 
@@ -115,11 +111,11 @@ run_stmt-run_list-requires t c =
         list_forward _ _ _ _ _ _ then c.skip_list-m.ensures,
         list_live _ _ _ _ _ other,
       ),
-      (other, omega arith, omega arith, omega (arith, c.slots-in-32-to-33-1.given)),
+      (other, omega arith, omega arith, omega arith),
     )
 
 pub run_stmt-shape_of-slots-then-c : goal.run_stmt-shape_of-slots-then-c
-run_stmt-shape_of-slots-then-c t c = omega (arith, c.slots-in-32-to-33-1.given, c.slots-then-c-1.given)
+run_stmt-shape_of-slots-then-c t c = omega arith
 
 pub run_stmt-returns-then-c : goal.run_stmt-returns-then-c
 run_stmt-returns-then-c t c =
@@ -127,7 +123,7 @@ run_stmt-returns-then-c t c =
     runs_then _ _ _ _ _ c.requires.0 c.if-op-eq32.false _ test.1 _ _ _ _ _ _ _ _ test.0 test.2 c.mark_if.ensures c.if-c.true c.run_list-m.ensures c.skip_list.ensures
 
 pub run_stmt-shape_of-slots-else-c : goal.run_stmt-shape_of-slots-else-c
-run_stmt-shape_of-slots-else-c t c = omega (arith, c.slots-in-32-to-33-1.given, c.slots-else-c-1.given)
+run_stmt-shape_of-slots-else-c t c = omega arith
 
 pub run_stmt-returns-else-c : goal.run_stmt-returns-else-c
 run_stmt-returns-else-c t c =

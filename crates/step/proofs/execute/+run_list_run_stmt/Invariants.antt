@@ -10,8 +10,5 @@ decreases-run_list l = l.end - l.at
 abbrev pub decreases-run_stmt : goal.decreases-run_stmt
 decreases-run_stmt l = l.end - l.at
 
-abbrev pub invariant-run_list-loop-left : goal.invariant-run_list-loop-left
-invariant-run_list-loop-left l = Going l.text (names_of l.file l.shape) l.end (layout_of l.shape) l.nest l.at l.initial.slots l.left l.p l.slots
-
-abbrev pub decreases-run_list-loop-left : goal.decreases-run_list-loop-left
-decreases-run_list-loop-left l = l.left
+abbrev pub invariant-run_list-loop : goal.invariant-run_list-loop
+invariant-run_list-loop l = Going l.text (names_of l.file l.shape) l.end (layout_of l.shape) l.nest l.at l.initial.slots (l.count - l.counter) l.p l.slots

@@ -1,5 +1,6 @@
 use Rattle.std.proofs.Common.{◌≡◌, ℕ, ◌*◌, false, get_or, sym, ap, ◌∙◌, arith, rules}
 use Rattle.design.specs.Limits.{max_depth}
+use Rattle.step.proofs.Counts.{bit_from}
 use Rattle.step.proofs.Runs.{assign_inside, assign_int, runs_int, assign_bool, runs_bool}
 use Rattle.step.proofs.execute.run_assign.Goals as goal
 
@@ -21,17 +22,17 @@ eval_int-x-requires c =
         max_depth,
         false,
         omega arith,
-        assign_int _ _ _ _ c.requires.0 (sym (ap (λ (v : ℕ). get_or c.args.file.now (3 * v) 0) c.wide-v.ensures.0) ∙ c.if-k-eq1.true),
+        assign_int _ _ _ _ c.requires.0 (sym (ap (λ (v : ℕ). get_or c.args.file.now (3 * v) 0) c.wide-v.ensures.0) ∙ c.if-k.true),
       ),
       omega arith,
     ))
 
 pub bounds-slots-v : goal.bounds-slots-v
 bounds-slots-v c =
-    omega (arith, c.slots-1.given, c.wide-v.ensures.0, (assign_inside _ _ _ _ c.requires.0).1)
+    omega (arith, c.wide-v.ensures.0, (assign_inside _ _ _ _ c.requires.0).1)
 
-pub overflow_add-at-else-k-eq1 : goal.overflow_add-at-else-k-eq1
-overflow_add-at-else-k-eq1 c = omega (arith, (assign_inside _ _ _ _ c.requires.0).0)
+pub overflow_add-at-else-k : goal.overflow_add-at-else-k
+overflow_add-at-else-k c = omega (arith, (assign_inside _ _ _ _ c.requires.0).0)
 
 pub eval_bool-x-requires : goal.eval_bool-x-requires
 eval_bool-x-requires c =
@@ -41,30 +42,30 @@ eval_bool-x-requires c =
         max_depth,
         false,
         omega arith,
-        assign_bool _ _ _ _ c.requires.0 (λ e. c.if-k-eq1.false (ap (λ (v : ℕ). get_or c.args.file.now (3 * v) 0) c.wide-v.ensures.0 ∙ e)),
+        assign_bool _ _ _ _ c.requires.0 (λ e. c.if-k.false (ap (λ (v : ℕ). get_or c.args.file.now (3 * v) 0) c.wide-v.ensures.0 ∙ e)),
       ),
       omega arith,
     ))
 
-pub bounds-slots-v-else-k-eq1 : goal.bounds-slots-v-else-k-eq1
-bounds-slots-v-else-k-eq1 c =
-    omega (arith, c.slots-else-k-eq1-1.given, c.wide-v.ensures.0, (assign_inside _ _ _ _ c.requires.0).1)
+pub bounds-slots-v-else-k : goal.bounds-slots-v-else-k
+bounds-slots-v-else-k c =
+    omega (arith, c.wide-v.ensures.0, (assign_inside _ _ _ _ c.requires.0).1)
 
-pub shape_of-slots-then-k-eq1 : goal.shape_of-slots-then-k-eq1
-shape_of-slots-then-k-eq1 c = search (rules, c.slots-1.given)
+pub shape_of-slots-then-k : goal.shape_of-slots-then-k
+shape_of-slots-then-k c = search rules
 
-pub returns-then-k-eq1 : goal.returns-then-k-eq1
-returns-then-k-eq1 c =
-    let kind = sym (ap (λ (v : ℕ). get_or c.args.file.now (3 * v) 0) c.wide-v.ensures.0) ∙ c.if-k-eq1.true in
+pub returns-then-k : goal.returns-then-k
+returns-then-k c =
+    let kind = sym (ap (λ (v : ℕ). get_or c.args.file.now (3 * v) 0) c.wide-v.ensures.0) ∙ c.if-k.true in
     let value = c.eval_int-x.ensures c.args.file.now max_depth false (assign_int _ _ _ _ c.requires.0 kind) in
     runs_int _ _ _ _ c.requires.0 kind _ _ _ _ _ _ _ c.wide-v.ensures.0 value.0 value.1 value.2 c.mark_if.ensures
 
-pub shape_of-slots-else-k-eq1 : goal.shape_of-slots-else-k-eq1
-shape_of-slots-else-k-eq1 c = search (rules, c.slots-else-k-eq1-1.given)
+pub shape_of-slots-else-k : goal.shape_of-slots-else-k
+shape_of-slots-else-k c = search rules
 
-pub returns-else-k-eq1 : goal.returns-else-k-eq1
-returns-else-k-eq1 c =
-    let kind : get_or c.args.file.now (3 * get_or c.args.text.now c.args.at 0) 0 ≡ 1 → ⊥ = λ e. c.if-k-eq1.false (ap (λ (v :
+pub returns-else-k : goal.returns-else-k
+returns-else-k c =
+    let kind : get_or c.args.file.now (3 * get_or c.args.text.now c.args.at 0) 0 ≡ 1 → ⊥ = λ e. c.if-k.false (ap (λ (v :
     ℕ). get_or c.args.file.now (3 * v) 0) c.wide-v.ensures.0 ∙ e) in
     let value = c.eval_bool-x.ensures c.args.file.now max_depth false (assign_bool _ _ _ _ c.requires.0 kind) in
-    runs_bool _ _ _ _ c.requires.0 kind _ _ _ _ _ _ _ _ c.wide-v.ensures.0 value.0 c.bit_of.ensures value.1 value.2 c.mark_if-else-k-eq1.ensures
+    runs_bool _ _ _ _ c.requires.0 kind _ _ _ _ _ _ _ _ c.wide-v.ensures.0 value.0 (c.from.ensures ∙ bit_from _) value.1 value.2 c.mark_if-else-k.ensures

@@ -1,22 +1,12 @@
-use Rattle.std.proofs.Common.{map, pos, ◌∙◌, arith}
-use lib.ListN.{length-map}
+use Rattle.std.proofs.Common.{pos, sym, ◌∙◌, arith}
+use Rattle.std.proofs.lemmas.Grind.{same_number_lists}
+use lib.ListN.{length-map, get_or-map}
 use Rattle.step.specs.Pattern.{wrap}
-use Rattle.step.proofs.Signed.{loaded}
-use Rattle.step.proofs.Entries.{copying_start, copying_mapped, copied_all}
-use Rattle.design.specs.Limits.{max_variables}
 use Rattle.step.proofs.interface.patterns.Goals as goal
 
-pub loop-i-init : goal.loop-i-init
-loop-i-init c = (omega arith, copying_start _ _ _)
-
-pub loop-i-preserved : goal.loop-i-preserved
-loop-i-preserved c = (
-  omega arith,
-  copying_mapped max_variables wrap 0 (pos 0) c.args.values c.loop-i.i c.loop-i.out _ (omega arith) (omega (arith, c.well_formed.0.1.0.1)) (loaded _ (record {
-    sfits = c.pattern-arg-1.given;
-  }) _ c.pattern.ensures) c.loop-i.invariant.1,
-)
-
 pub returns : goal.returns
+unfolding wrap
 returns c =
-    copied_all max_variables _ 0 (map wrap c.args.values) _ (omega arith) (length-map c.args.values wrap ∙ c.well_formed.0.1.0.1) c.loop-i.invariant.1
+    let items = c.map.ensures.items in
+    same_number_lists _ _ (omega (arith, items.long, length-map c.args.values wrap))
+    (λ i h. (items.at i (pos 0) 0 (omega (arith, items.long))).2.met ∙ sym (get_or-map wrap c.args.values i (pos 0)))

@@ -1,25 +1,21 @@
-use Rattle.step.proofs.Entries.{first_entry, status_entry, mark_entry, no_entry}
+use Rattle.std.proofs.Common.{◌∙◌, arith}
+use Rattle.design.proofs.Places.{read}
+use Rattle.step.proofs.Entries.{first_entry, status_within, status_entry, mark_entry}
 use Rattle.step.proofs.interface.wrong_entry.Goals as goal
 
-pub returns-then-i-lt-MAX_VARIABLES : goal.returns-then-i-lt-MAX_VARIABLES
-returns-then-i-lt-MAX_VARIABLES c =
-    let entries = c.args.entries in
-    λ d e. first_entry d entries c.well_formed.1.1.0.1.1.0.1.0.1 c.well_formed.1.1.0.1.1.1.0.1.0.1 _ (c.wrong_value-i.ensures d e) c.if-i-lt-MAX_VARIABLES.true
+pub returns-in-Some : goal.returns-in-Some
+returns-in-Some c = λ d e. first_entry d c.args.entries (omega arith) (omega arith) _ (c.in-Some.ensures d e)
 
-pub returns-then-m-lt-MAX_MATRICES : goal.returns-then-m-lt-MAX_MATRICES
-returns-then-m-lt-MAX_MATRICES c =
-    let entries = c.args.entries in
-    λ d e. status_entry d entries c.well_formed.1.1.0.1.1.0.1.0.1 c.well_formed.1.1.0.1.1.1.0.1.0.1 _ _ (c.wrong_value-i.ensures d e) c.if-i-lt-MAX_VARIABLES.false
-    (c.wrong_status-m.ensures d e) c.if-m-lt-MAX_MATRICES.true
+pub overflow_add-result : goal.overflow_add-result
+overflow_add-result c =
+    let t = read _ c.requires.0 in
+    omega (arith, status_within t.tree c.args.entries (omega arith) (omega arith) _ (c.in-Some-wrong_status.ensures t.tree t.is))
 
-pub returns-then-entries-gt1 : goal.returns-then-entries-gt1
-returns-then-entries-gt1 c =
-    let entries = c.args.entries in
-    λ d e. mark_entry d entries c.well_formed.1.1.0.1.1.0.1.0.1 c.well_formed.1.1.0.1.1.1.0.1.0.1 _ _ (c.wrong_value-i.ensures d e)
-    c.if-i-lt-MAX_VARIABLES.false (c.wrong_status-m.ensures d e) c.if-m-lt-MAX_MATRICES.false c.if-entries-gt1.true
+pub returns-in-Some-wrong_status : goal.returns-in-Some-wrong_status
+returns-in-Some-wrong_status c =
+    λ d e. status_entry d c.args.entries (omega arith) (omega arith) (c.in_default.ensures d e) _ (c.in-Some-wrong_status.ensures d e)
 
 pub returns : goal.returns
 returns c =
-    let entries = c.args.entries in
-    λ d e. no_entry d entries c.well_formed.1.1.0.1.1.0.1.0.1 c.well_formed.1.1.0.1.1.1.0.1.0.1 _ _ (c.wrong_value-i.ensures d e)
-    c.if-i-lt-MAX_VARIABLES.false (c.wrong_status-m.ensures d e) c.if-m-lt-MAX_MATRICES.false c.if-entries-gt1.false
+    λ d e. c.then_some.ensures
+    ∙ mark_entry d c.args.entries (omega arith) (omega arith) (c.in_default.ensures d e) (c.in_default-wrong_status.ensures d e)

@@ -1,11 +1,8 @@
 use Rattle.std.proofs.Common.{arith}
 use Rattle.design.proofs.Places.{read}
 use Rattle.design.proofs.Indexed.{variables_inside}
-use Rattle.step.proofs.Entries.{values_start, values_wrong, values_right_lem, values_end}
+use Rattle.step.proofs.Entries.{values_wrong, values_right_lem, values_end}
 use Rattle.step.proofs.interface.wrong_value.Goals as goal
-
-pub loop-i-init : goal.loop-i-init
-loop-i-init c = values_start _ _ c.requires.1 c.args.ps c.well_formed.1.1.0.1.0.1
 
 pub value_right-requires : goal.value_right-requires
 value_right-requires c = (
@@ -19,12 +16,11 @@ value_right-requires c = (
 
 pub returns-then-not-value_right : goal.returns-then-not-value_right
 returns-then-not-value_right c =
-    values_wrong _ _ c.requires.1 c.args.ps c.well_formed.1.1.0.1.0.1 _ c.loop-i.invariant c.loop-i-test.true _ c.value_right.ensures c.if-not-value_right.true
+    values_wrong _ _ c.requires.1 c.args.ps (omega arith) _ c.loop-i.invariant c.loop-i-test.true _ c.value_right.ensures c.if-not-value_right.true
 
 pub loop-i-preserved : goal.loop-i-preserved
 loop-i-preserved c =
-    values_right_lem _ _ c.requires.1 c.args.ps c.well_formed.1.1.0.1.0.1 _ c.loop-i.invariant c.loop-i-test.true _ c.value_right.ensures c.if-not-value_right.false
+    values_right_lem _ _ c.requires.1 c.args.ps (omega arith) _ c.loop-i.invariant c.loop-i-test.true _ c.value_right.ensures c.if-not-value_right.false
 
 pub returns : goal.returns
-returns c =
-    values_end _ _ c.requires.1 c.args.ps c.well_formed.1.1.0.1.0.1 _ c.loop-i-test.false c.loop-i.invariant
+returns c = values_end _ _ c.requires.1 c.args.ps (omega arith) _ c.loop-i-test.false c.loop-i.invariant

@@ -1,12 +1,7 @@
-use Rattle.std.proofs.Common.{◌-◌}
 use Rattle.design.specs.Tree.{Design}
 use Rattle.step.specs.Interface.{values_right}
 use Rattle.step.proofs.Entries.{LookingAt}
-use Rattle.design.specs.Limits.{max_variables}
 use Rattle.step.proofs.interface.wrong_value.Given as goal
 
 abbrev pub invariant-loop-i : goal.invariant-loop-i
-invariant-loop-i l = LookingAt l.file (λ (d : Design). values_right d.variables l.ps) l.i
-
-abbrev pub decreases-loop-i : goal.decreases-loop-i
-decreases-loop-i l = max_variables - l.i
+invariant-loop-i l = LookingAt l.file (λ (d : Design). values_right d.variables l.fn.ps) l.i

@@ -18,10 +18,6 @@ run_list-requires c = (
   omega (arith, c.requires.0.1.size),
 )
 
-pub overflow_cast-slots : goal.overflow_cast-slots
-overflow_cast-slots c =
-    omega (arith, c.shared_slice_known-4-1.given (c.args.p + 4))
-
 pub bounds-slots-shape : goal.bounds-slots-shape
 bounds-slots-shape c =
     omega (
@@ -29,10 +25,9 @@ bounds-slots-shape c =
       (in_range _ _ _ _ c.requires.0.1 _ _ _ c.wide-m.ensures.0 refl (normal_fields _ _ _ c.requires.0.1.indexed _ c.requires.1)).0,
       sizes _ _ _ _ c.requires.0.1,
       c.requires.0.1.size,
-      c.slots-1.given,
     )
 
 pub returns : goal.returns
 returns c =
     λ x. acted _ _ _ _ c.requires.0.1 _ x _ _ (ap (λ (k : ℕ). c.args.p + 8 + k) c.wide.ensures.0) (ap₂ (λ (k j : ℕ). c.args.p +
-    8 + k + j) c.wide.ensures.0 c.word.ensures.0) _ c.run_list.ensures.0 _ _ c.wide-m.ensures.0 refl
+    8 + k + j) c.wide.ensures.0 c.word.ensures.0) _ c.run_list.ensures.0 _ _ c.wide-m.ensures.0 c.from.ensures

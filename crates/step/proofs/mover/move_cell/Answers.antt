@@ -1,28 +1,21 @@
-use Rattle.design.proofs.Indexed.{normal_fields}
-use Rattle.step.proofs.Cells.{status_fails, event_fails, guard_fails, cell_moves}
+use Rattle.std.proofs.Common.{◌∙◌}
+use Rattle.step.proofs.Cells.{other_status, same_status, and_made, and_left, tested}
 use Rattle.step.proofs.mover.move_cell.Goals as goal
-
-pub status_stands-requires : goal.status_stands-requires
-status_stands-requires c =
-    ((_, c.requires.0), normal_fields _ _ _ c.requires.0.indexed _ c.requires.1)
-
-pub returns-then-not-status_stands : goal.returns-then-not-status_stands
-returns-then-not-status_stands c =
-    λ x. status_fails _ _ _ _ c.requires.0 _ x _ c.status_stands.ensures c.if-not-status_stands.true
-
-pub cell_event-requires : goal.cell_event-requires
-cell_event-requires c =
-    (c.requires.0, normal_fields _ _ _ c.requires.0.indexed _ c.requires.1)
-
-pub returns-then-not-cell_event : goal.returns-then-not-cell_event
-returns-then-not-cell_event c =
-    λ x. event_fails _ _ _ _ c.requires.0 _ x _ c.status_stands.ensures c.if-not-status_stands.false _ c.cell_event.ensures c.if-not-cell_event.true
-
-pub returns-then-not-guard_true : goal.returns-then-not-guard_true
-returns-then-not-guard_true c =
-    λ x. guard_fails _ _ _ _ c.requires.0 _ x _ c.status_stands.ensures c.if-not-status_stands.false _ c.cell_event.ensures c.if-not-cell_event.false _ (c.guard_true.ensures x) c.if-not-guard_true.true
+use Rattle.step.proofs.mover.move_cell.Goals.{then-event, else-event, then-guard, else-guard, then-enabled, else-enabled}
 
 pub returns : goal.returns
 returns c =
-    λ x. cell_moves _ _ _ _ c.requires.0 _ x _ c.status_stands.ensures c.if-not-status_stands.false _ c.cell_event.ensures c.if-not-cell_event.false _ (c.guard_true.ensures x) c.if-not-guard_true.false _ (c.act_cell.ensures
-    x)
+    λ x. tested _ _ _ _ c.requires.0 _ x _ _ _ c.status_stands-event.ensures
+    (elim c.if-event.branch [
+      | then-event w ↦ λ d v. w.guard-is ∙ same_status _ _ _ _ c.requires.0 _ _ c.status_stands-event.ensures w.if-event.true _ w.cell_event-guard.ensures d v
+      | else-event w ↦ λ d v. w.guard-is ∙ w.if-event.false ∙ other_status _ _ _ _ c.requires.0 _ _ c.status_stands-event.ensures w.if-event.false d v
+    ])
+    (elim c.if-guard.branch [
+      | then-guard w ↦ and_made _ _ _ w.if-guard.true (w.enabled-is ∙ w.guard_true-enabled.ensures x)
+      | else-guard w ↦ and_left _ _ _ w.if-guard.false w.enabled-is
+    ])
+    _
+    (elim c.if-enabled.branch [
+      | then-enabled w ↦ rw w.if-enabled.true (w.slots-is ∙ w.act_cell.ensures x)
+      | else-enabled w ↦ rw w.if-enabled.false w.slots-is
+    ])

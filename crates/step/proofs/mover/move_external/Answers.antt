@@ -1,8 +1,10 @@
-use Rattle.step.proofs.Cells.{raised_idle, raised}
+use Rattle.std.proofs.Common.{eq-eqb, ne_eqb}
+use Rattle.step.proofs.Cells.{raised}
 use Rattle.step.proofs.mover.move_external.Goals as goal
-
-pub returns-then-slots-v-gt0 : goal.returns-then-slots-v-gt0
-returns-then-slots-v-gt0 c = λ l. raised_idle l _ _ c.if-slots-v-gt0.true
+use Rattle.step.proofs.mover.move_external.Goals.{then-enabled, else-enabled}
 
 pub returns : goal.returns
-returns c = λ l. raised l _ _ c.if-slots-v-gt0.false
+returns c = λ l. raised l _ _ _ (elim c.if-enabled.branch [
+  | then-enabled w ↦ rw (eq-eqb _ _ w.if-enabled.true) w.slots-is
+  | else-enabled w ↦ rw (ne_eqb _ _ w.if-enabled.false) w.slots-is
+])

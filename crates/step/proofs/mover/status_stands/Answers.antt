@@ -4,7 +4,7 @@ use Rattle.step.proofs.mover.status_stands.Goals as goal
 
 pub overflow_cast-current : goal.overflow_cast-current
 overflow_cast-current c =
-    omega (arith, c.shared_slice_known-5-1.given (c.args.shape.variables + c.wide-m.result))
+    omega arith
 
 pub returns : goal.returns
 returns c =

@@ -19,7 +19,7 @@ slice_bounds-move_chosen-count c =
 
 pub slice_bounds-move_chosen-start : goal.slice_bounds-move_chosen-start
 slice_bounds-move_chosen-start c =
-    omega (arith, c.slot_count-n.ensures, c.requires.0.size, c.pair-1.given)
+    omega (arith, c.slot_count-n.ensures, c.requires.0.size)
 
 pub move_chosen-requires : goal.move_chosen-requires
 move_chosen-requires c = (
@@ -33,7 +33,7 @@ move_chosen-requires c = (
 )
 
 pub shape_of-pair : goal.shape_of-pair
-shape_of-pair c = omega (arith, c.pair-2-1.given, c.pair-1.given)
+shape_of-pair c = omega arith
 
 pub returns : goal.returns
 returns c =

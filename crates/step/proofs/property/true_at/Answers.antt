@@ -1,4 +1,4 @@
-use Rattle.std.proofs.Common.{ap, ◌∙◌, arith}
+use Rattle.std.proofs.Common.{sym, ltb-true, ltb-false, ap, ◌∙◌, arith}
 use Rattle.design.proofs.Indexed.{sized}
 use Rattle.step.specs.Property.{property_of}
 use Rattle.step.specs.OneStep.{holds}
@@ -13,16 +13,16 @@ pub property_true-requires : goal.property_true-requires
 property_true-requires c = (
   record { indexed = c.requires.0.indexed; size = part_long _ c.args.pair.now c.requires.0.size _ c.slot_count-n.ensures.0 },
   c.requires.1,
-  c.if-property-le-LAST_STATE_PROPERTY.true,
+  (ltb-false _ _ (sym c.if-not-judges_steps.ensures)),
 )
 
-pub returns-then-property-le-LAST_STATE_PROPERTY : goal.returns-then-property-le-LAST_STATE_PROPERTY
-returns-then-property-le-LAST_STATE_PROPERTY c =
+pub returns-then-not-judges_steps : goal.returns-then-not-judges_steps
+returns-then-not-judges_steps c =
     λ d w. c.property_true.ensures d w ∙ ap (holds d (property_of c.args.file.now c.args.piece.now d c.args.property)) (part_is
-    _ _ c.requires.0.size _ c.slot_count-n.ensures.0) ∙ state_true _ _ d _ c.if-property-le-LAST_STATE_PROPERTY.true _ _
+    _ _ c.requires.0.size _ c.slot_count-n.ensures.0) ∙ state_true _ _ d _ (ltb-false _ _ (sym c.if-not-judges_steps.ensures)) _ _
 
 pub returns-then-first : goal.returns-then-first
-returns-then-first c = λ d w. first_true_lem _ _ d _ _ _ c.if-property-le-LAST_STATE_PROPERTY.false _ c.if-first.true
+returns-then-first c = λ d w. first_true_lem _ _ d _ _ _ (ltb-true _ _ (sym c.if-not-judges_steps.ensures)) _ c.if-first.true
 
 pub is_marked-requires : goal.is_marked-requires
 is_marked-requires c =
@@ -37,7 +37,7 @@ is_marked-requires c =
 
 pub returns-then-is_marked : goal.returns-then-is_marked
 returns-then-is_marked c =
-    λ d w. marked_pair _ _ d _ _ w _ c.requires.0.indexed.shaped _ (part_is _ _ c.requires.0.size _ c.slot_count-n.ensures.0) _ c.is_marked.ensures c.if-is_marked.true _ c.if-property-le-LAST_STATE_PROPERTY.false _ c.if-first.false
+    λ d w. marked_pair _ _ d _ _ w _ c.requires.0.indexed.shaped _ (part_is _ _ c.requires.0.size _ c.slot_count-n.ensures.0) _ c.is_marked.ensures c.if-is_marked.true _ (ltb-true _ _ (sym c.if-not-judges_steps.ensures)) _ c.if-first.false
 
 pub constraint_true-requires : goal.constraint_true-requires
 constraint_true-requires c =
@@ -46,4 +46,4 @@ constraint_true-requires c =
 pub returns : goal.returns
 returns c =
     λ d w. pair_true _ _ d _ _ w _ c.requires.0.indexed.shaped _ (part_is _ _ c.requires.0.size _ c.slot_count-n.ensures.0) _ c.is_marked.ensures
-    c.if-is_marked.false _ c.if-property-le-LAST_STATE_PROPERTY.false _ c.if-first.false _ (c.constraint_true.ensures d w)
+    c.if-is_marked.false _ (ltb-true _ _ (sym c.if-not-judges_steps.ensures)) _ c.if-first.false _ (c.constraint_true.ensures d w)

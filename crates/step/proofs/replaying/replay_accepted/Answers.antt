@@ -13,10 +13,10 @@ overflow_add-shape c =
       few_movers _ _ _ c.shape-shape.ensures.shaped movers c.requires.0,
     )
 
-pub returns-then-over-choices : goal.returns-then-over-choices
-returns-then-over-choices c =
-    let movers = movers_here _ _ _ _ c.shape-shape.ensures c.index_cells-normals.ensures in c.refuse_replay.ensures ∙ replay_over _ _ _ _
-    c.requires.0 c.requires.1 c.requires.2 c.requires.3 _ _ (count_movers _ _ _ c.shape-shape.ensures.shaped movers) c.first_over-over.ensures c.if-over-choices.true
+pub returns-in-Some : goal.returns-in-Some
+returns-in-Some c =
+    let movers = movers_here _ _ _ _ c.shape-shape.ensures c.index_cells-normals.ensures in
+    replay_over _ _ _ _ c.requires.0 c.requires.1 c.requires.2 c.requires.3 _ (count_movers _ _ _ c.shape-shape.ensures.shaped movers) _ c.in-Some.ensures
 
 pub slot_count-n-requires : goal.slot_count-n-requires
 slot_count-n-requires c =
@@ -47,7 +47,7 @@ replay_slots-requires c =
         movers = movers_here _ _ _ _ c.shape-shape.ensures c.index_cells-normals.ensures;
         few = c.requires.3;
         named
-            = all_below c.args.choices.now (c.shape-shape.result.normals + c.shape-shape.result.externals) _ c.first_over-over.ensures c.if-over-choices.false;
+            = all_below c.args.choices.now (c.shape-shape.result.normals + c.shape-shape.result.externals) c.in_default.ensures;
       },
       take_replicate (c.slot_count-n.result + c.slot_count-n.result) pair_slots 0 (omega arith) ∙ ap (λ (n : ℕ). replicate n 0) twice,
     )
@@ -55,4 +55,4 @@ replay_slots-requires c =
 pub returns : goal.returns
 returns c =
     let movers = movers_here _ _ _ _ c.shape-shape.ensures c.index_cells-normals.ensures in replay_answer_lem _ _ _ _ c.requires.0 c.requires.1
-    c.requires.2 c.requires.3 _ _ (count_movers _ _ _ c.shape-shape.ensures.shaped movers) c.first_over-over.ensures c.if-over-choices.false _ c.replay_slots.ensures
+    c.requires.2 c.requires.3 _ (count_movers _ _ _ c.shape-shape.ensures.shaped movers) c.in_default.ensures _ c.replay_slots.ensures
