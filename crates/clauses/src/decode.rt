@@ -1,6 +1,7 @@
 // DECODE.
 ghost use Rattle.std.specs.Prelude.{◌≡◌, ◌+◌, ◌*◌, ◌≤◌, ◌++◌, length, drop};
 ghost use Rattle.design.specs.Limits.{max_movers};
+ghost use Rattle.design.specs.Answer.{told};
 ghost use Rattle.design.specs.Tree.{Design};
 ghost use Rattle.design.specs.WellFormed.{WellFormed};
 ghost use Rattle.step.specs.Property.{Property};
@@ -10,14 +11,9 @@ ghost use Rattle.clauses.specs.Decode.{choices_of, written};
 ghost use Rattle.clauses.specs.FrameSizes.{SmallFrame, frame_sizes};
 ghost use Rattle.clauses.specs.Replies.{decode_exit, DECODE};
 
-use super::admission::{Admission, admit};
+use super::admission::admit;
 use super::frame::{FrameSizes, frame_length, variables};
-
-#[derive(Clone, Copy)]
-pub enum DecodeReply {
-    Refused { number: u8, place: usize },
-    Done,
-}
+use design::refusal::Refused;
 
 // The place of the first value that is not 0.
 pub fn first_nonzero(flags: &[u8]) -> Option<usize>
@@ -81,34 +77,31 @@ pub fn write_choices(
 }
 
 // DECODE once it is admitted; `s` has the sizes of a frame.
-pub fn decode_frames(s: FrameSizes, bound: u64, values: &[u8], choices: &mut [u8]) -> DecodeReply
+pub fn decode_frames(
+    s: FrameSizes,
+    bound: u64,
+    values: &[u8],
+    choices: &mut [u8],
+) -> Result<(), Refused>
     requires { SmallFrame s × (bound ≤ max_bound) }
-    ensures { (d : Design) (q : Property) → WellFormed d → s ≡ frame_sizes d q → record { reply = result; choices = choices.new }
+    ensures { (d : Design) (q : Property) → WellFormed d → s ≡ frame_sizes d q → record { reply = told result; choices = choices.new }
         ≡ decode_exit (written (choices_of d q bound values.now (length choices.old)) choices.old) }
 {
     let k = bound as usize;
     if (values.len() as u64) < variables(s, bound) {
-        return DecodeReply::Refused {
-            number: 16,
-            place: 0,
-        };
+        return Err(Refused::Memory);
     }
     if choices.len() < k {
-        return DecodeReply::Refused {
-            number: 16,
-            place: 0,
-        };
+        return Err(Refused::Memory);
     }
     let size = frame_length(s) as usize;
     let base = (1 + s.bits + (s.property.ands + s.property.wides)) as usize;
     let w = s.movers as usize;
-    match first_bad(values, base, size, w, k) {
-        Some(place) => DecodeReply::Refused { number: 18, place },
-        None => {
-            write_choices(values, base, size, w, k, choices);
-            DecodeReply::Done
-        }
+    if let Some(bad) = first_bad(values, base, size, w, k) {
+        return Err(Refused::Flags(bad));
     }
+    write_choices(values, base, size, w, k, choices);
+    Ok(())
 }
 
 // Writes the choices that an assignment stands for.
@@ -119,11 +112,9 @@ pub fn decode<'a>(
     bound: u64,
     values: &[u8],
     choices: &mut [u8],
-) -> DecodeReply
-    ensures { record { reply = result; choices = choices.new } ≡ DECODE file.now piece.now property bound values.now choices.old }
+) -> Result<(), Refused>
+    ensures { record { reply = told result; choices = choices.new } ≡ DECODE file.now piece.now property bound values.now choices.old }
 {
-    match admit(file, piece, property, bound) {
-        Admission::Refused { number, place } => DecodeReply::Refused { number, place },
-        Admission::Passed(s) => decode_frames(s, bound, values, choices),
-    }
+    let s = admit(file, piece, property, bound)?;
+    decode_frames(s, bound, values, choices)
 }

@@ -1,23 +1,19 @@
 // ENCODE, and the whole formula for VERDICT.
 ghost use Rattle.std.specs.Prelude.{◌≡◌, ◌+◌, ◌≤◌};
 ghost use Rattle.step.specs.Property.{property_of};
+ghost use Rattle.design.specs.Answer.{told};
 ghost use Rattle.design.specs.Tree.{Design};
 ghost use Rattle.design.specs.Check.{check, accepted};
 ghost use Rattle.clauses.specs.Replies.{ENCODE};
 ghost use Rattle.clauses.specs.Ready.{Admitted, Writable, Written};
 
-use super::admission::{Admission, admit};
+use super::admission::admit;
 use super::frame::{FrameSizes, part_words, sizes, variables};
 use super::instance::Instance;
 use super::part::{put_part, put_parts};
 use design::index::{index_cells, index_events, shape};
 use design::limits::{EVENT_PLACES, MAX_MOVERS};
-
-#[derive(Clone, Copy)]
-pub enum EncodeReply {
-    Refused { number: u8, place: usize },
-    Encoded(u64),
-}
+use design::refusal::Refused;
 
 // How many words and variables a formula has.
 #[derive(Clone, Copy)]
@@ -35,16 +31,13 @@ pub fn encode_admitted<'a>(
     part: u64,
     s: FrameSizes,
     buffer: &mut [i32],
-) -> EncodeReply
+) -> Result<u64, Refused>
     requires { Admitted file.now piece.now property bound s × (part ≤ bound + 2) }
-    ensures { record { reply = result; buffer = buffer.new } ≡ ENCODE file.now piece.now property bound part buffer.old }
+    ensures { record { reply = told result; buffer = buffer.new } ≡ ENCODE file.now piece.now property bound part buffer.old }
 {
     let words = part_words(s, bound, part);
     if (buffer.len() as u64) < words {
-        return EncodeReply::Refused {
-            number: 16,
-            place: 0,
-        };
+        return Err(Refused::Memory);
     }
     let mut events = [0u16; EVENT_PLACES];
     index_events(file, &mut events);
@@ -58,7 +51,7 @@ pub fn encode_admitted<'a>(
         bound,
     };
     put_part(file, piece, &events, inst, part, buffer, 0);
-    EncodeReply::Encoded(words)
+    Ok(words)
 }
 
 // Writes the words of a part of the formula and answers their number.
@@ -69,21 +62,14 @@ pub fn encode<'a>(
     bound: u64,
     part: u64,
     buffer: &mut [i32],
-) -> EncodeReply
-    ensures { record { reply = result; buffer = buffer.new } ≡ ENCODE file.now piece.now property bound part buffer.old }
+) -> Result<u64, Refused>
+    ensures { record { reply = told result; buffer = buffer.new } ≡ ENCODE file.now piece.now property bound part buffer.old }
 {
-    match admit(file, piece, property, bound) {
-        Admission::Refused { number, place } => EncodeReply::Refused { number, place },
-        Admission::Passed(s) => {
-            if bound + 2 < part {
-                return EncodeReply::Refused {
-                    number: 15,
-                    place: 0,
-                };
-            }
-            encode_admitted(file, piece, property, bound, part, s, buffer)
-        }
+    let s = admit(file, piece, property, bound)?;
+    if bound + 2 < part {
+        return Err(Refused::Part);
     }
+    encode_admitted(file, piece, property, bound, part, s, buffer)
 }
 
 // Writes the whole formula to the buffer's front.

@@ -23,7 +23,7 @@ write_choices-requires c =
     c.if-values-variables.false c.frame_length-size.ensures.0 in
     (h.0, h.1, c.requires.0.movers, c.if-choices-k.false)
 
-pub returns-in-None : goal.returns-in-None
-returns-in-None c =
+pub returns : goal.returns
+returns c =
     λ d q wf e. good_frames _ _ _ d q wf _ e _ c.variables.ensures.0 c.if-values-variables.false c.if-choices-k.false _ _ _
-    c.frame_length-size.ensures.0 refl refl c.in-None.ensures _ c.write_choices.ensures
+    c.frame_length-size.ensures.0 refl refl c.in_default.ensures _ c.write_choices.ensures

@@ -11,10 +11,10 @@ returns-then-buffer-words c =
     encode_short _ _ _ _ _ _ c.requires.0 (λ i. omega (arith, c.shared_slice_known-1.given i)) c.requires.1 _ c.part_words-words.ensures c.if-buffer-words.true
 
 pub index_events-requires : goal.index_events-requires
-index_events-requires c = (c.requires.0.accepted, search rules)
+index_events-requires c = c.requires.0.accepted
 
 pub index_cells-requires : goal.index_cells-requires
-index_cells-requires c = (c.requires.0.accepted, search rules)
+index_cells-requires c = c.requires.0.accepted
 
 pub shape-shape-requires : goal.shape-shape-requires
 shape-shape-requires c =

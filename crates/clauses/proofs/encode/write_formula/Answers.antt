@@ -7,10 +7,10 @@ pub sizes-s-requires : goal.sizes-s-requires
 sizes-s-requires c = (writable_accepted c.requires, c.requires.right)
 
 pub index_events-requires : goal.index_events-requires
-index_events-requires c = (writable_accepted c.requires, search rules)
+index_events-requires c = writable_accepted c.requires
 
 pub index_cells-requires : goal.index_cells-requires
-index_cells-requires c = (writable_accepted c.requires, search rules)
+index_cells-requires c = writable_accepted c.requires
 
 pub shape-shape-requires : goal.shape-shape-requires
 shape-shape-requires c = writable_accepted c.requires
