@@ -1,6 +1,7 @@
 -- DECODE's answers.
 use Rattle.std.proofs.Common.{◌≡◌, ℕ, zero, suc, ◌+◌, ◌-◌, ◌*◌, ◌<◌, ◌≤◌, Bool, true, false, cond, ◌&&◌, leb, List, ◌∷◌, ◌++◌, length, get_or, take, drop, sym, refl, ap, ◌∙◌, subst, ap₂, suc-mul, arith, le-leb}
 use borrow.Author.Tests.{lt-leb}
+use Rattle.std.specs.Prelude.{Some, None}
 use Rattle.design.specs.Tree.{Design}
 use Rattle.design.specs.WellFormed.{WellFormed}
 use Rattle.design.proofs.WellFormed.{well_formed}
@@ -11,13 +12,14 @@ use Rattle.clauses.specs.Cost.{gates_in}
 use Rattle.design.specs.Answer.{Answer, refused, answer, need}
 use Rattle.clauses.specs.Decode.{just_one, first_one, with_choice, flag_values, chosen_from, choices_of, choices_to_write, written, decode}
 use Rattle.clauses.specs.FrameSizes.{cost_in, frame_sizes, frame_length, variables_of}
-use Rattle.clauses.specs.Chosen.{chosen_in, flags_from, first_bad, chosen_list}
+use Rattle.clauses.specs.Chosen.{below, chosen_in, flags_from, first_bad, chosen_list}
 use Rattle.clauses.specs.Replies.{admission_sizes, DecodeExit, decode_exit, DECODE}
 use Rattle.clauses.specs.declared.frame.FrameSizes.{FrameSizes}
 use Rattle.clauses.specs.declared.admission.Admission.TheVariants as admission
 use Rattle.clauses.specs.declared.decode.DecodeReply.{DecodeReply}
 use Rattle.clauses.specs.declared.decode.DecodeReply.TheVariants.{Refused, Done}
 use Rattle.clauses.proofs.Frames.{P-is}
+use Rattle.clauses.proofs.FlagChoices.{found_at, none_found}
 use Rattle.clauses.proofs.FrameNumbers.{length_is, variables_are}
 use Rattle.clauses.proofs.Admissions.{admission_refused, admission_admitted, admitted_in}
 
@@ -150,14 +152,15 @@ module _ (k : ℕ) (values choices : List ℕ) where
         bad_is : first_bad values size flags k base 0 ≡ first_bad values (F d q) (w d) k base 0
         bad_is = ap₂ (λ (x y : ℕ). first_bad values x y k base 0) size_is flags_is
 
-        pub bad_frame : (r : ℕ) → r ≡ first_bad values size flags k base 0 → r < k → exit (Refused 18 r) choices ≡ exited
-        bad_frame r e l =
-            let z : r ≡ first_bad values (F d q) (w d) k base 0 = e ∙ bad_is in
+        pub bad_frame : (r : ℕ) → Some r ≡ below k (first_bad values size flags k base 0) → exit (Refused 18 r) choices ≡ exited
+        bad_frame r e =
+            let f = found_at k _ r e in
+            let z : r ≡ first_bad values (F d q) (w d) k base 0 = f.0 ∙ bad_is in
             refused_exit 18 r (deep ∙ from_bad d q values k base 0 base_is (omega arith) ∙ ap (refused 18) (sym z))
 
-        pub good_frames : (r : ℕ) → r ≡ first_bad values size flags k base 0 → k ≤ r → (after : List ℕ) → after ≡ chosen_list values size flags k base ++ drop k choices → exit Done after ≡ exited
-        good_frames r e l after c =
-            let z : r ≡ first_bad values (F d q) (w d) k base 0 = e ∙ bad_is in
+        pub good_frames : None ≡ below k (first_bad values size flags k base 0) → (after : List ℕ) → after ≡ chosen_list values size flags k base ++ drop k choices → exit Done after ≡ exited
+        good_frames e after c =
+            let l : k ≤ first_bad values (F d q) (w d) k base 0 = omega (arith, none_found k _ e, bad_is) in
             let u : chosen_list values size flags k base ≡ chosen_list values (F d q) (w d) k base = ap₂ (λ (x y : ℕ). chosen_list values x y k base) size_is flags_is in
             ap (exit Done) (c ∙ ap (λ (xs : List ℕ). xs ++ drop k choices) u)
             ∙ answer_exit (chosen_list values (F d q) (w d) k base) (deep ∙ from_good d q values k base 0 base_is (omega arith)) (list_long values (F d q) (w d) k base)

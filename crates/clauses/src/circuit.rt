@@ -39,13 +39,11 @@ pub fn truth_code(b: u16) -> u32
 pub fn constant(x: u16) -> [u32; 16]
     ensures { from_codes result ≡ constant_bits 16 x }
 {
-    let mut out = [3u32; 16];
+    let mut out = [FALSE; 16];
     let mut n = x;
-    let mut i: usize = 0;
-    while i < 16 {
-        out[i] = truth_code(n % 2);
-        n = n / 2;
-        i = i + 1;
+    for lit in &mut out {
+        *lit = truth_code(n % 2);
+        n /= 2;
     }
     out
 }
@@ -76,20 +74,18 @@ pub fn sum(a: [u32; 16], b: [u32; 16], c: u32, buf: &mut [i32], cur: usize, var:
     let mut earlier = c;
     let mut at = cur;
     let mut g = var;
-    let mut i: usize = 0;
-    while i < 16 {
+    for i in 0..16 {
         let t = sum_bit(buf, at, g, a[i], b[i], carry);
         out[i] = t.bit;
         earlier = carry;
         carry = t.carry;
         at = t.cur;
         g = t.var;
-        i = i + 1;
     }
     Word {
         lits: out,
-        carry: carry,
-        earlier: earlier,
+        carry,
+        earlier,
         cur: at,
         var: g,
     }
@@ -99,12 +95,8 @@ pub fn sum(a: [u32; 16], b: [u32; 16], c: u32, buf: &mut [i32], cur: usize, var:
 pub fn shift(x: [u32; 16]) -> [u32; 16]
     ensures { from_codes result ≡ shifted false_literal (from_codes x) }
 {
-    let mut out = [3u32; 16];
-    let mut i: usize = 1;
-    while i < 16 {
-        out[i] = x[i - 1];
-        i = i + 1;
-    }
+    let mut out = [FALSE; 16];
+    out[1..].copy_from_slice(&x[..15]);
     out
 }
 
@@ -133,13 +125,7 @@ pub fn product(left: usize, c: u16, x: [u32; 16], partial: Word, buf: &mut [i32]
 pub fn negate_all(b: [u32; 16]) -> [u32; 16]
     ensures { from_codes result ≡ map negated (from_codes b) }
 {
-    let mut out = [0u32; 16];
-    let mut i: usize = 0;
-    while i < 16 {
-        out[i] = negate(b[i]);
-        i = i + 1;
-    }
-    out
+    b.map(negate)
 }
 
 pub fn negate_top(b: [u32; 16]) -> [u32; 16]
@@ -177,13 +163,11 @@ pub fn xors(a: [u32; 16], b: [u32; 16], buf: &mut [i32], cur: usize, var: u32) -
     let mut out = [0u32; 16];
     let mut at = cur;
     let mut g = var;
-    let mut i: usize = 0;
-    while i < 16 {
+    for i in 0..16 {
         let t = emit_xor(buf, at, g, a[i], b[i]);
         out[i] = t.lit;
         at = t.cur;
         g = t.var;
-        i = i + 1;
     }
     Word {
         lits: out,
@@ -198,23 +182,11 @@ pub fn xors(a: [u32; 16], b: [u32; 16], buf: &mut [i32], cur: usize, var: u32) -
 pub fn chain(x: [u32; 16], c: u32, buf: &mut [i32], cur: usize, var: u32) -> Out
     ensures { Emits var (chain! (from_code c) (map negated (from_codes x)) var) buf.old buf.new cur (from_code result.lit) result.cur result.var }
 {
-    let mut part = c;
-    let mut at = cur;
-    let mut g = var;
-    let mut i: usize = 0;
-    while i < 16 {
-        let n = negate(x[i]);
-        let t = emit_and(buf, at, g, part, n);
-        part = t.lit;
-        at = t.cur;
-        g = t.var;
-        i = i + 1;
+    let mut part = Out { lit: c, cur, var };
+    for l in x {
+        part = emit_and(buf, part.cur, part.var, part.lit, negate(l));
     }
-    Out {
-        lit: part,
-        cur: at,
-        var: g,
-    }
+    part
 }
 
 pub fn equal(a: [u32; 16], b: [u32; 16], buf: &mut [i32], cur: usize, var: u32) -> Out

@@ -36,12 +36,8 @@ pub fn load(bits: &[u32], off: usize, w: usize) -> [u32; 16]
     requires { (off + w ≤ length bits.now) × (w ≤ 16) }
     ensures { from_codes result ≡ pad 16 (take w (drop off (from_codes bits.now))) }
 {
-    let mut out = [3u32; 16];
-    let mut i: usize = 0;
-    while i < w {
-        out[i] = bits[off + i];
-        i = i + 1;
-    }
+    let mut out = [FALSE; 16];
+    out[..w].copy_from_slice(&bits[off..off + w]);
     out
 }
 

@@ -105,12 +105,10 @@ pub fn put_last<'a>(
     let stride = frame_length(sizes) as u32;
     let mut at = cur;
     let mut x: u32 = 2;
-    let mut j: u64 = 0;
-    while j < frames {
+    for _ in 0..frames {
         let l = property_literal(file, piece, events, inst, x, stride);
         at = put_literal(buf, at, negate(l));
-        x = x + stride;
-        j = j + 1;
+        x += stride;
     }
     put_end(buf, at)
 }

@@ -31,28 +31,19 @@ pub fn encode_step(
     ensures { AllMove file.now shape bits.now pen buf.old buf.new result × (length result.firsts ≡ max_movers) }
 {
     let mut firsts = [0u32; MAX_MOVERS];
-    let mut at = pen.cur;
-    let mut g = pen.var;
-    let mut i: usize = 0;
-    while i < shape.normals + shape.externals {
-        let p = Cursor { cur: at, var: g };
-        if i < shape.normals {
-            let t = encode_cell(file, events, cells[i] as usize, shape, bits, buf, p);
-            firsts[i] = t.first;
-            at = t.cur;
-            g = t.var;
-            i = i + 1;
+    let mut pen = pen;
+    for i in 0..shape.normals + shape.externals {
+        let t = if i < shape.normals {
+            encode_cell(file, events, cells[i] as usize, shape, bits, buf, pen)
         } else {
             let v = external(file, shape.variables, i - shape.normals);
-            let t = encode_external(file, v, shape, bits, buf, p);
-            firsts[i] = t.first;
-            at = t.cur;
-            g = t.var;
-            i = i + 1;
-        }
+            encode_external(file, v, shape, bits, buf, pen)
+        };
+        firsts[i] = t.first;
+        pen = Cursor {
+            cur: t.cur,
+            var: t.var,
+        };
     }
-    StepOut {
-        firsts: firsts,
-        pen: Cursor { cur: at, var: g },
-    }
+    StepOut { firsts, pen }
 }

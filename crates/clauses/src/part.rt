@@ -75,7 +75,7 @@ pub fn put_frame<'a>(
     let n = s.bits as usize;
     let bits = variables(v, n);
     let pen = Cursor {
-        cur: cur,
+        cur,
         var: v + n as u32,
     };
     let x = encode_property(file, piece, events, inst, &bits, buf, pen);
@@ -120,12 +120,9 @@ pub fn put_parts<'a>(
     requires { FormulaReady file.now events.now inst × (piece_right file.now piece.now inst.property ≡ true) }
     ensures { FormulaPut file.now piece.now buf.old buf.new 0 result inst }
 {
-    let k = inst.bound;
     let mut at: usize = 0;
-    let mut i: u64 = 0;
-    while i < k + 3 {
+    for i in 0..inst.bound + 3 {
         at = put_part(file, piece, events, inst, i, buf, at);
-        i = i + 1;
     }
     at
 }

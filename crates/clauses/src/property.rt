@@ -66,30 +66,17 @@ pub fn encode_invalid(
     requires { Ready file.now events.now shape × (length bits.now ≡ max_bits) }
     ensures { (d : Design) (parts : Parts file.now d) → InvalidGates file.now shape bits.now d.invalid pen buf.old buf.new result }
 {
-    let count = trailer_word(file, CELLS);
     let mut p = trailer_word(file, CELLS_AT);
-    let mut part = TRUE;
-    let mut at = pen.cur;
-    let mut g = pen.var;
-    let mut i = 0;
-    while i < count {
-        let chain = Out {
-            lit: part,
-            cur: at,
-            var: g,
-        };
-        let t = encode_link(file, events, p, shape, bits, buf, chain);
-        part = t.lit;
-        at = t.cur;
-        g = t.var;
-        p = p + 8 + wide(file[p + 5]) + word(file, p + 6);
-        i = i + 1;
+    let mut chain = Out {
+        lit: TRUE,
+        cur: pen.cur,
+        var: pen.var,
+    };
+    for _ in 0..trailer_word(file, CELLS) {
+        chain = encode_link(file, events, p, shape, bits, buf, chain);
+        p += 8 + wide(file[p + 5]) + word(file, p + 6);
     }
-    Out {
-        lit: part,
-        cur: at,
-        var: g,
-    }
+    chain
 }
 
 // A property's end: an and with the mark's negation.

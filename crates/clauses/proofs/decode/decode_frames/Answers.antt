@@ -8,14 +8,14 @@ returns-then-values-variables c = λ d q wf e. short_values _ _ _ d q wf _ e _ c
 pub returns-then-choices-k : goal.returns-then-choices-k
 returns-then-choices-k c = λ d q wf e. short_choices _ _ _ d q wf _ e _ c.variables.ensures.0 c.if-values-variables.false c.if-choices-k.true
 
-pub first_bad-bad-requires : goal.first_bad-bad-requires
-first_bad-bad-requires c =
+pub first_bad-requires : goal.first_bad-requires
+first_bad-requires c =
     frames_fit c.args.values.now c.args.s c.args.bound _ _ c.variables.ensures.0 c.if-values-variables.false
     c.frame_length-size.ensures.0
 
-pub returns-then-bad-k : goal.returns-then-bad-k
-returns-then-bad-k c =
-    λ d q wf e. bad_frame _ _ _ d q wf _ e _ c.variables.ensures.0 c.if-values-variables.false c.if-choices-k.false _ _ _ c.frame_length-size.ensures.0 refl refl _ c.first_bad-bad.ensures.0 c.if-bad-k.true
+pub returns-in-Some : goal.returns-in-Some
+returns-in-Some c =
+    λ d q wf e. bad_frame _ _ _ d q wf _ e _ c.variables.ensures.0 c.if-values-variables.false c.if-choices-k.false _ _ _ c.frame_length-size.ensures.0 refl refl _ c.in-Some.ensures
 
 pub write_choices-requires : goal.write_choices-requires
 write_choices-requires c =
@@ -23,8 +23,7 @@ write_choices-requires c =
     c.if-values-variables.false c.frame_length-size.ensures.0 in
     (h.0, h.1, c.requires.0.movers, c.if-choices-k.false)
 
-pub returns : goal.returns
-returns c =
+pub returns-in-None : goal.returns-in-None
+returns-in-None c =
     λ d q wf e. good_frames _ _ _ d q wf _ e _ c.variables.ensures.0 c.if-values-variables.false c.if-choices-k.false _ _ _
-    c.frame_length-size.ensures.0 refl refl _ c.first_bad-bad.ensures.0
-    c.if-bad-k.false _ c.write_choices.ensures
+    c.frame_length-size.ensures.0 refl refl c.in-None.ensures _ c.write_choices.ensures

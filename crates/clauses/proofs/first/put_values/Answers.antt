@@ -59,22 +59,12 @@ overflow_add-x c =
           c.loop-v-test.true),
     )
 
-pub overflow_add-v-in-loop-v : goal.overflow_add-v-in-loop-v
-overflow_add-v-in-loop-v c =
-    omega (
-      arith,
-      (values_inside c.args.file.now c.requires.accepted c.args.shape.variables c.requires.counts.variables c.loop-v.v c.loop-v-test.true),
-    )
-
 pub loop-v-preserved : goal.loop-v-preserved
 loop-v-preserved c = (
   valuing_on c.args.file.now c.requires.accepted c.args.shape.variables c.requires.counts.variables c.loop-v-test.true c.loop-v.invariant.0
       _ _ _ c.width-n.ensures c.word-value.ensures.0 refl c.put_units-at.ensures,
   omega arith,
 )
-
-pub shape_of-buf : goal.shape_of-buf
-shape_of-buf c = omega (arith, c.loop-v.invariant.1)
 
 pub returns : goal.returns
 returns c =
