@@ -19,8 +19,7 @@ use Rattle.clauses.specs.declared.gate.Pen.{Pen}
 use Rattle.clauses.specs.declared.gate.Out.{Out}
 use Rattle.clauses.specs.declared.circuit.Bit.{Bit}
 use Rattle.clauses.specs.declared.circuit.Word.{Word}
-use Rattle.clauses.specs.declared.expression.IntOut.{IntOut}
-use Rattle.clauses.specs.declared.expression.BoolOut.{BoolOut}
+use Rattle.clauses.specs.declared.expression.Encoded.{Encoded}
 use Rattle.clauses.specs.declared.action.Done.{Done}
 
 -- gates written from one cursor to another
@@ -32,8 +31,8 @@ abbrev pub WritesMarked : {A : Type 0} → Pen → Build (WithMark A) → List �
 WritesMarked pen build xs ys out after = Writes pen.at build xs ys (record { result = out; mark = from_code after.mark }) after.at × (after.marks ≡ pen.marks)
 
 -- an operand in code, with the mark behind it
-abbrev pub int_marked : IntOut → WithMark Bits
-int_marked r = record { result = from_codes r.lits; mark = from_code r.pen.mark }
+abbrev pub int_marked : Encoded (List ℕ) → WithMark Bits
+int_marked r = record { result = from_codes r.value; mark = from_code r.pen.mark }
 
 -- the mark behind an operator, whose gates end at a cursor: an or of the mark so far with a test, if the pen marks
 abbrev pub MarkWritten : Cursor → Pen → Build Literal → List ℤ → List ℤ → Pen → Type 0
@@ -102,11 +101,11 @@ module _ (text file : List ℕ) (shape : Shape) where
   abbrev pub bool_gates : Bool → List ℕ → Bool → Literal → BoolExpr → Build (WithMark Literal)
   bool_gates later codes marks m t = bool! marks (layout_of shape) (read_slots later file shape codes) m t
 
-  abbrev pub IntEncoded : Bool → List ℕ → ℕ → Pen → List ℤ → List ℤ → IntOut → Type 0
-  IntEncoded later codes at pen xs ys r = EncodesMarked text (ints_at later) (int_gates later codes) at pen xs ys (from_codes r.lits) r.pen r.next
+  abbrev pub IntEncoded : Bool → List ℕ → ℕ → Pen → List ℤ → List ℤ → Encoded (List ℕ) → Type 0
+  IntEncoded later codes at pen xs ys r = EncodesMarked text (ints_at later) (int_gates later codes) at pen xs ys (from_codes r.value) r.pen r.next
 
-  abbrev pub BoolEncoded : Bool → List ℕ → ℕ → Pen → List ℤ → List ℤ → BoolOut → Type 0
-  BoolEncoded later codes at pen xs ys r = EncodesMarked text (bools_at later) (bool_gates later codes) at pen xs ys (from_code r.lit) r.pen r.next
+  abbrev pub BoolEncoded : Bool → List ℕ → ℕ → Pen → List ℤ → List ℤ → Encoded ℕ → Type 0
+  BoolEncoded later codes at pen xs ys r = EncodesMarked text (bools_at later) (bool_gates later codes) at pen xs ys (from_code r.value) r.pen r.next
 
   -- an expression that marks nothing
   abbrev pub TestEncoded : Bool → List ℕ → ℕ → Cursor → List ℤ → List ℤ → Out → Type 0

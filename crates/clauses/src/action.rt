@@ -74,21 +74,18 @@ pub fn encode_assign(
     };
     if k == 1 {
         let x = encode_int(file, file, at + 1, shape, state, buf, from);
-        let w = x.lits;
         state[last] = x.pen.mark;
-        store_word(state, o, w, 16);
-        let done = x.pen.at;
+        store_word(state, o, x.value, 16);
         Done {
-            pen: done,
+            pen: x.pen.at,
             next: x.next,
         }
     } else {
         let x = encode_bool(file, file, at + 1, shape, state, buf, from);
         state[last] = x.pen.mark;
-        state[o] = x.lit;
-        let done = x.pen.at;
+        state[o] = x.value;
         Done {
-            pen: done,
+            pen: x.pen.at,
             next: x.next,
         }
     }
@@ -122,7 +119,7 @@ pub fn encode_stmt(
     let mut other = *state;
     let a = encode_list(file, c.next, shape, state, buf, c.pen.at);
     let b = encode_list(file, a.next, shape, &mut other, buf, a.pen);
-    let m = muxes(shape, c.lit, state, &other, buf, b.pen);
+    let m = muxes(shape, c.value, state, &other, buf, b.pen);
     Done {
         pen: m,
         next: b.next,

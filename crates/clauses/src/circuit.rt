@@ -105,7 +105,7 @@ pub fn addend(bit: u16, x: [u32; 16]) -> [u32; 16]
     ensures { from_codes result ≡ addend_of (truth bit) (from_codes x) }
 {
     if bit == 0 {
-        return [3u32; 16];
+        return [FALSE; 16];
     }
     x
 }

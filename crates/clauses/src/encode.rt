@@ -51,11 +51,11 @@ pub fn encode_admitted<'a>(
     let mut cells = [0u16; MAX_MOVERS];
     let shape = shape(file, index_cells(file, &mut cells));
     let inst = Instance {
-        shape: shape,
-        cells: cells,
+        shape,
+        cells,
         sizes: s,
-        property: property,
-        bound: bound,
+        property,
+        bound,
     };
     put_part(file, piece, &events, inst, part, buffer, 0);
     EncodeReply::Encoded(words)
@@ -103,15 +103,15 @@ pub fn write_formula<'a>(
     let mut cells = [0u16; MAX_MOVERS];
     let shape = shape(file, index_cells(file, &mut cells));
     let inst = Instance {
-        shape: shape,
-        cells: cells,
+        shape,
+        cells,
         sizes: s,
-        property: property,
-        bound: bound,
+        property,
+        bound,
     };
     let words = put_parts(file, piece, &events, inst, clauses);
     Formula {
-        words: words,
+        words,
         variables: variables(s, bound) as usize,
     }
 }

@@ -113,7 +113,7 @@ encode_stmt-returns t c =
     let x = c.encode_bool-c in
     let size = length-set state (shape.bits - 1) x.result.pen.mark in
     let marked = set state (shape.bits - 1) x.result.pen.mark in (
-      if_node file shape state marked _ _ _ x.result.lit c.args.pen (get_or state (shape.bits - 1) 0) x.result.pen c.if-op-eq32.false (mark_read false c.requires.0 (omega arith) false refl).1
+      if_node file shape state marked _ _ _ x.result.value c.args.pen (get_or state (shape.bits - 1) 0) x.result.pen c.if-op-eq32.false (mark_read false c.requires.0 (omega arith) false refl).1
           (mark_over file shape c.requires.0 c.requires.0.bits x.result.pen.mark) (x.ensures false) c.encode_list-a.ensures.0 c.encode_list-b.ensures.0
           (c.muxes-m.ensures.0 file c.requires.0.sum),
       c.muxes-m.ensures.1,

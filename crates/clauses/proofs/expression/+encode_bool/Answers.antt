@@ -64,7 +64,7 @@ returns-then-op-eq18 t c =
     let at = c.args.at in
     λ later. only_node (bools_at text file shape later) (bools_at text file shape later) (bool_gates text file shape later bits) (bool_gates text file shape later bits) not_b
     (not_one text file shape later at c.if-op-eq18.true) negate (not_tree (layout_of shape) (read_slots later file shape bits)) c.args.pen _ _ _
-    (c.encode_bool-a.ensures later) c.negate-l.ensures
+    (c.encode_bool-a.ensures later) c.negate.ensures
 
 pub overflow_add-at-then-op-lt21 : goal.overflow_add-at-then-op-lt21
 overflow_add-at-then-op-lt21 t c =
