@@ -384,7 +384,7 @@ module _ (text file : List ℕ) (shape : Shape) (later : Bool) (at : ℕ) where
 
     -- an expression that marks nothing
     pub test_node : (pen : Cursor) (none : ℕ) {xs ys : List ℤ} (r : ℕ) (after : Pen) {next : ℕ} → from_code none ≡ false_literal → EncodesMarked text (bools_at text file shape later) BG at (record { at = pen; marks = false; mark = none }) xs ys (from_code r) after next
-        → TestEncoded text file shape later codes at pen xs ys (record { lit = r; cur = after.at.cur; var = after.at.var })
+        → TestEncoded text file shape later codes at pen xs ys (record { value = r; pen = after.at })
     unfolding test!
     test_node pen none r after e w end levels t n i h =
         emits_map (bool! false (layout_of shape) SL false_literal t) (λ (x : WithMark Literal). x.result)

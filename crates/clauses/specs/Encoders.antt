@@ -38,19 +38,22 @@ int_marked r = record { result = from_codes r.value; mark = from_code r.pen.mark
 abbrev pub MarkWritten : Cursor → Pen → Build Literal → List ℤ → List ℤ → Pen → Type 0
 MarkWritten from pen test xs ys after = Writes from (mark! pen.marks (from_code pen.mark) test) xs ys (from_code after.mark) after.at × (after.marks ≡ pen.marks)
 
--- gates whose result is a literal
-abbrev pub Gives : Cursor → Build Literal → List ℤ → List ℤ → Out → Type 0
-Gives pen build xs ys r = Emits pen.var (build pen.var) xs ys pen.cur (from_code r.lit) r.cur r.var
+-- gates whose result is a literal, or a word of them
+abbrev pub Gives : Cursor → Build Literal → List ℤ → List ℤ → Out ℕ → Type 0
+Gives pen build xs ys r = Writes pen build xs ys (from_code r.value) r.pen
 
--- a sum's bits and carries, and those of one bit, from a cursor and a next variable on
+abbrev pub GivesWord : Cursor → Build Bits → List ℤ → List ℤ → Out (List ℕ) → Type 0
+GivesWord pen build xs ys r = Writes pen build xs ys (from_codes r.value) r.pen
+
+-- a sum's bits and carries, and those of one bit
 abbrev pub summed : Word → Summed
 summed r = record { bits = from_codes r.lits; carry = from_code r.carry; earlier = from_code r.earlier }
 
-abbrev pub Sums : ℕ → ℕ → Build Summed → List ℤ → List ℤ → Word → Type 0
-Sums cur var build xs ys r = Emits var (build var) xs ys cur (summed r) r.cur r.var
+abbrev pub Sums : Cursor → Build Summed → List ℤ → List ℤ → Out Word → Type 0
+Sums pen build xs ys r = Writes pen build xs ys (summed r.value) r.pen
 
-abbrev pub SumsBit : ℕ → ℕ → Build SumBit → List ℤ → List ℤ → Bit → Type 0
-SumsBit cur var build xs ys r = Emits var (build var) xs ys cur (record { bit = from_code r.bit; carry = from_code r.carry }) r.cur r.var
+abbrev pub SumsBit : Cursor → Build SumBit → List ℤ → List ℤ → Out Bit → Type 0
+SumsBit pen build xs ys r = Writes pen build xs ys (record { bit = from_code r.value.bit; carry = from_code r.value.carry }) r.pen
 
 -- the muxes of all bits, for each file whose state has so many
 abbrev pub MuxesWritten : Shape → ℕ → List ℕ → List ℕ → List ℕ → Cursor → List ℤ → List ℤ → Cursor → Type 0
@@ -108,7 +111,7 @@ module _ (text file : List ℕ) (shape : Shape) where
   BoolEncoded later codes at pen xs ys r = EncodesMarked text (bools_at later) (bool_gates later codes) at pen xs ys (from_code r.value) r.pen r.next
 
   -- an expression that marks nothing
-  abbrev pub TestEncoded : Bool → List ℕ → ℕ → Cursor → List ℤ → List ℤ → Out → Type 0
+  abbrev pub TestEncoded : Bool → List ℕ → ℕ → Cursor → List ℤ → List ℤ → Out ℕ → Type 0
   TestEncoded later codes at pen xs ys r =
       (end levels : ℕ) (t : BoolExpr) (n : ℕ) → end ≤ length text → bools_at later end levels at ≡ got t n → Gives pen (test! (layout_of shape) (read_slots later file shape codes) t) xs ys r
 

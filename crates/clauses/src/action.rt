@@ -33,12 +33,9 @@ pub fn muxes(
 {
     let mut pen = pen;
     for i in 0..shape.bits {
-        let t = emit_mux(buf, pen.cur, pen.var, c, state[i], other[i]);
-        state[i] = t.lit;
-        pen = Cursor {
-            cur: t.cur,
-            var: t.var,
-        };
+        let t = emit_mux(buf, pen, c, state[i], other[i]);
+        state[i] = t.value;
+        pen = t.pen;
     }
     pen
 }

@@ -8,7 +8,7 @@ ghost use Rattle.clauses.specs.Builders.{beside!, arithmetic!, multiplied!, logi
 ghost use Rattle.clauses.specs.FlatState.{read_slots, Slotted};
 ghost use Rattle.clauses.specs.Encoders.{WritesMarked, int_marked, IntHere, BoolHere, IntEncoded, BoolEncoded, TestEncoded};
 
-use super::circuit::{Word, constant, difference, equal, less, product, sum, truth_code};
+use super::circuit::{constant, difference, equal, less, product, sum, truth_code};
 use super::gate::{Cursor, Out, Pen, emit_and, emit_or, moved};
 use super::literal::{FALSE, negate};
 use super::mark::{mark_product, mark_sum};
@@ -38,13 +38,13 @@ pub fn load(bits: &[u32], off: usize, w: usize) -> [u32; 16]
 fn arithmetic(op: u8, a: [u32; 16], b: Encoded<[u32; 16]>, buf: &mut [i32]) -> Encoded<[u32; 16]>
     ensures { WritesMarked b.pen (arithmetic! op b.pen.marks (from_codes a) (int_marked b)) buf.old buf.new (from_codes result.value) result.pen × (result.next ≡ b.next) }
 {
-    let at = b.pen.at;
     let w = if op == 0x04 {
-        sum(a, b.value, FALSE, buf, at.cur, at.var)
+        sum(a, b.value, FALSE, buf, b.pen.at)
     } else {
-        difference(a, b.value, buf, at.cur, at.var)
+        difference(a, b.value, buf, b.pen.at)
     };
-    let value = w.lits;
+    let total = w.value;
+    let value = total.lits;
     Encoded {
         value,
         pen: mark_sum(w, b.pen, buf),
@@ -56,20 +56,17 @@ fn arithmetic(op: u8, a: [u32; 16], b: Encoded<[u32; 16]>, buf: &mut [i32]) -> E
 fn multiply(c: u16, a: Encoded<[u32; 16]>, buf: &mut [i32]) -> Encoded<[u32; 16]>
     ensures { WritesMarked a.pen (multiplied! c a.pen.marks (int_marked a)) buf.old buf.new (from_codes result.value) result.pen × (result.next ≡ a.next) }
 {
-    let lits = constant(0);
-    let start = Word {
-        lits,
-        carry: FALSE,
-        earlier: FALSE,
-        cur: a.pen.at.cur,
-        var: a.pen.at.var,
+    let value = constant(0);
+    let none = Out {
+        value,
+        pen: a.pen.at,
     };
     let x = a.value;
-    let w = product(16, c, x, start, buf);
-    let value = w.lits;
+    let w = product(16, c, x, none, buf);
+    let value = w.value;
     Encoded {
         value,
-        pen: mark_product(c, x, moved(a.pen, w.cur, w.var), buf),
+        pen: mark_product(c, x, moved(a.pen, w.pen), buf),
         next: a.next,
     }
 }
@@ -77,15 +74,14 @@ fn multiply(c: u16, a: Encoded<[u32; 16]>, buf: &mut [i32]) -> Encoded<[u32; 16]
 fn logic(op: u8, a: u32, b: Encoded<u32>, buf: &mut [i32]) -> Encoded<u32>
     ensures { WritesMarked b.pen (beside! (from_code b.pen.mark) (logic! op (from_code a) (from_code b.value))) buf.old buf.new (from_code result.value) result.pen × (result.next ≡ b.next) }
 {
-    let at = b.pen.at;
     let w = if op == 0x13 {
-        emit_and(buf, at.cur, at.var, a, b.value)
+        emit_and(buf, b.pen.at, a, b.value)
     } else {
-        emit_or(buf, at.cur, at.var, a, b.value)
+        emit_or(buf, b.pen.at, a, b.value)
     };
     Encoded {
-        value: w.lit,
-        pen: moved(b.pen, w.cur, w.var),
+        value: w.value,
+        pen: moved(b.pen, w.pen),
         next: b.next,
     }
 }
@@ -93,15 +89,14 @@ fn logic(op: u8, a: u32, b: Encoded<u32>, buf: &mut [i32]) -> Encoded<u32>
 fn compare(op: u8, a: [u32; 16], b: Encoded<[u32; 16]>, buf: &mut [i32]) -> Encoded<u32>
     ensures { WritesMarked b.pen (beside! (from_code b.pen.mark) (compare! op (from_codes a) (from_codes b.value))) buf.old buf.new (from_code result.value) result.pen × (result.next ≡ b.next) }
 {
-    let at = b.pen.at;
     let w = if op == 0x15 {
-        equal(a, b.value, buf, at.cur, at.var)
+        equal(a, b.value, buf, b.pen.at)
     } else {
-        less(a, b.value, buf, at.cur, at.var)
+        less(a, b.value, buf, b.pen.at)
     };
     Encoded {
-        value: w.lit,
-        pen: moved(b.pen, w.cur, w.var),
+        value: w.value,
+        pen: moved(b.pen, w.pen),
         next: b.next,
     }
 }
@@ -299,7 +294,7 @@ pub fn encode_test(
     bits: &[u32],
     buf: &mut [i32],
     pen: Cursor,
-) -> Out
+) -> Out<u32>
     requires { (later : Bool) × Slotted later file.now shape bits.now × BoolHere text.now file.now shape later at }
     ensures { (later : Bool)
         → TestEncoded text.now file.now shape later bits.now at pen buf.old buf.new result }
@@ -311,8 +306,7 @@ pub fn encode_test(
     };
     let x = encode_bool(text, file, at, shape, bits, buf, quiet);
     Out {
-        lit: x.value,
-        cur: x.pen.at.cur,
-        var: x.pen.at.var,
+        value: x.value,
+        pen: x.pen.at,
     }
 }

@@ -40,7 +40,7 @@ pub fn state_literal<'a>(
         var: v + shape.bits as u32,
     };
     let x = encode_property(file, piece, events, inst, &bits, &mut none, pen);
-    x.lit
+    x.value
 }
 
 // a - b, or 0 where b is greater.
@@ -66,7 +66,7 @@ pub fn step_literal(file: &[u8], shape: Shape, property: u64, v: u32, after: u32
         var: less_by(after, gates.ands + gates.wides),
     };
     let x = encode_step_property(file, shape, property, v, after, &mut none, pen);
-    x.lit
+    x.value
 }
 
 // The property's literal in the frame at v, where frames are `stride` apart.

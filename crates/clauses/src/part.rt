@@ -51,9 +51,9 @@ pub fn put_step(
         var: flags + all as u32,
     };
     let g = encode_step(file, events, &cells, shape, &bits, buf, pen);
-    let firsts = g.firsts;
+    let firsts = g.value;
     let x = encode_step_property(file, shape, inst.property, v, after, buf, g.pen);
-    put_all_ties(buf, x.cur, flags, all, &firsts, after, n)
+    put_all_ties(buf, x.pen.cur, flags, all, &firsts, after, n)
 }
 
 // Frame j: the property's gates, and the step out of it if it is not the last.
@@ -80,9 +80,9 @@ pub fn put_frame<'a>(
     };
     let x = encode_property(file, piece, events, inst, &bits, buf, pen);
     if j < k {
-        put_step(file, events, inst, v, buf, x.cur)
+        put_step(file, events, inst, v, buf, x.pen.cur)
     } else {
-        x.cur
+        x.pen.cur
     }
 }
 

@@ -42,11 +42,11 @@ encode_external-t-requires c = (
   raised_kind c.requires.0.shaped c.requires.2 c.loop-i.i _ c.if-i-shape.false c.loop-i-test.true c.external-v.ensures.0,
 )
 
-pub offset_bounds-firsts-i : goal.offset_bounds-firsts-i
-offset_bounds-firsts-i c = omega (arith, all_few c.requires.0.shaped c.requires.2, c.loop-i-test.true)
+pub offset_bounds-value-i : goal.offset_bounds-value-i
+offset_bounds-value-i c = omega (arith, all_few c.requires.0.shaped c.requires.2, c.loop-i-test.true)
 
-pub bounds-firsts-i : goal.bounds-firsts-i
-bounds-firsts-i c = omega (arith, all_few c.requires.0.shaped c.requires.2, c.loop-i-test.true)
+pub bounds-value-i : goal.bounds-value-i
+bounds-value-i c = omega (arith, all_few c.requires.0.shaped c.requires.2, c.loop-i-test.true)
 
 pub loop-i-preserved : goal.loop-i-preserved
 loop-i-preserved c =

@@ -4,4 +4,4 @@ use Rattle.clauses.proofs.EmitSteps.{Scanning}
 use Rattle.clauses.proofs.property.encode_invalid.Given as goal
 
 abbrev pub invariant-loop : goal.invariant-loop
-invariant-loop l = Scanning l.file l.shape l.bits l.initial.chain.var l.initial.buf l.initial.chain.cur l.p l.buf (from_code l.chain.lit) l.chain.cur l.chain.var l.counter × (length l.buf ≡ length l.initial.buf)
+invariant-loop l = Scanning l.file l.shape l.bits l.initial.chain.pen.var l.initial.buf l.initial.chain.pen.cur l.p l.buf (from_code l.chain.value) l.chain.pen.cur l.chain.pen.var l.counter × (length l.buf ≡ length l.initial.buf)

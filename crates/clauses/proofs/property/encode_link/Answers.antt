@@ -21,4 +21,4 @@ status_and_event-a-requires c = c.requires
 pub returns : goal.returns
 returns c =
     λ d w. link_emits (layout_of c.args.shape) (slots_of c.args.file.now c.args.shape c.args.bits.now) _ _ _ _ _ _ _ (λ e.
-    c.if-kind-eq0.false (c.wide-kind.ensures.0 ∙ e)) c.negate-n.ensures (c.status_and_event-a.ensures d w) c.emit_and.ensures
+    c.if-kind-eq0.false (c.wide-kind.ensures.0 ∙ e)) c.negate.ensures (c.status_and_event-a.ensures d w) c.emit_and.ensures
