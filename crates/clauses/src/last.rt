@@ -47,10 +47,7 @@ pub fn state_literal<'a>(
 pub fn less_by(a: u32, b: u64) -> u32
     ensures { b ≤ a → result ≡ a - b }
 {
-    if (a as u64) < b {
-        return 0;
-    }
-    a - b as u32
+    (a as u64).saturating_sub(b) as u32
 }
 
 // Property 2's literal in the step out of the frame at v, the next frame being at `after`; its gates go nowhere. They are the last before the next frame.

@@ -47,9 +47,9 @@ pub fn least_operand(c: u16) -> u16
         return LEAST;
     }
     if c < LEAST {
-        return std::num::wrapping_sub_u16(0, LEAST / c);
+        return (LEAST / c).wrapping_neg();
     }
-    std::num::wrapping_sub_u16(0, LARGEST / std::num::wrapping_sub_u16(0, c))
+    (LARGEST / c.wrapping_neg()).wrapping_neg()
 }
 
 pub fn largest_operand(c: u16) -> u16
@@ -64,7 +64,7 @@ pub fn largest_operand(c: u16) -> u16
     if c == MINUS_ONE {
         return LARGEST;
     }
-    LEAST / std::num::wrapping_sub_u16(0, c)
+    LEAST / c.wrapping_neg()
 }
 
 // After the sums of a product of x by c: less(x, least), less(largest, x), their or.
