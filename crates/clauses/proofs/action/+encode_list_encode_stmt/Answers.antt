@@ -32,19 +32,12 @@ encode_list-loop-preserved t c = (
   omega arith,
 )
 
-pub encode_list-shape_of-buf : goal.encode_list-shape_of-buf
-encode_list-shape_of-buf t c = c.loop.invariant.1
-
 pub encode_list-returns : goal.encode_list-returns
 encode_list-returns t c =
     listing_end c.args.file.now c.args.shape c.loop.invariant.0 (omega arith)
 
 pub encode_stmt-bounds-file-at : goal.encode_stmt-bounds-file-at
 encode_stmt-bounds-file-at t c =
-    omega (arith, stmt_here c.args.file.now c.args.shape c.requires.2)
-
-pub encode_stmt-overflow_add-at : goal.encode_stmt-overflow_add-at
-encode_stmt-overflow_add-at t c =
     omega (arith, stmt_here c.args.file.now c.args.shape c.requires.2)
 
 pub encode_stmt-encode_assign-requires : goal.encode_stmt-encode_assign-requires
@@ -63,9 +56,6 @@ encode_stmt-returns-then-op-eq32 t c = (
 pub encode_stmt-overflow_sub-last : goal.encode_stmt-overflow_sub-last
 encode_stmt-overflow_sub-last t c = omega (arith, bits_some c.requires.0)
 
-pub encode_stmt-bounds-state-last : goal.encode_stmt-bounds-state-last
-encode_stmt-bounds-state-last t c = omega (arith, c.requires.0.few, c.requires.1)
-
 pub encode_stmt-overflow_add-at-2 : goal.encode_stmt-overflow_add-at-2
 encode_stmt-overflow_add-at-2 t c =
     omega (arith, stmt_here c.args.file.now c.args.shape c.requires.2)
@@ -73,10 +63,6 @@ encode_stmt-overflow_add-at-2 t c =
 pub encode_stmt-encode_bool-c-requires : goal.encode_stmt-encode_bool-c-requires
 encode_stmt-encode_bool-c-requires t c =
     (false, c.requires.0, if_test_here c.args.file.now c.args.shape c.requires.2 c.if-op-eq32.false)
-
-pub encode_stmt-bounds-state-last-2 : goal.encode_stmt-bounds-state-last-2
-encode_stmt-bounds-state-last-2 t c =
-    omega (arith, c.requires.0.few, c.requires.1)
 
 pub encode_stmt-encode_list-a-requires : goal.encode_stmt-encode_list-a-requires
 encode_stmt-encode_list-a-requires t c =

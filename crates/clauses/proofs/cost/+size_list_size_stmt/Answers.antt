@@ -47,9 +47,6 @@ size_list-returns t c = counting_end _ _ _ _ _ _ _ _ (omega arith) c.loop.invari
 pub size_stmt-bounds-file-at : goal.size_stmt-bounds-file-at
 size_stmt-bounds-file-at t c = omega (arith, stmt_live _ _ _ _ _ c.requires.readable)
 
-pub size_stmt-overflow_add-at : goal.size_stmt-overflow_add-at
-size_stmt-overflow_add-at t c = omega (arith, stmt_live _ _ _ _ _ c.requires.readable)
-
 pub size_stmt-size_assign-requires : goal.size_stmt-size_assign-requires
 size_stmt-size_assign-requires t c =
     record {
@@ -60,9 +57,6 @@ size_stmt-size_assign-requires t c =
 pub size_stmt-returns-then-op-eq32 : goal.size_stmt-returns-then-op-eq32
 size_stmt-returns-then-op-eq32 t c =
     stated_assign _ _ _ _ _ c.requires.readable _ c.if-op-eq32.true _ (c.size_assign.ensures _)
-
-pub size_stmt-overflow_add-at-in-32-to-33 : goal.size_stmt-overflow_add-at-in-32-to-33
-size_stmt-overflow_add-at-in-32-to-33 t c = omega (arith, stmt_live _ _ _ _ _ c.requires.readable)
 
 pub size_stmt-size_bool-c-requires : goal.size_stmt-size_bool-c-requires
 size_stmt-size_bool-c-requires t c =

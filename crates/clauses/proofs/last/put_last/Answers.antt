@@ -3,14 +3,8 @@ use Rattle.clauses.proofs.FrameNumbers.{start_low}
 use Rattle.clauses.proofs.EmitParts.{closing_start, closing_on, closing_end}
 use Rattle.clauses.proofs.last.put_last.Goals as goal
 
-pub overflow_add-frames : goal.overflow_add-frames
-overflow_add-frames c = let small = c.requires.2 in omega (arith, small.sizes.last, small.bound)
-
 pub frame_length-stride-requires : goal.frame_length-stride-requires
 frame_length-stride-requires c = c.requires.2.sizes
-
-pub overflow_cast-stride : goal.overflow_cast-stride
-overflow_cast-stride c = omega (arith, c.frame_length-stride.ensures.1)
 
 pub loop-init : goal.loop-init
 loop-init c = (closing_start _ _ _ _ _ _ _, refl)
@@ -22,18 +16,6 @@ property_literal-l-requires c =
       c.requires.1,
       start_low small _ _ _ (omega (arith, small.sizes.last, c.loop-test.true)) c.frame_length-stride.ensures.0 c.loop.invariant.0.start,
       omega (arith, c.frame_length-stride.ensures.1),
-    )
-
-pub overflow_add-x : goal.overflow_add-x
-overflow_add-x c =
-    let small = c.requires.2 in omega (
-      arith,
-      start_low small _ _ _ (omega (
-        arith,
-        small.sizes.last,
-        c.loop-test.true,
-      )) c.frame_length-stride.ensures.0 c.loop.invariant.0.start,
-      c.frame_length-stride.ensures.1,
     )
 
 pub loop-preserved : goal.loop-preserved

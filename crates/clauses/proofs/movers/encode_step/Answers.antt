@@ -1,7 +1,7 @@
 use Rattle.std.proofs.Common.{refl, arith}
 use Rattle.clauses.specs.FlatState.{slots_of, layout_of}
 use Rattle.clauses.proofs.CellCounts.{kinds}
-use Rattle.clauses.proofs.EmitSteps.{few_cells, place_small, cell_here, cell_is, external_is, raised_kind, all_few, moving_start, moving_on, moving_end, mover_total}
+use Rattle.clauses.proofs.EmitSteps.{cell_here, cell_is, external_is, raised_kind, all_few, moving_start, moving_on, moving_end, mover_total}
 use Rattle.clauses.proofs.movers.encode_step.Goals as goal
 use Rattle.clauses.proofs.movers.encode_step.Goals.{then-i-shape, else-i-shape}
 
@@ -10,18 +10,6 @@ loop-i-init c = (moving_start c.args.file.now c.args.shape c.args.bits.now _ _ _
 
 pub overflow_add-i-end : goal.overflow_add-i-end
 overflow_add-i-end c = omega (arith, all_few c.requires.0.shaped c.requires.2)
-
-pub offset_bounds-cells-i : goal.offset_bounds-cells-i
-offset_bounds-cells-i c =
-    omega (arith, few_cells c.requires.0.shaped c.requires.2, c.if-i-shape.true)
-
-pub bounds-cells-i : goal.bounds-cells-i
-bounds-cells-i c =
-    omega (arith, few_cells c.requires.0.shaped c.requires.2, c.if-i-shape.true)
-
-pub overflow_cast-cells : goal.overflow_cast-cells
-overflow_cast-cells c =
-    omega (arith, place_small c.requires.0.shaped c.requires.2 c.loop-i.i c.if-i-shape.true)
 
 pub encode_cell-t-requires : goal.encode_cell-t-requires
 encode_cell-t-requires c = (

@@ -5,9 +5,6 @@ use Rattle.clauses.proofs.part.put_parts.Goals as goal
 pub loop-i-init : goal.loop-i-init
 loop-i-init c = parts_start _ _ _ _ _ _
 
-pub overflow_add-i-end : goal.overflow_add-i-end
-overflow_add-i-end c = omega (arith, c.requires.0.small.bound)
-
 pub put_part-at-requires : goal.put_part-at-requires
 put_part-at-requires c =
     (c.requires.0, c.requires.1, omega (arith, c.loop-i-test.true))

@@ -1,14 +1,7 @@
-use Rattle.std.proofs.Common.{sym, ◌∙◌, arith}
+use Rattle.std.proofs.Common.{sym, ◌∙◌}
 use Rattle.clauses.specs.FlatState.{slots_of, layout_of}
-use Rattle.clauses.proofs.CellCounts.{sizes}
 use Rattle.clauses.proofs.EmitSteps.{link_pass, link_emits}
 use Rattle.clauses.proofs.property.encode_link.Goals as goal
-
-pub overflow_add-p : goal.overflow_add-p
-overflow_add-p c = omega (arith, c.requires.2.header, sizes c.requires.0.shaped)
-
-pub bounds-file-p : goal.bounds-file-p
-bounds-file-p c = omega (arith, c.requires.2.header, sizes c.requires.0.shaped)
 
 pub returns-then-kind-eq0 : goal.returns-then-kind-eq0
 returns-then-kind-eq0 c =
