@@ -87,13 +87,7 @@ pub fn decode_frames(s: FrameSizes, bound: u64, values: &[u8], choices: &mut [u8
         ≡ decode_exit (written (choices_of d q bound values.now (length choices.old)) choices.old) }
 {
     let k = bound as usize;
-    if (values.len() as u64) < variables(s, bound) {
-        return DecodeReply::Refused {
-            number: 16,
-            place: 0,
-        };
-    }
-    if choices.len() < k {
+    if (values.len() as u64) < variables(s, bound) || choices.len() < k {
         return DecodeReply::Refused {
             number: 16,
             place: 0,
