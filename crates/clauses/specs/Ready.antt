@@ -4,7 +4,7 @@ use Rattle.design.specs.Tree.{BoolExpr, Variable, InvalidCell, Design, Mover, mo
 use Rattle.design.specs.State.{width}
 use Rattle.design.specs.DesignFile.{c_kind, c_matrix, c_status, c_event}
 use Rattle.design.specs.Check.{Checked, check}
-use Rattle.design.specs.Places.{Accepted, Shaped, StateBits, EventsIndexed, CellsIndexed, externals_from}
+use Rattle.design.specs.Places.{Accepted, Measured, Shaped, StateBits, EventsIndexed, CellsIndexed, externals_from}
 use Rattle.design.specs.Sections.{Parts}
 use Rattle.design.specs.declared.shape.Shape.{Shape}
 use Rattle.step.specs.Piece.{piece_right}
@@ -134,6 +134,13 @@ pub record FormulaReady (file events : List ℕ) (z : Instance) : Type 0 where
   pub normals : CellsIndexed file z.cells z.shape.normals
   pub small : SmallFormula z.sizes z.bound
   pub movers : z.sizes.movers ≡ z.shape.normals + z.shape.externals
+
+-- an instance of an accepted file: where its normal cells stand, its shape, and what is asked
+pub record Instanced (file : List ℕ) (s : FrameSizes) (p k : ℕ) (z : Instance) : Type 0 where
+  pub count : ℕ
+  pub indexed : CellsIndexed file z.cells count
+  pub measured : Measured file count z.shape
+  pub asked : z ≡ record { shape = z.shape; cells = z.cells; sizes = s; property = p; bound = k }
 
 -- what a call about a formula has tested (`admit`), and the sizes of a frame
 pub record Admitted (file piece : List ℕ) (p k : ℕ) (s : FrameSizes) : Type 0 where

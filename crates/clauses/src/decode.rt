@@ -88,10 +88,7 @@ pub fn decode_frames(
         ≡ decode_exit (written (choices_of d q bound values.now (length choices.old)) choices.old) }
 {
     let k = bound as usize;
-    if (values.len() as u64) < variables(s, bound) {
-        return Err(Refused::Memory);
-    }
-    if choices.len() < k {
+    if (values.len() as u64) < variables(s, bound) || choices.len() < k {
         return Err(Refused::Memory);
     }
     let size = frame_length(s) as usize;

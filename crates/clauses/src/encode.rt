@@ -4,8 +4,9 @@ ghost use Rattle.step.specs.Property.{property_of};
 ghost use Rattle.design.specs.Answer.{told};
 ghost use Rattle.design.specs.Tree.{Design};
 ghost use Rattle.design.specs.Check.{check, accepted};
+ghost use Rattle.design.specs.Places.{Accepted};
 ghost use Rattle.clauses.specs.Replies.{ENCODE};
-ghost use Rattle.clauses.specs.Ready.{Admitted, Writable, Written};
+ghost use Rattle.clauses.specs.Ready.{Instanced, Admitted, Writable, Written};
 
 use super::admission::admit;
 use super::frame::{FrameSizes, part_words, sizes, variables};
@@ -20,6 +21,22 @@ use design::refusal::Refused;
 pub struct Formula {
     pub words: usize,
     pub variables: usize,
+}
+
+// What formula is written of an accepted file; `sizes` are those of a frame.
+fn instance(file: &[u8], sizes: FrameSizes, property: u64, bound: u64) -> Instance
+    requires { Accepted file.now }
+    ensures { Instanced file.now sizes property bound result }
+{
+    let mut cells = [0u16; MAX_MOVERS];
+    let shape = shape(file, index_cells(file, &mut cells));
+    Instance {
+        shape,
+        cells,
+        sizes,
+        property,
+        bound,
+    }
 }
 
 // ENCODE of a part that is there, once it is admitted; `s` has the sizes of a frame.
@@ -41,15 +58,7 @@ pub fn encode_admitted<'a>(
     }
     let mut events = [0u16; EVENT_PLACES];
     index_events(file, &mut events);
-    let mut cells = [0u16; MAX_MOVERS];
-    let shape = shape(file, index_cells(file, &mut cells));
-    let inst = Instance {
-        shape,
-        cells,
-        sizes: s,
-        property,
-        bound,
-    };
+    let inst = instance(file, s, property, bound);
     put_part(file, piece, &events, inst, part, buffer, 0);
     Ok(words)
 }
@@ -86,15 +95,7 @@ pub fn write_formula<'a>(
     let s = sizes(file, piece, property);
     let mut events = [0u16; EVENT_PLACES];
     index_events(file, &mut events);
-    let mut cells = [0u16; MAX_MOVERS];
-    let shape = shape(file, index_cells(file, &mut cells));
-    let inst = Instance {
-        shape,
-        cells,
-        sizes: s,
-        property,
-        bound,
-    };
+    let inst = instance(file, s, property, bound);
     let words = put_parts(file, piece, &events, inst, clauses);
     Formula {
         words,

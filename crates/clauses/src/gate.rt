@@ -33,11 +33,7 @@ pub struct Out<T> {
 pub fn moved(pen: Pen, at: Cursor) -> Pen
     ensures { (result.at ≡ at) × (result.marks ≡ pen.marks) × (result.mark ≡ pen.mark) }
 {
-    Pen {
-        at,
-        marks: pen.marks,
-        mark: pen.mark,
-    }
+    Pen { at, ..pen }
 }
 
 pub fn clause1(buf: &mut [i32], cur: usize, a: u32) -> usize

@@ -1,12 +1,14 @@
 use Rattle.std.proofs.Common.{refl}
 use Rattle.clauses.proofs.DecodeCall.{short_values, short_choices, frames_fit, bad_frame, good_frames}
 use Rattle.clauses.proofs.decode.decode_frames.Goals as goal
+use Rattle.clauses.proofs.decode.decode_frames.Goals.{then-values-variables-via-then-values-variables, then-values-variables-via-else-values-variables+then-choices-k}
 
 pub returns-then-values-variables : goal.returns-then-values-variables
-returns-then-values-variables c = λ d q wf e. short_values _ _ _ d q wf _ e _ c.variables.ensures.0 c.if-values-variables.true
-
-pub returns-then-choices-k : goal.returns-then-choices-k
-returns-then-choices-k c = λ d q wf e. short_choices _ _ _ d q wf _ e _ c.variables.ensures.0 c.if-values-variables.false c.if-choices-k.true
+returns-then-values-variables c =
+    λ d q wf e. elim c.then-values-variables.branch [
+      | then-values-variables-via-then-values-variables w ↦ short_values _ _ _ d q wf _ e _ c.variables.ensures.0 w.if-values-variables.true
+      | then-values-variables-via-else-values-variables+then-choices-k w ↦ short_choices _ _ _ d q wf _ e _ c.variables.ensures.0 w.if-values-variables.false w.if-choices-k.true
+    ]
 
 pub first_bad-requires : goal.first_bad-requires
 first_bad-requires c =
