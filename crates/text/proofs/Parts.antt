@@ -18,18 +18,18 @@ use Rattle.step.proofs.Gates.{need_yes}
 use Rattle.step.proofs.Pieces.{no_piece_right}
 use Rattle.clauses.proofs.Admissions.{admit_in, admit_answers, admit_both}
 use Rattle.clauses.specs.Limits.{last_variable}
-use Rattle.step.specs.Operations.{refused_at}
 use Rattle.clauses.specs.Words.{words, is_end}
 use Rattle.clauses.specs.Formula.{n, part, parts_from, formula}
-use Rattle.design.specs.Answer.{Answer, refused, answer, need}
+use Rattle.std.specs.Prelude.{Result, Ok, Err, is_err}
+use Rattle.design.specs.Answer.{Answer, refused, answer, need, told}
+use Rattle.design.specs.Refusal.{number_of, place_of}
+use Rattle.design.specs.declared.refusal.Refused.{Refused}
 use Rattle.step.specs.Limits.{last_property, max_bound}
 use Rattle.clauses.specs.Encode.{words_to_write, filled, encode}
 use Rattle.clauses.specs.Replies.{EncodeExit, encode_exit, ENCODE}
-use Rattle.clauses.specs.declared.encode.EncodeReply.{EncodeReply}
-use Rattle.clauses.specs.declared.encode.EncodeReply.TheVariants.{Refused, Encoded}
 use Rattle.clauses.proofs.SizeNumbers.{words_join}
 use Rattle.text.specs.Text.{signed_text, TextWritten}
-use Rattle.text.specs.Trace.{refusal_text, max_read}
+use Rattle.text.specs.Trace.{refused_at, refusal_text, max_read}
 use Rattle.text.specs.Listing.{word_text, words_text, max_words, none_over, words_to_print, printed, of_input, clauses_text, part_text, part_of_input, is_refused, joined}
 use Rattle.text.proofs.Putting.{written_then, Rest, rest_start, rest_next, rest_end}
 
@@ -72,13 +72,13 @@ words_append [] vs = refl
 words_append (u ∷ us) vs = ap (λ (l : List ℕ). word_text u ++ l) (words_append us vs) ∙ sym (append_assoc (word_text u) (words_text us) (words_text vs))
 
 -- what ENCODE's answer tells of the words
-abbrev exit : EncodeReply → List ℤ → EncodeExit
+abbrev exit : Answer ℕ → List ℤ → EncodeExit
 exit r after = record { reply = r; buffer = after }
 
-told_refused : (x : Answer (List ℤ)) (before after : List ℤ) (n q : ℕ) → exit (Refused n q) after ≡ encode_exit (filled x before) → x ≡ refused n q
-told_refused (refused a b) before after n q e = let z : Refused n q ≡ Refused a b = ap (λ (y : EncodeExit). y.reply) e in cc
+told_refused : (x : Answer (List ℤ)) (before after : List ℤ) (n q : ℕ) → exit (refused n q) after ≡ encode_exit (filled x before) → x ≡ refused n q
+told_refused (refused a b) before after n q e = let z : refused n q ≡ refused a b = ap (λ (y : EncodeExit). y.reply) e in cc
 told_refused (answer ws) before after n q e =
-    let z : Refused n q ≡ Encoded (length ws) = ap (λ (y : EncodeExit). y.reply) e in
+    let z : refused n q ≡ answer (length ws) = ap (λ (y : EncodeExit). y.reply) e in
     let o : ◌≡◌ {A = ℕ} 0 1 = cc in
     absurd (omega arith)
 
@@ -87,13 +87,13 @@ pub record Told (x : Answer (List ℤ)) (after : List ℤ) (n : ℕ) : Type 0 wh
   pub room : n ≤ length after
   pub size : length (take n after) ≡ n
 
-told_encoded : (x : Answer (List ℤ)) (before after : List ℤ) (n : ℕ) → exit (Encoded n) after ≡ encode_exit (filled x before) → Told x after n
+told_encoded : (x : Answer (List ℤ)) (before after : List ℤ) (n : ℕ) → exit (answer n) after ≡ encode_exit (filled x before) → Told x after n
 told_encoded (refused a b) before after n e =
-    let z : Encoded n ≡ Refused a b = ap (λ (y : EncodeExit). y.reply) e in
+    let z : answer n ≡ refused a b = ap (λ (y : EncodeExit). y.reply) e in
     let o : ◌≡◌ {A = ℕ} 0 1 = cc in
     absurd (omega arith)
 told_encoded (answer ws) before after n e =
-    let z : Encoded n ≡ Encoded (length ws) = ap (λ (y : EncodeExit). y.reply) e in
+    let z : answer n ≡ answer (length ws) = ap (λ (y : EncodeExit). y.reply) e in
     let c : length ws ≡ n = cc in
     let b : after ≡ ws ++ drop (length ws) before = ap (λ (y : EncodeExit). y.buffer) e in
     let room : n ≤ length after = omega (arith, ap length b, length-append ws (drop (length ws) before)) in
@@ -103,19 +103,19 @@ told_encoded (answer ws) before after n e =
       size = length-take-le n after room;
     }
 
-module _ (file : List ℕ) (p k i : ℕ) (before after : List ℤ) (r : EncodeReply) (says : exit r after ≡ ENCODE file no_piece p k i before) where
-  pub is_refused_lem : (n q : ℕ) → r ≡ Refused n q → words_to_write file no_piece p k i (length before) ≡ refused n q
+module _ (file : List ℕ) (p k i : ℕ) (before after : List ℤ) (r : Answer ℕ) (says : exit r after ≡ ENCODE file no_piece p k i before) where
+  pub is_refused_lem : (n q : ℕ) → r ≡ refused n q → words_to_write file no_piece p k i (length before) ≡ refused n q
   unfolding encode
-  is_refused_lem n q e = told_refused (words_to_write file no_piece p k i (length before)) before after n q (ap (λ (x : EncodeReply). exit x after) (sym e) ∙ says)
+  is_refused_lem n q e = told_refused (words_to_write file no_piece p k i (length before)) before after n q (ap (λ (x : Answer ℕ). exit x after) (sym e) ∙ says)
 
-  pub is_encoded : (n : ℕ) → r ≡ Encoded n → Told (words_to_write file no_piece p k i (length before)) after n
+  pub is_encoded : (n : ℕ) → r ≡ answer n → Told (words_to_write file no_piece p k i (length before)) after n
   unfolding encode
-  is_encoded n e = told_encoded (words_to_write file no_piece p k i (length before)) before after n (ap (λ (x : EncodeReply). exit x after) (sym e) ∙ says)
+  is_encoded n e = told_encoded (words_to_write file no_piece p k i (length before)) before after n (ap (λ (x : Answer ℕ). exit x after) (sym e) ∙ says)
 
-  pub refused_yes : (n q : ℕ) → r ≡ Refused n q → true ≡ is_refused (words_to_write file no_piece p k i (length before))
+  pub refused_yes : (n q : ℕ) → r ≡ refused n q → true ≡ is_refused (words_to_write file no_piece p k i (length before))
   refused_yes n q e = sym (ap is_refused (is_refused_lem n q e))
 
-  pub refused_no : (n : ℕ) → r ≡ Encoded n → false ≡ is_refused (words_to_write file no_piece p k i (length before))
+  pub refused_no : (n : ℕ) → r ≡ answer n → false ≡ is_refused (words_to_write file no_piece p k i (length before))
   refused_no n e = sym (ap is_refused (is_encoded n e).words)
 
   module _ (size : length before ≡ max_words) {xs ys : List ℕ} {at past : ℕ} where
@@ -125,11 +125,16 @@ module _ (file : List ℕ) (p k i : ℕ) (before after : List ℤ) (r : EncodeRe
         subst (λ (m : ℕ). TextWritten (printed (words_to_write file no_piece p k i m)) xs ys at past) size
         (subst (λ (y : Answer (List ℤ)). TextWritten (printed y) xs ys at past) (sym e) w)
 
-    pub part_refused : (n q : ℕ) → r ≡ Refused n q → TextWritten (refusal_text (refused_at n q)) xs ys at past → TextWritten (part_text file p k i) xs ys at past
+    pub part_refused : (n q : ℕ) → r ≡ refused n q → TextWritten (refusal_text (refused_at n q)) xs ys at past → TextWritten (part_text file p k i) xs ys at past
     part_refused n q e w = part_as (refused n q) (is_refused_lem n q e) w
 
-    pub part_written : (n : ℕ) → r ≡ Encoded n → TextWritten (words_text (take n after)) xs ys at past → TextWritten (part_text file p k i) xs ys at past
+    pub part_written : (n : ℕ) → r ≡ answer n → TextWritten (words_text (take n after)) xs ys at past → TextWritten (part_text file p k i) xs ys at past
     part_written n e w = part_as (answer (take n after)) (is_encoded n e).words w
+
+-- whether ENCODE refuses, by what it returned
+pub refuses_told : (file : List ℕ) (p k i : ℕ) (before after : List ℤ) (r : Result ℕ Refused) → exit (told r) after ≡ ENCODE file no_piece p k i before → is_err r ≡ is_refused (words_to_write file no_piece p k i (length before))
+refuses_told file p k i before after (Ok n) says = refused_no file p k i before after (answer n) says n refl
+refuses_told file p k i before after (Err e) says = refused_yes file p k i before after (refused (number_of e) (place_of e)) says (number_of e) (place_of e) refl
 
 -- so many texts from i on
 joined_one : (f : ℕ → List ℕ) (i : ℕ) → joined f 1 i ≡ f i

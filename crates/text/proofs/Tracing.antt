@@ -10,12 +10,14 @@ use lib.Dec.{eqb, leb, ltb}
 use lib.IntN.{pos}
 use lib.ListN.{length, get_or, take, drop, drop_of_length-le, length-drop, length-map}
 use lib.Seq.{drop-cons, take_at, drop_at, take_all}
-use borrow.Author.Tests.{eq-eqb, ne_eqb, le-leb, lt-leb, leb-true, leb-false, eqb-true}
+use Rattle.std.specs.Prelude.{Some, None}
+use borrow.Author.Tests.{le-ltb, eq-eqb, ne_eqb, le-leb, lt-leb, leb-true, leb-false, eqb-true}
 use Rattle.design.specs.Tree.{Design, movers}
 use Rattle.design.specs.State.{State, Layout, layout, statuses_in, start}
-use Rattle.design.specs.Check.{Checked, refused, accepted, check, variable_count, matrix_count}
-use Rattle.design.specs.Answer.{Answer, answer, need}
-use Rattle.design.specs.declared.Refusal.{Refusal}
+use Rattle.design.specs.Check.{Checked, refused, accepted, check, refusal, variable_count, matrix_count}
+use Rattle.design.specs.Answer.{Answer, answer, need, on_design}
+use Rattle.design.specs.Refusal.{Refusal, refusal_of as coded}
+use Rattle.design.specs.Answer as call
 use Rattle.design.specs.Places.{Shaped, MoversIndexed}
 use Rattle.design.specs.Sections.{Parts}
 use Rattle.design.proofs.Sections.{whole}
@@ -23,11 +25,11 @@ use Rattle.design.proofs.Places.{read}
 use Rattle.step.specs.Piece.{no_piece}
 use Rattle.step.specs.Property.{Property, property_of}
 use Rattle.design.proofs.Widths.{layout_is}
-use Rattle.step.specs.Gate.{gate, refusal_of}
+use Rattle.step.specs.Gate.{gate}
 use Rattle.step.specs.Pattern.{signed}
 use Rattle.step.specs.Interface.{first_wrong}
 use Rattle.step.specs.OneStep.{step, idle, true_at}
-use Rattle.step.specs.Operations.{refused_at, all_right, run_told, choices_right, replayed, REPLAY}
+use Rattle.step.specs.Operations.{all_right, run_told, choices_right, REPLAY}
 use Rattle.step.specs.declared.Replayed.{Replayed}
 use Rattle.step.specs.Limits.{last_state_property}
 use Rattle.step.specs.Ready.{before_in, kept_in, tested_by}
@@ -36,10 +38,10 @@ use Rattle.step.proofs.Answering.{all_below}
 use Rattle.step.proofs.Pairs.{front_long, kept_true}
 use Rattle.design.specs.declared.shape.Shape.{Shape}
 use Rattle.design.proofs.Indexed.{count_movers}
-use Rattle.step.proofs.Gates.{in_range, zero_passed}
+use Rattle.step.proofs.Gates.{gate_answers}
 use Rattle.text.specs.Text.{TextWritten, max_line}
 use Rattle.text.specs.Line.{head, slots_text, line}
-use Rattle.text.specs.Trace.{state_line, next_lines, state_lines, result_text, refusal_text, traced, trace, max_read, replay_text}
+use Rattle.text.specs.Trace.{state_line, next_lines, state_lines, result_text, refused_at, refusal_text, traced, trace, max_read, replay_text}
 use Rattle.text.specs.Ready.{ReplayInput}
 use Rattle.text.proofs.Putting.{written_then, Rest, rest_start, rest_next, rest_end}
 
@@ -130,71 +132,65 @@ pub states_written : (d : Design) (p : Property) (cs : List ℕ) (s : State) {xs
 unfolding state_lines
 states_written d p cs s {xs} {ys} {zs} {m} {r} e g h = subst (λ (t : State). TextWritten (state_line d p 0 0 false none t ++ next_lines d p 0 t cs) xs zs 0 r) e (written_then g h)
 
--- a refusal, by the number that is printed
-pub refusal_as : (n number place : ℕ) {xs ys : List ℕ} {at r : ℕ} → n ≡ number → TextWritten (refusal_text (refused_at n place)) xs ys at r → TextWritten (refusal_text (refused_at number place)) xs ys at r
-refusal_as n number place {xs} {ys} {at} {r} e w = subst (λ (k : ℕ). TextWritten (refusal_text (refused_at k place)) xs ys at r) e w
+-- a refusal, by the number and the place that are printed
+pub refusal_as : (n number k place : ℕ) {xs ys : List ℕ} {at r : ℕ} → n ≡ number → k ≡ place → TextWritten (refusal_text (refused_at n k)) xs ys at r → TextWritten (refusal_text (refused_at number place)) xs ys at r
+refusal_as n number k place {xs} {ys} {at} {r} e q w = subst (λ (us : List ℕ). TextWritten us xs ys at r) (ap₂ (λ (a b : ℕ). refusal_text (refused_at a b)) e q) w
 
--- a result, by the test of it
-pub result_as : (b t : Bool) (i : ℕ) {xs ys : List ℕ} {at r : ℕ} → b ≡ t → TextWritten (result_text t i) xs ys at r → TextWritten (result_text b i) xs ys at r
-result_as b t i {xs} {ys} {at} {r} e w = subst (λ (u : Bool). TextWritten (result_text u i) xs ys at r) (sym e) w
+on_refused : {A : Type 0} (file : List ℕ) (f : Design → Answer A) (i j : ℕ) → check file ≡ refused i j → on_design file f ≡ call.refused i j
+unfolding on_design
+on_refused file f i j e = ap (λ (x : Checked). call.of_checked x f) e
 
--- a call of REPLAY that is not refused
+-- a call of REPLAY
 module _ (file : List ℕ) (p : ℕ) (cs : List ℕ) where
   -- what REPLAY asks of a design, past the gate
-  abbrev asked : Design → Property → Answer (Option ℕ × ℕ × ℕ)
+  abbrev asked : Design → Property → Answer Replayed
   asked d q = need (all_right (choices_right d cs)) 12 (first_wrong (choices_right d cs)) (answer (run_told d q (start d) cs))
 
-  same_refusal : (a : Answer (Option ℕ × ℕ × ℕ)) → (replayed a).refusal ≡ refusal_of a
-  same_refusal (Answer.refused n k) = refl
-  same_refusal (answer (none, e, g)) = refl
-  same_refusal (answer (some i, e, g)) = refl
-
-  need_zero : (t : Bool) (n k : ℕ) (x : Answer (Option ℕ × ℕ × ℕ)) → (n ≡ 0 → ⊥) → (refusal_of (need t n k x)).number ≡ 0 → t ≡ true
-  need_zero true n k x z e = refl
-  need_zero false n k x z e = absurd (z e)
+  need_met : (t : Bool) (n k : ℕ) (x : Answer Replayed) (r : Replayed) → need t n k x ≡ answer r → t ≡ true
+  need_met true n k x r e = refl
+  need_met false n k x r e = let o : ◌≡◌ {A = ℕ} 0 1 = cc in absurd (omega arith)
 
   below_all : (d : Design) → all_right (choices_right d cs) ≡ true → (i : ℕ) → i < length cs → get_or cs i 0 < length (movers d)
   below_all d e =
-      all_below cs (length (movers d)) (first_wrong (choices_right d cs)) refl
-      (let q = eqb-true (first_wrong (choices_right d cs)) (length (choices_right d cs)) e in
-      let n : length (choices_right d cs) ≡ length cs = length-map cs (λ (x : ℕ). ltb x (length (movers d))) in
-      omega arith)
+      let ts = choices_right d cs in
+      let q = eqb-true (first_wrong ts) (length ts) e in
+      all_below cs (length (movers d)) (sym (ap (λ (t : Bool). cond t (Some (first_wrong ts)) None) (le-ltb (first_wrong ts) (length ts) (omega arith))))
 
-  module _ (told : Replayed) (says : told ≡ REPLAY file no_piece p cs) where
-    gated : told.refusal.number ≡ 0 → (refusal_of (gate file no_piece p (length cs) asked)).number ≡ 0
+  -- one that is refused
+  pub trace_refused : {xs ys : List ℕ} {at r : ℕ} (n k : ℕ) → call.refused n k ≡ REPLAY file no_piece p cs → TextWritten (refusal_text (refused_at n k)) xs ys at r → TextWritten (trace file p cs) xs ys at r
+  unfolding trace REPLAY gate
+  trace_refused {xs} {ys} {at} {r} n k says w = subst (λ (us : List ℕ). TextWritten us xs ys at r) (go (check file) refl ∙ ap (λ (x : Answer Replayed). traced file (check file) x p cs) says) w
+    where
+      go : (x : Checked) → check file ≡ x → refusal_text (refused_at n k) ≡ traced file (check file) (call.refused n k) p cs
+      go (refused i j) e = same i j e ∙ sym (ap (λ (x : Checked). traced file x (call.refused n k) p cs) e)
+        where
+          same : (i j : ℕ) → check file ≡ refused i j → refusal_text (refused_at n k) ≡ refusal_text (refused_at i j)
+          same i j e =
+              let z : call.refused n k ≡ call.refused i j = says ∙ on_refused file _ i j e in
+              let a : n ≡ i = cc in
+              let b : k ≡ j = cc in
+              ap₂ (λ (x y : ℕ). refusal_text (refused_at x y)) a b
+      go (accepted d) e = sym (ap (λ (x : Checked). traced file x (call.refused n k) p cs) e)
+
+  -- one that is answered
+  module _ (told : Replayed) (says : answer told ≡ REPLAY file no_piece p cs) where
+    pub replayable : ReplayInput file cs
     unfolding REPLAY
-    gated z = sym (ap (λ (r : Refusal). r.number) (ap (λ (x : Replayed). x.refusal) says ∙ same_refusal (gate file no_piece p (length cs) asked))) ∙ z
-
-    pub replayable : told.refusal.number ≡ 0 → ReplayInput file cs
-    replayable z =
-        let g = zero_passed file no_piece p (length cs) asked (gated z) in
-        let t = read file g.accepted in
-        let q = sym (ap (λ (a : Answer (Option ℕ × ℕ × ℕ)). (refusal_of a).number) (in_range file no_piece p (length cs) asked g.accepted g.property g.right g.bound)) ∙ gated z in
-        let r = need_zero (all_right (choices_right t.tree cs)) 12 (first_wrong (choices_right t.tree cs)) _ (λ y. omega arith) q in
+    replayable =
+        let g = gate_answers file no_piece p (length cs) asked told (sym says) in
         record {
-          design = g.accepted;
+          design = ap (λ (c : Checked). (refusal c).number) g.accepted;
           few = g.bound;
-          below = λ d e. let same : t.tree ≡ d = cc (t.is, e) in below_all d (subst (λ (x : Design). all_right (choices_right x cs) ≡ true) same r);
+          below = λ d e.
+              let same : g.design ≡ d = cc (g.accepted, e) in
+              below_all d (subst (λ (x : Design). all_right (choices_right x cs) ≡ true) same (need_met _ _ _ _ told g.same));
         }
 
-    refusal_traced : (x : Checked) → (told.refusal.number ≡ 0 → ⊥) → refusal_text told.refusal ≡ traced file x told p cs
-    refusal_traced (refused n k) z = refl
-    refusal_traced (accepted d) z = sym (ap (λ (t : Bool). cond t (state_lines d (property_of file no_piece d p) cs ++ result_text told.broken told.step) (refusal_text told.refusal)) (ne_eqb told.refusal.number 0 z))
-
-    pub trace_refused : {xs ys : List ℕ} {at r : ℕ} → (told.refusal.number ≡ 0 → ⊥) → TextWritten (refusal_text told.refusal) xs ys at r → TextWritten (trace file p cs) xs ys at r
+    pub trace_done : {xs ys zs : List ℕ} {at m r : ℕ} → ((d : Design) → check file ≡ accepted d → TextWritten (state_lines d (property_of file no_piece d p) cs) xs ys at m) → TextWritten (result_text told.broken) ys zs m r → TextWritten (trace file p cs) xs zs at r
     unfolding trace
-    trace_refused {xs} {ys} {at} {r} z w = subst (λ (us : List ℕ). TextWritten us xs ys at r) (refusal_traced (check file) z ∙ ap (λ (x : Replayed). traced file (check file) x p cs) says) w
-
-    done_traced : (d : Design) → check file ≡ accepted d → told.refusal.number ≡ 0 → state_lines d (property_of file no_piece d p) cs ++ result_text told.broken told.step ≡ trace file p cs
-    unfolding trace
-    done_traced d e z =
-        sym (ap (λ (t : Bool). cond t (state_lines d (property_of file no_piece d p) cs ++ result_text told.broken told.step) (refusal_text told.refusal)) (eq-eqb told.refusal.number 0 z))
-        ∙ ap₂ (λ (c : Checked) (x : Replayed). traced file c x p cs) (sym e) says
-
-    pub trace_done : {xs ys zs : List ℕ} {at m r : ℕ} → told.refusal.number ≡ 0 → ((d : Design) → check file ≡ accepted d → TextWritten (state_lines d (property_of file no_piece d p) cs) xs ys at m) → TextWritten (result_text told.broken told.step) ys zs m r → TextWritten (trace file p cs) xs zs at r
-    trace_done {xs} {ys} {zs} {at} {m} {r} z g h =
-        let t = read file (replayable z).design in
-        subst (λ (us : List ℕ). TextWritten us xs zs at r) (done_traced t.tree t.is z) (written_then (g t.tree t.is) h)
+    trace_done {xs} {ys} {zs} {at} {m} {r} g h =
+        let t = read file replayable.design in
+        subst (λ (us : List ℕ). TextWritten us xs zs at r) (ap₂ (λ (c : Checked) (x : Answer Replayed). traced file c x p cs) (sym t.is) says) (written_then (g t.tree t.is) h)
 
 -- the input's parts
 module _ (input : List ℕ) {xs ys : List ℕ} {at r : ℕ} where

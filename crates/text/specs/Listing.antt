@@ -3,14 +3,13 @@ use Rattle.std.specs.Prelude.{◌≡◌, refl, Bool, true, false, cond, ◌&&◌
 use Rattle.design.specs.Tree.{Design}
 use Rattle.step.specs.Piece.{no_piece}
 use Rattle.step.specs.Property.{Property}
-use Rattle.step.specs.Operations.{refused_at}
 use Rattle.clauses.specs.Words.{words, is_end}
 use Rattle.clauses.specs.Formula.{part, formula}
 use Rattle.clauses.specs.Admission.{admit}
 use Rattle.design.specs.Answer.{Answer, refused, answer, need}
 use Rattle.clauses.specs.Encode.{words_to_write}
 use Rattle.text.specs.Text.{digits, signed_text}
-use Rattle.text.specs.Trace.{refusal_text, max_read}
+use Rattle.text.specs.Trace.{refused_at, refusal_text, max_read}
 
 -- "a clause a line with its 0, numbers parted by one space": a newline after a 0, a space after any other word
 abbrev pub word_text : ℤ → List ℕ

@@ -1,19 +1,20 @@
 -- What the Replay program prints (document 01, "Programs").
-use Rattle.std.specs.Prelude.{◌≡◌, refl, Bool, true, false, cond, List, [], ◌∷◌, ◌++◌, map, ℕ, suc, ◌+◌, eqb, leb, pos, length, get_or, take, drop}
+use Rattle.std.specs.Prelude.{Option as Maybe, Some, None, ◌≡◌, refl, Bool, true, false, cond, List, [], ◌∷◌, ◌++◌, map, ℕ, suc, ◌+◌, eqb, leb, pos, length, get_or, take, drop}
 use Rattle.std.proofs.Math.Option.{Option, none, some}
 use Rattle.design.specs.Limits.{max_bytes}
 use Rattle.design.specs.Tree.{Design}
 use Rattle.design.specs.State.{State, layout, statuses_in, start}
 use Rattle.design.specs.Check.{Checked, refused, accepted, check, checking}
-use Rattle.design.specs.Answer.{on_design}
+use Rattle.design.specs.Answer.{Answer, answer, on_design}
+use Rattle.design.specs.Answer as call
 use Rattle.design.specs.DesignA.{bytes_a}
-use Rattle.design.specs.declared.Refusal.{Refusal}
+use Rattle.design.specs.Refusal.{Refusal}
 use Rattle.step.specs.Piece.{no_piece, piece_right}
 use Rattle.step.specs.Property.{Property, property_of}
 use Rattle.step.specs.Gate.{gate}
 use Rattle.step.specs.Pattern.{signed}
 use Rattle.step.specs.OneStep.{step, idle, true_at, stepping}
-use Rattle.step.specs.Operations.{refused_at, first_break, REPLAY}
+use Rattle.step.specs.Operations.{first_break, REPLAY}
 use Rattle.step.specs.declared.Replayed.{Replayed}
 use Rattle.text.specs.Text.{digits, decimal}
 use Rattle.text.specs.Line.{spaced, head, tail, line}
@@ -34,17 +35,21 @@ module _ (d : Design) (q : Property) where
   state_lines cs = state_line 0 0 false none (start d) ++ next_lines 0 (start d) cs
 
 -- "broken at N", "holds", "refused N at P"; each ends with a newline
-unfoldable pub result_text : Bool → ℕ → List ℕ
-result_text true i = (98 ∷ 114 ∷ 111 ∷ 107 ∷ 101 ∷ 110 ∷ 32 ∷ 97 ∷ 116 ∷ 32 ∷ []) ++ (decimal i ++ (10 ∷ []))
-result_text false i = 104 ∷ 111 ∷ 108 ∷ 100 ∷ 115 ∷ 10 ∷ []
+unfoldable pub result_text : Maybe ℕ → List ℕ
+result_text (Some i) = (98 ∷ 114 ∷ 111 ∷ 107 ∷ 101 ∷ 110 ∷ 32 ∷ 97 ∷ 116 ∷ 32 ∷ []) ++ (decimal i ++ (10 ∷ []))
+result_text None = 104 ∷ 111 ∷ 108 ∷ 100 ∷ 115 ∷ 10 ∷ []
+
+abbrev pub refused_at : ℕ → ℕ → Refusal
+refused_at number place = record { number = number; place = place }
 
 unfoldable pub refusal_text : Refusal → List ℕ
 refusal_text r = (114 ∷ 101 ∷ 102 ∷ 117 ∷ 115 ∷ 101 ∷ 100 ∷ 32 ∷ []) ++ (decimal r.number ++ ((32 ∷ 97 ∷ 116 ∷ 32 ∷ []) ++ (decimal r.place ++ (10 ∷ []))))
 
 -- of a file, by CHECK's answer and REPLAY's: a refusal is printed alone; the program takes no piece
-abbrev pub traced : List ℕ → Checked → Replayed → ℕ → List ℕ → List ℕ
-traced file (refused number place) r p cs = refusal_text r.refusal
-traced file (accepted d) r p cs = cond (eqb r.refusal.number 0) (state_lines d (property_of file no_piece d p) cs ++ result_text r.broken r.step) (refusal_text r.refusal)
+abbrev pub traced : List ℕ → Checked → Answer Replayed → ℕ → List ℕ → List ℕ
+traced file (refused number place) r p cs = refusal_text (refused_at number place)
+traced file (accepted d) (call.refused number place) p cs = refusal_text (refused_at number place)
+traced file (accepted d) (answer told) p cs = state_lines d (property_of file no_piece d p) cs ++ result_text told.broken
 
 unfoldable pub trace : List ℕ → ℕ → List ℕ → List ℕ
 trace file p cs = traced file (check file) (REPLAY file no_piece p cs) p cs

@@ -8,7 +8,8 @@ ghost use Rattle.text.specs.Listing.{max_words, max_part_text, word_text, words_
 use super::input::design_end;
 use super::number::{put_byte, put_signed};
 use super::trace::put_refusal;
-use clauses::encode::{EncodeReply, encode};
+use clauses::encode::encode;
+use design::refusal::Refused;
 use search::words::ends;
 use std::ops::Range;
 
@@ -55,8 +56,8 @@ fn put_part(
     ensures { TextWritten (part_text file.now property bound part) out.old out.new 0 result × (result ≤ max_part_text) }
 {
     match encode(file, b"", property as u64, bound as u64, part, words) {
-        EncodeReply::Refused { number, place } => put_refusal(out, number, place),
-        EncodeReply::Encoded(count) => {
+        Err(refusal) => put_refusal(out, refusal),
+        Ok(count) => {
             let n = count as usize;
             put_words(&words[..n], out)
         }
@@ -67,13 +68,7 @@ fn put_part(
 fn refuses(file: &[u8], property: u8, bound: u8, part: u64, words: &mut [i32]) -> bool
     ensures { result ≡ is_refused (words_to_write file.now no_piece property bound part (length words.old)) }
 {
-    match encode(file, b"", property as u64, bound as u64, part, words) {
-        EncodeReply::Refused {
-            number: _,
-            place: _,
-        } => true,
-        EncodeReply::Encoded(_) => false,
-    }
+    encode(file, b"", property as u64, bound as u64, part, words).is_err()
 }
 
 // All parts, or the first that is refused.
@@ -108,7 +103,7 @@ pub fn put_part_of(input: &[u8], part: u64, words: &mut [i32], out: &mut [u8]) -
     ensures { TextWritten (part_of_input input.now part) out.old out.new 0 result × (result ≤ max_part_text) }
 {
     if input.len() < 2 {
-        return put_refusal(out, 1, 0);
+        return put_refusal(out, Refused::Length(0));
     }
     let end = design_end(input, 2);
     put_part(&input[2..end], input[0], input[1], part, words, out)

@@ -7,7 +7,7 @@ ghost use Rattle.design.specs.State.{slot_count};
 ghost use Rattle.design.specs.Sections.{Parts};
 ghost use Rattle.step.specs.Piece.{no_piece};
 ghost use Rattle.step.specs.Property.{property_of};
-ghost use Rattle.step.specs.Operations.{refused_at};
+ghost use Rattle.design.specs.Refusal.{refusal_of};
 ghost use Rattle.step.specs.Ready.{ReadyPair, before_in};
 ghost use Rattle.text.specs.Text.{TextWritten, max_line, max_text};
 ghost use Rattle.text.specs.Trace.{state_line, next_lines, state_lines, result_text, refusal_text, trace, replay_text};
@@ -19,29 +19,30 @@ use super::number::{put_byte, put_bytes, put_decimal};
 use design::bytes::wide;
 use design::index::{index_cells, index_events, shape};
 use design::limits::{EVENT_PLACES, MAX_MOVERS, PAIR_SLOTS};
+use design::refusal::Refused;
 use design::shape::{Shape, slot_count};
 use step::mover::step_pair;
 use step::property::{judges_steps, true_at};
 use step::replaying::load_start;
 
 // `refused N at P`, at the front.
-pub fn put_refusal(out: &mut [u8], number: u8, place: usize) -> usize
+pub fn put_refusal(out: &mut [u8], refusal: Refused) -> usize
     requires { max_line ≤ length out.old }
-    ensures { TextWritten (refusal_text (refused_at number place)) out.old out.new 0 result × (result ≤ max_line) }
+    ensures { TextWritten (refusal_text (refusal_of refusal)) out.old out.new 0 result × (result ≤ max_line) }
 {
     let a = put_bytes(out, 0, b"refused ");
-    let b = put_decimal(out, a, wide(number));
+    let b = put_decimal(out, a, wide(refusal.number()));
     let c = put_bytes(out, b, b" at ");
-    let d = put_decimal(out, c, place);
+    let d = put_decimal(out, c, refusal.place());
     put_byte(out, d, b'\n')
 }
 
 // `broken at N`, or `holds`.
-pub fn put_result(out: &mut [u8], at: usize, broken: bool, step: usize) -> usize
+pub fn put_result(out: &mut [u8], at: usize, broken: Option<usize>) -> usize
     requires { at + max_line ≤ length out.old }
-    ensures { TextWritten (result_text broken step) out.old out.new at result × (result ≤ at + max_line) }
+    ensures { TextWritten (result_text broken) out.old out.new at result × (result ≤ at + max_line) }
 {
-    if broken {
+    if let Some(step) = broken {
         let a = put_bytes(out, at, b"broken at ");
         let b = put_decimal(out, a, step);
         return put_byte(out, b, b'\n');
@@ -94,17 +95,15 @@ pub fn put_next(
         × (result ≤ at + max_line * length choices.now) × (length out.new ≡ length out.old) }
 {
     let mut p = at;
-    let mut i = 0;
-    while i < choices.len() {
+    for i in 0..choices.len() {
         let c = wide(choices[i]);
         let tested = step_pair(file, events, cells, shape, c, judges_steps(property), pair);
-        i = i + 1;
         p = put_state(
             file,
             events,
             shape,
             property,
-            i,
+            i + 1,
             c,
             tested.idle,
             pair,
@@ -171,13 +170,13 @@ pub fn put_trace(file: &[u8], property: u8, choices: &[u8], out: &mut [u8]) -> u
     requires { max_text ≤ length out.old }
     ensures { TextWritten (trace file.now property choices.now) out.old out.new 0 result × (result ≤ max_text) }
 {
-    let told = step::replay(file, b"", property as u64, choices);
-    let refusal = told.refusal;
-    if refusal.number != 0 {
-        return put_refusal(out, refusal.number, refusal.place);
+    match step::replay(file, b"", property as u64, choices) {
+        Err(refusal) => put_refusal(out, refusal),
+        Ok(told) => {
+            let a = put_run(file, property as u64, choices, out);
+            put_result(out, a, told.broken)
+        }
     }
-    let a = put_run(file, property as u64, choices, out);
-    put_result(out, a, told.broken, told.step)
 }
 
 // All that the Replay program prints for its input.
@@ -186,11 +185,11 @@ pub fn put_replay(input: &[u8], out: &mut [u8]) -> usize
     ensures { TextWritten (replay_text input.now) out.old out.new 0 result × (result ≤ max_text) }
 {
     if input.len() < 2 {
-        return put_refusal(out, 1, 0);
+        return put_refusal(out, Refused::Length(0));
     }
     let start = 2 + wide(input[1]);
     if input.len() < start {
-        return put_refusal(out, 1, 0);
+        return put_refusal(out, Refused::Length(0));
     }
     let end = design_end(input, start);
     put_trace(&input[start..end], input[0], &input[2..start], out)

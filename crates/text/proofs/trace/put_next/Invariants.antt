@@ -1,11 +1,6 @@
-use Prim.Native.Nat.{◌-◌}
-use lib.ListN.{length}
 use Rattle.design.specs.State.{slot_count}
 use Rattle.text.proofs.Tracing.{Printing}
 use Rattle.text.proofs.trace.put_next.Given as goal
 
 abbrev pub invariant-loop-i : goal.invariant-loop-i
 invariant-loop-i l = Printing l.file l.property (slot_count l.shape) l.choices l.initial.pair l.initial.out l.at l.i l.pair l.out l.p
-
-abbrev pub decreases-loop-i : goal.decreases-loop-i
-decreases-loop-i l = length l.choices - l.i
