@@ -8,15 +8,14 @@ use native.Mathlib.Omega.{arith}
 use native.Mathlib.Numerals.{add-one}
 use lib.Dec.{eqb, leb, ltb}
 use lib.IntN.{pos}
-use lib.ListN.{length, get_or, take, drop, drop_of_length-le, length-drop, length-map}
+use lib.ListN.{length, get_or, take, drop, drop_of_length-le, length-drop}
 use lib.Seq.{drop-cons, take_at, drop_at, take_all}
 use Rattle.std.specs.Prelude.{Some, None}
-use borrow.Author.Tests.{le-ltb, eq-eqb, ne_eqb, le-leb, lt-leb, leb-true, leb-false, eqb-true}
+use borrow.Author.Tests.{le-ltb, ne_eqb, le-leb, lt-leb, leb-true, leb-false, eqb-true}
 use Rattle.design.specs.Tree.{Design, movers}
 use Rattle.design.specs.State.{State, Layout, layout, statuses_in, start}
 use Rattle.design.specs.Check.{Checked, refused, accepted, check, refusal, variable_count, matrix_count}
 use Rattle.design.specs.Answer.{Answer, answer, need, on_design}
-use Rattle.design.specs.Refusal.{Refusal, refusal_of as coded}
 use Rattle.design.specs.Answer as call
 use Rattle.design.specs.Places.{Shaped, MoversIndexed}
 use Rattle.design.specs.Sections.{Parts}

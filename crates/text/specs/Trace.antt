@@ -1,5 +1,5 @@
 -- What the Replay program prints (document 01, "Programs").
-use Rattle.std.specs.Prelude.{Option as Maybe, Some, None, ◌≡◌, refl, Bool, true, false, cond, List, [], ◌∷◌, ◌++◌, map, ℕ, suc, ◌+◌, eqb, leb, pos, length, get_or, take, drop}
+use Rattle.std.specs.Prelude.{Option as Maybe, Some, None, ◌≡◌, refl, Bool, false, cond, List, [], ◌∷◌, ◌++◌, map, ℕ, suc, ◌+◌, leb, pos, length, get_or, take, drop}
 use Rattle.std.proofs.Math.Option.{Option, none, some}
 use Rattle.design.specs.Limits.{max_bytes}
 use Rattle.design.specs.Tree.{Design}
