@@ -111,9 +111,9 @@ module _ (text : List ℕ) (N : Names) (end : ℕ) where
           on = omega arith;
         })
 
-    pub counting_on : (n : ℕ) (g s t : GatesAt) → 0 < n → Counting bits k at n g → s ≡ stmt_gates bits (S k g.next) → t ≡ both g s 0 0 → Counting bits k at (n - 1) t
-    counting_on n g s t l c e u =
-        subst (Counting bits k at (n - 1)) (sym u) (
+    pub counting_on : (n : ℕ) (g s t : GatesAt) → 0 < n → Counting bits k at n g → s ≡ stmt_gates bits (S k g.next) → t ≡ both g s 0 0 → (m : ℕ) → m ≡ n - 1 → Counting bits k at m t
+    counting_on n g s t l c e u rest q =
+        rw q (subst (Counting bits k at (n - 1)) (sym u) (
         let p = g.next in
         let w = seq_step text N end k n p l in
         let both' : is_read (two then (S k p) (Q k (n - 1))) ≡ true = sym (ap is_read w) ∙ c.live in
@@ -128,7 +128,7 @@ module _ (text : List ℕ) (N : Names) (end : ℕ) where
           wides = omega (arith, ap (λ (x : GatesAt). x.wides) j, c.wides);
           ends = ap (λ (x : GatesAt). x.next) j ∙ c.ends;
           on = omega (arith, c.on);
-        })
+        }))
 
     pub counting_few : (n : ℕ) (g : GatesAt) → end ≤ max_bytes → bits ≤ max_bits → Counting bits k at n g → FewGates text_gates g
     counting_few n g l few c =

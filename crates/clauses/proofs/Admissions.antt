@@ -6,7 +6,7 @@ use Rattle.design.specs.Tree.{Design}
 use Rattle.design.specs.Check.{Checked, check, refusal}
 use Rattle.design.specs.Answer.{Answer, refused, answer, need}
 use Rattle.design.specs.Places.{Accepted}
-use Rattle.design.specs.declared.Refusal.{Refusal}
+use Rattle.design.specs.Refusal.{Refusal}
 use Rattle.design.proofs.WellFormed.{well_formed}
 use Rattle.design.proofs.Places.{read}
 use Rattle.step.specs.Limits.{last_property, max_bound}
@@ -19,9 +19,8 @@ use Rattle.clauses.specs.Limits.{last_variable}
 use Rattle.clauses.specs.Admission.{admit}
 use Rattle.clauses.specs.FrameSizes.{frame_sizes, SmallFrame, variables_of}
 use Rattle.clauses.specs.Ready.{Admitted}
-use Rattle.clauses.specs.Replies.{admission_reply, admission_sizes}
+use Rattle.clauses.specs.Replies.{admission_sizes}
 use Rattle.clauses.specs.declared.frame.FrameSizes.{FrameSizes}
-use Rattle.clauses.specs.declared.admission.Admission.TheVariants.{Refused, Passed}
 use Rattle.clauses.proofs.Bounds.{bounded}
 use Rattle.clauses.proofs.FrameCounts.{frame_bound}
 use Rattle.clauses.proofs.FrameNumbers.{variables_are, small_numbers}
@@ -84,8 +83,8 @@ module _ (file piece : List ℕ) (p k : ℕ) where
   abbrev sizes_asked : Design → Property → Answer FrameSizes
   sizes_asked d q = answer (frame_sizes d q)
 
-  pub admission_refuses : (r : Refusal) → r ≡ gate_refusal file piece p k → (r.number ≡ 0 → ⊥) → Refused r.number r.place ≡ admission_sizes file piece p k
-  admission_refuses r e z = sym (ap admission_reply (admit_refuses sizes_asked r e z))
+  pub admission_refuses : (r : Refusal) → r ≡ gate_refusal file piece p k → (r.number ≡ 0 → ⊥) → refused r.number r.place ≡ admission_sizes file piece p k
+  admission_refuses r e z = sym ((admit_refuses sizes_asked r e z))
 
   module _ (h : Accepted file) (low : p ≤ last_property file) (right : piece_right file piece p ≡ true) (few : k ≤ max_bound) (bytes : (i : ℕ) → get_or file i 0 < 256) (s : FrameSizes)
       (f : (d : Design) → check file ≡ Checked.accepted d → s ≡ frame_sizes d (property_of file piece d p)) (v : ℕ) (e : v ≡ variables_of s k) where
@@ -95,28 +94,28 @@ module _ (file piece : List ℕ) (p k : ℕ) where
     n_is : v ≡ n d (property_of file piece d p) k
     n_is = e ∙ ap (λ (x : FrameSizes). variables_of x k) (f d (read file h).is) ∙ variables_are d (well_formed file bytes d (read file h).is) (property_of file piece d p) k
 
-    pub admission_19 : last_variable < v → Refused 19 0 ≡ admission_sizes file piece p k
-    admission_19 l = sym (ap admission_reply (admit_over sizes_asked d (read file h).is low right few (let z : last_variable < n d (property_of file piece d p) k = omega (arith, n_is) in z)))
+    pub admission_19 : last_variable < v → refused 19 0 ≡ admission_sizes file piece p k
+    admission_19 l = sym ((admit_over sizes_asked d (read file h).is low right few (let z : last_variable < n d (property_of file piece d p) k = omega (arith, n_is) in z)))
 
-    pub admission_sizes_lem : v ≤ last_variable → Passed s ≡ admission_sizes file piece p k
+    pub admission_sizes_lem : v ≤ last_variable → answer s ≡ admission_sizes file piece p k
     admission_sizes_lem l =
-        ap Passed (f d (read file h).is) ∙ sym (ap admission_reply (admit_in sizes_asked d (read file h).is low right few (let z : n d (property_of file piece d p) k ≤ last_variable = omega (arith, n_is) in z)))
+        ap answer (f d (read file h).is) ∙ sym ((admit_in sizes_asked d (read file h).is low right few (let z : n d (property_of file piece d p) k ≤ last_variable = omega (arith, n_is) in z)))
 
   -- what its reply tells: a refusal is that of every call, and past it a formula may be written
-  pub admission_refused : (number place : ℕ) → Refused number place ≡ admission_sizes file piece p k → {A : Type 0} (call : Design → Property → Answer A) → admit file piece p k call ≡ refused number place
+  pub admission_refused : (number place : ℕ) → refused number place ≡ admission_sizes file piece p k → {A : Type 0} (call : Design → Property → Answer A) → admit file piece p k call ≡ refused number place
   admission_refused number place e call = go (admit file piece p k sizes_asked) refl e
     where
-      go : (x : Answer FrameSizes) → admit file piece p k sizes_asked ≡ x → Refused number place ≡ admission_reply x → admit file piece p k call ≡ refused number place
+      go : (x : Answer FrameSizes) → admit file piece p k sizes_asked ≡ x → refused number place ≡ x → admit file piece p k call ≡ refused number place
       go (refused i j) q r =
           let a : i ≡ number = cc in
           let b : j ≡ place = cc in
           admit_both sizes_asked call number place (λ d z. absurd (let y : ◌≡◌ {A = ℕ} 0 1 = cc in omega arith)) (q ∙ ap₂ (λ (a b : ℕ). refused a b) a b)
       go (answer s) q r = absurd (let y : ◌≡◌ {A = ℕ} 0 1 = cc in omega arith)
 
-  pub admission_admitted : (s : FrameSizes) → Passed s ≡ admission_sizes file piece p k → ((i : ℕ) → get_or file i 0 < 256) → Admitted file piece p k s
+  pub admission_admitted : (s : FrameSizes) → answer s ≡ admission_sizes file piece p k → ((i : ℕ) → get_or file i 0 < 256) → Admitted file piece p k s
   admission_admitted s e bytes = go (admit file piece p k sizes_asked) refl e
     where
-      go : (x : Answer FrameSizes) → admit file piece p k sizes_asked ≡ x → Passed s ≡ admission_reply x → Admitted file piece p k s
+      go : (x : Answer FrameSizes) → admit file piece p k sizes_asked ≡ x → answer s ≡ x → Admitted file piece p k s
       go (refused i j) q r = absurd (let y : ◌≡◌ {A = ℕ} 0 1 = cc in omega arith)
       go (answer t) q r =
           let g = admit_answers sizes_asked t q in

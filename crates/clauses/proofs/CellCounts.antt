@@ -342,8 +342,8 @@ module _ (file : List ℕ) (bits : ℕ) (t : Bool) where
           let u = s d w f.entry f.stands in
           (omega (arith, u.ands, f.ands), omega (arith, u.wides, f.wides))
 
-      pub walking_on : (r : GatesAt) → r ≡ both g x 0 0 → Walking file bits t (left - 1) r
-      walking_on r e = subst (Walking file bits t (left - 1)) (sym e) (record {
+      pub walking_on : (r : GatesAt) → r ≡ both g x 0 0 → (rest : ℕ) → rest ≡ left - 1 → Walking file bits t rest r
+      walking_on r e rest q = rw q (subst (Walking file bits t (left - 1)) (sym e) (record {
         of = λ d w.
             let f = first d w in
             let u = s d w f.entry f.stands in
@@ -355,7 +355,7 @@ module _ (file : List ℕ) (bits : ℕ) (t : Bool) where
               ands = omega (arith, u.ands, f.ands);
               wides = omega (arith, u.wides, f.wides);
             };
-      })
+      }))
 
   pub walking_end : (left : ℕ) (g : GatesAt) → left ≤ 0 → Walking file bits t left g → (d : Design) (w : Parts file d) → HasGates g (entries_cost bits t w.entries)
   unfolding entries_cost

@@ -1,6 +1,7 @@
 -- DECODE's answers.
 use Rattle.std.proofs.Common.{◌≡◌, ℕ, zero, suc, ◌+◌, ◌-◌, ◌*◌, ◌<◌, ◌≤◌, Bool, true, false, cond, ◌&&◌, leb, List, ◌∷◌, ◌++◌, length, get_or, take, drop, sym, refl, ap, ◌∙◌, subst, ap₂, suc-mul, arith, le-leb}
 use borrow.Author.Tests.{lt-leb}
+use Rattle.std.specs.Prelude.{Some, None}
 use Rattle.design.specs.Tree.{Design}
 use Rattle.design.specs.WellFormed.{WellFormed}
 use Rattle.design.proofs.WellFormed.{well_formed}
@@ -11,13 +12,11 @@ use Rattle.clauses.specs.Cost.{gates_in}
 use Rattle.design.specs.Answer.{Answer, refused, answer, need}
 use Rattle.clauses.specs.Decode.{just_one, first_one, with_choice, flag_values, chosen_from, choices_of, choices_to_write, written, decode}
 use Rattle.clauses.specs.FrameSizes.{cost_in, frame_sizes, frame_length, variables_of}
-use Rattle.clauses.specs.Chosen.{chosen_in, flags_from, first_bad, chosen_list}
+use Rattle.clauses.specs.Chosen.{below, chosen_in, flags_from, first_bad, chosen_list}
 use Rattle.clauses.specs.Replies.{admission_sizes, DecodeExit, decode_exit, DECODE}
 use Rattle.clauses.specs.declared.frame.FrameSizes.{FrameSizes}
-use Rattle.clauses.specs.declared.admission.Admission.TheVariants as admission
-use Rattle.clauses.specs.declared.decode.DecodeReply.{DecodeReply}
-use Rattle.clauses.specs.declared.decode.DecodeReply.TheVariants.{Refused, Done}
 use Rattle.clauses.proofs.Frames.{P-is}
+use Rattle.clauses.proofs.FlagChoices.{found_at, none_found}
 use Rattle.clauses.proofs.FrameNumbers.{length_is, variables_are}
 use Rattle.clauses.proofs.Admissions.{admission_refused, admission_admitted, admitted_in}
 
@@ -96,7 +95,7 @@ pub frames_fit : (values : List ℕ) (s : FrameSizes) (k m size : ℕ) → m ≡
 frames_fit values s k m size q l e = let z : k * size ≡ k * frame_length s = ap (λ (i : ℕ). k * i) e in (omega arith, omega arith)
 
 module _ (k : ℕ) (values choices : List ℕ) where
-  abbrev exit : DecodeReply → List ℕ → DecodeExit
+  abbrev exit : Answer (Unit {0}) → List ℕ → DecodeExit
   exit r cs = record { reply = r; choices = cs }
 
   -- the call of a design, past 19
@@ -108,16 +107,16 @@ module _ (k : ℕ) (values choices : List ℕ) where
     exited = decode_exit (written asked choices)
 
     -- a refusal, and an answer
-    refused_exit : (i j : ℕ) → asked ≡ refused i j → exit (Refused i j) choices ≡ exited
+    refused_exit : (i j : ℕ) → asked ≡ refused i j → exit (refused i j) choices ≡ exited
     refused_exit i j e = sym (ap (λ (x : Answer (List ℕ)). decode_exit (written x choices)) e)
 
-    answer_exit : (cs : List ℕ) → asked ≡ answer cs → length cs ≡ k → exit Done (cs ++ drop k choices) ≡ exited
-    answer_exit cs e l = ap (λ (i : ℕ). exit Done (cs ++ drop i choices)) (sym l) ∙ sym (ap (λ (x : Answer (List ℕ)). decode_exit (written x choices)) e)
+    answer_exit : (cs : List ℕ) → asked ≡ answer cs → length cs ≡ k → exit (answer tt) (cs ++ drop k choices) ≡ exited
+    answer_exit cs e l = ap (λ (i : ℕ). exit (answer tt) (cs ++ drop i choices)) (sym l) ∙ sym (ap (λ (x : Answer (List ℕ)). decode_exit (written x choices)) e)
 
     n_is : variables_of s k ≡ n d q k
     n_is = ap (λ (x : FrameSizes). variables_of x k) same ∙ variables_are d wf q k
 
-    pub short_values : (m : ℕ) → m ≡ variables_of s k → length values < m → exit (Refused 16 0) choices ≡ exited
+    pub short_values : (m : ℕ) → m ≡ variables_of s k → length values < m → exit (refused 16 0) choices ≡ exited
     unfolding choices_of
     short_values m e l = refused_exit 16 0 (ap (λ (t : Bool). need (t && leb k (length choices)) 16 0 (chosen_from d q values k 0)) (lt-leb (n d q k) (length values) (omega (arith, n_is))))
 
@@ -125,7 +124,7 @@ module _ (k : ℕ) (values choices : List ℕ) where
       wide_room : leb (n d q k) (length values) ≡ true
       wide_room = le-leb (n d q k) (length values) (omega (arith, n_is))
 
-      pub short_choices : length choices < k → exit (Refused 16 0) choices ≡ exited
+      pub short_choices : length choices < k → exit (refused 16 0) choices ≡ exited
       unfolding choices_of
       short_choices l = refused_exit 16 0 (ap₂ (λ (t u : Bool). need (t && u) 16 0 (chosen_from d q values k 0)) wide_room (lt-leb k (length choices) l))
 
@@ -150,25 +149,26 @@ module _ (k : ℕ) (values choices : List ℕ) where
         bad_is : first_bad values size flags k base 0 ≡ first_bad values (F d q) (w d) k base 0
         bad_is = ap₂ (λ (x y : ℕ). first_bad values x y k base 0) size_is flags_is
 
-        pub bad_frame : (r : ℕ) → r ≡ first_bad values size flags k base 0 → r < k → exit (Refused 18 r) choices ≡ exited
-        bad_frame r e l =
-            let z : r ≡ first_bad values (F d q) (w d) k base 0 = e ∙ bad_is in
+        pub bad_frame : (r : ℕ) → Some r ≡ below k (first_bad values size flags k base 0) → exit (refused 18 r) choices ≡ exited
+        bad_frame r e =
+            let f = found_at k _ r e in
+            let z : r ≡ first_bad values (F d q) (w d) k base 0 = f.0 ∙ bad_is in
             refused_exit 18 r (deep ∙ from_bad d q values k base 0 base_is (omega arith) ∙ ap (refused 18) (sym z))
 
-        pub good_frames : (r : ℕ) → r ≡ first_bad values size flags k base 0 → k ≤ r → (after : List ℕ) → after ≡ chosen_list values size flags k base ++ drop k choices → exit Done after ≡ exited
-        good_frames r e l after c =
-            let z : r ≡ first_bad values (F d q) (w d) k base 0 = e ∙ bad_is in
+        pub good_frames : None ≡ below k (first_bad values size flags k base 0) → (after : List ℕ) → after ≡ chosen_list values size flags k base ++ drop k choices → exit (answer tt) after ≡ exited
+        good_frames e after c =
+            let l : k ≤ first_bad values (F d q) (w d) k base 0 = omega (arith, none_found k _ e, bad_is) in
             let u : chosen_list values size flags k base ≡ chosen_list values (F d q) (w d) k base = ap₂ (λ (x y : ℕ). chosen_list values x y k base) size_is flags_is in
-            ap (exit Done) (c ∙ ap (λ (xs : List ℕ). xs ++ drop k choices) u)
+            ap (exit (answer tt)) (c ∙ ap (λ (xs : List ℕ). xs ++ drop k choices) u)
             ∙ answer_exit (chosen_list values (F d q) (w d) k base) (deep ∙ from_good d q values k base 0 base_is (omega arith)) (list_long values (F d q) (w d) k base)
 
   -- the call of a file
   module _ (file piece : List ℕ) (p : ℕ) where
-    pub decode_refused : (number place : ℕ) → admission.Refused number place ≡ admission_sizes file piece p k → exit (Refused number place) choices ≡ DECODE file piece p k values choices
+    pub decode_refused : (number place : ℕ) → refused number place ≡ admission_sizes file piece p k → exit (refused number place) choices ≡ DECODE file piece p k values choices
     unfolding decode choices_to_write
     decode_refused number place e = sym (ap (λ (x : Answer (List ℕ)). decode_exit (written x choices)) (admission_refused file piece p k number place e _))
 
-    pub decode_passed : (s : FrameSizes) → admission.Passed s ≡ admission_sizes file piece p k → ((i : ℕ) → get_or file i 0 < 256) → (x : DecodeExit)
+    pub decode_passed : (s : FrameSizes) → answer s ≡ admission_sizes file piece p k → ((i : ℕ) → get_or file i 0 < 256) → (x : DecodeExit)
         → ((d : Design) (q : Property) → WellFormed d → s ≡ frame_sizes d q → x ≡ decode_exit (written (choices_of d q k values (length choices)) choices)) → x ≡ DECODE file piece p k values choices
     unfolding decode choices_to_write
     decode_passed s e bytes x f =

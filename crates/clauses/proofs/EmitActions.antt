@@ -358,6 +358,10 @@ module _ (file : List ℕ) (shape : Shape) where
           past = λ end k ts n i a. let b = l.past end k ts n i a in let d = step end k b.0 n b.1 in (d.tail, ap (Q file N end k (count - 1)) (on end k _ _ i b.1) ∙ d.then);
         }
 
+    pub listing_next : {rest : ℕ} → 0 < count → rest ≡ count - 1 → {ys : List ℤ} (codes' : List ℕ) {p1 : Cursor} {q : ℕ}
+        → Encodes file (stmts_at file file shape) (SG codes) p (record { cur = cur; var = v }) xs ys (SL codes') p1 q × (length codes' ≡ max_bits) → Listing at codes₀ n₀ xs₀ cur₀ rest q codes' ys p1.cur p1.var
+    listing_next h e codes' w = rw e (listing_on h codes' w)
+
     pub listing_end : count ≤ 0 → Encodes file (lists_at file file shape) (LG codes₀) at (record { cur = cur₀; var = n₀ }) xs₀ xs (SL codes) (record { cur = cur; var = v }) p × (length codes ≡ max_bits)
     listing_end h = (
       record {

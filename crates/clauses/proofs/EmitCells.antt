@@ -78,7 +78,7 @@ module _ {file table : List ℕ} {shape : Shape} (h : Ready file table shape) wh
     }
 
     -- its gates
-    pub event_writes : (at : ℕ) → at ≡ place → (codes : List ℕ) {pen : Cursor} {xs ys : List ℤ} (r : Out) → TestEncoded file file shape false codes (at + 1) pen xs ys r
+    pub event_writes : (at : ℕ) → at ≡ place → (codes : List ℕ) {pen : Cursor} {xs ys : List ℤ} (r : Out ℕ) → TestEncoded file file shape false codes (at + 1) pen xs ys r
         → (d : Design) (w : Parts file d) → Gives pen (test! (layout_of shape) (slots_of file shape codes) (event_in w.rows (c_matrix file p) (c_event file p))) xs ys r
     event_writes at q codes {pen = pen} r k d w =
         emits_same _ _ (ap₂ (λ (x y : ℕ). test! (layout_of shape) (slots_of file shape codes) (event_in w.rows x y) pen.var) a b)
@@ -99,7 +99,7 @@ module _ {file table : List ℕ} {shape : Shape} (h : Ready file table shape) wh
     pub guard_here : (n : ℕ) → n ≡ c_guard file p → (n ≡ 0 → ⊥) → BoolHere file file shape false (p + 8)
     guard_here n e z = record { end = p + 8 + n; levels = max_depth; inside = omega (arith, normal_fields.past, long); read = record { tree = x.cell.guard; past = c_middle file p; reads = indexed.guard_got file table shape (tables h) p x n e z } }
 
-    pub guard_writes : (n : ℕ) → n ≡ c_guard file p → (n ≡ 0 → ⊥) → (codes : List ℕ) {pen : Cursor} {xs ys : List ℤ} (r : Out) → TestEncoded file file shape false codes (p + 8) pen xs ys r
+    pub guard_writes : (n : ℕ) → n ≡ c_guard file p → (n ≡ 0 → ⊥) → (codes : List ℕ) {pen : Cursor} {xs ys : List ℤ} (r : Out ℕ) → TestEncoded file file shape false codes (p + 8) pen xs ys r
         → Gives pen (test! (layout_of shape) (slots_of file shape codes) x.cell.guard) xs ys r
     guard_writes n e z codes r k = k (p + 8 + n) max_depth _ _ (omega (arith, normal_fields.past, long)) (indexed.guard_got file table shape (tables h) p x n e z)
 

@@ -7,7 +7,7 @@ use Rattle.clauses.specs.Circuit.{Build, give, ◌>>=◌, and!, xor!, or!, Bits,
 use Rattle.clauses.specs.Writing.{from_code, from_codes, Emits}
 use Rattle.clauses.specs.Builders.{SumBit, sum_bit! }
 use Rattle.clauses.proofs.EmitWords.{append-nil, code_no}
-use Rattle.clauses.proofs.EmitLists.{drop_one, drop_all, drop_none, take_all, codes_more}
+use Rattle.clauses.proofs.EmitLists.{drop_one, drop_all, take_all, codes_more}
 use Rattle.clauses.proofs.EmitBuilds.{emits_same, emits_result, emits_give, emits_bind, emits_map, Left, left_start, left_on, left_map, left_same, left_result, left_end}
 
 pub bit_emits : (n : ℕ) (a b c p s u t k : Literal) {xs x1 x2 x3 x4 x5 : List ℤ} {c0 c1 c2 c3 c4 c5 v1 v2 v3 v4 v5 : ℕ}
@@ -144,25 +144,14 @@ module _ (x : List ℕ) (lx : length x ≡ 16) (c₀ : Literal) (n₀ : ℕ) (xs
       left_end c (left_same _ _ e l.left)
 
 -- words negated
-pub record Negating (b out : List ℕ) (i : ℕ) : Type 0 where
-  pub within : i ≤ 16
-  pub size : length out ≡ 16
-  pub same : from_codes (take i out) ++ map negate (from_codes (drop i b)) ≡ map negate (from_codes b)
+each_negated : (b out : List ℕ) → length b ≡ length out → ((k : ℕ) → k < length b → from_code (get_or out k 0) ≡ negate (from_code (get_or b k 0))) → from_codes out ≡ map negate (from_codes b)
+each_negated [] [] lo h = refl
+each_negated [] (y ∷ out) lo h = absurd (omega arith)
+each_negated (x ∷ b) [] lo h = absurd (omega arith)
+each_negated (x ∷ b) (y ∷ out) lo h = ap₂ (λ (z : Literal) (r : Bits). z ∷ r) (h 0 (omega arith)) (each_negated b out (omega arith) (λ k l. h (suc k) (omega arith)))
 
-pub negating_start : (b out : List ℕ) → length out ≡ 16 → Negating b out 0
-negating_start b out h = record { within = omega arith; size = h; same = refl }
-
-pub negating_on : (b out : List ℕ) (i s : ℕ) → length b ≡ 16 → i < 16 → from_code s ≡ negate (from_code (get_or b i 0)) → Negating b out i → Negating b (set out i s) (i + 1)
-negating_on b out i s lb h e l =
-    record {
-      within = omega arith;
-      size = length-set out i s ∙ l.size;
-      same = sym (codes_more out i s (negate (from_code (get_or b i 0))) (map negate (from_codes (drop (i + 1) b))) (omega (arith, l.size)) e) ∙ ap (λ (r : List ℕ). from_codes (take i out) ++ map negate (from_codes r)) (sym (drop_one b i (omega arith))) ∙ l.same;
-    }
-
-pub negating_end : (b out : List ℕ) (i : ℕ) → length b ≡ 16 → 16 ≤ i → Negating b out i → from_codes out ≡ map negate (from_codes b)
-negating_end b out i lb h l =
-    sym (append-nil (from_codes out)) ∙ ap₂ (λ (x y : List ℕ). from_codes x ++ map negate (from_codes y)) (sym (take_all out i (omega (arith, l.size)))) (sym (drop_all b i (omega arith))) ∙ l.same
+pub negates_all : (b out : List ℕ) → length b ≡ 16 → length out ≡ 16 → ((k : ℕ) → k < 16 → from_code (get_or out k 0) ≡ negate (from_code (get_or b k 0))) → from_codes out ≡ map negate (from_codes b)
+negates_all b out lb lo h = each_negated b out (omega arith) (λ k l. h k (omega arith))
 
 pub negate_top_lem : (b : List ℕ) (k s : ℕ) → length b ≡ suc k → from_code s ≡ negate (from_code (get_or b k 0)) → from_codes (set b k s) ≡ negate_top (from_codes b)
 negate_top_lem [] k s h e = absurd (omega arith)
@@ -171,33 +160,16 @@ negate_top_lem (x ∷ []) (suc k) s h e = absurd (omega arith)
 negate_top_lem (x ∷ y ∷ b) zero s h e = absurd (omega arith)
 negate_top_lem (x ∷ y ∷ b) (suc k) s h e = ap (λ (r : Bits). from_code x ∷ r) (negate_top_lem (y ∷ b) k s (omega arith) e) ∙ refl
 
--- a word shifted by a place: the last literal that was passed comes in below what is left
-pub record Shifting (x out : List ℕ) (i : ℕ) : Type 0 where
-  pub begun : 1 ≤ i
-  pub within : i ≤ 16
-  pub size : length out ≡ 16
-  pub same : from_codes (take i out) ++ shift (from_code (get_or x (i - 1) 0)) (from_codes (drop i x)) ≡ shift false_literal (from_codes x)
+-- a word shifted by a place: false comes in below all literals but the last
+shifts_lem : (y : ℕ) (x : List ℕ) (n : ℕ) → length x ≡ n → shift (from_code y) (from_codes x) ≡ from_codes (take n (y ∷ x))
+shifts_lem y [] zero h = refl
+shifts_lem y [] (suc n) h = absurd (omega arith)
+shifts_lem y (z ∷ x) zero h = absurd (omega arith)
+shifts_lem y (z ∷ x) (suc n) h = ap (λ (r : Bits). from_code y ∷ r) (shifts_lem z x n (omega arith))
 
-pub shifting_start : (x : List ℕ) → length x ≡ 16 → Shifting x (replicate 16 3) 1
-shifting_start [] h = absurd (omega arith)
-shifting_start (y ∷ x) h =
-    record { begun = omega arith; within = omega arith; size = refl; same = ap₂ (λ (a : Literal) (r : List ℕ). a ∷ shift (from_code y) (from_codes r)) code_no (drop_none x) }
-
-pub shifting_on : (x out : List ℕ) (i : ℕ) → length x ≡ 16 → i < 16 → Shifting x out i → Shifting x (set out i (get_or x (i - 1) 0)) (i + 1)
-shifting_on x out i lx h l =
-    let last = get_or x (i - 1) 0 in
-    record {
-      begun = omega arith;
-      within = omega arith;
-      size = length-set out i last ∙ l.size;
-      same = ap (λ (j : ℕ). from_codes (take (i + 1) (set out i last)) ++ shift (from_code (get_or x j 0)) (from_codes (drop (i + 1) x))) (let q : i + 1 - 1 ≡ i = omega arith in q)
-          ∙ sym (codes_more out i last (from_code last) (shift (from_code (get_or x i 0)) (from_codes (drop (i + 1) x))) (omega (arith, l.size)) refl)
-          ∙ ap (λ (r : List ℕ). from_codes (take i out) ++ shift (from_code last) (from_codes r)) (sym (drop_one x i (omega arith))) ∙ l.same;
-    }
-
-pub shifting_end : (x out : List ℕ) (i : ℕ) → length x ≡ 16 → 16 ≤ i → Shifting x out i → from_codes out ≡ shift false_literal (from_codes x)
-shifting_end x out i lx h l =
-    sym (append-nil (from_codes out)) ∙ ap₂ (λ (a b : List ℕ). from_codes a ++ shift (from_code (get_or x (i - 1) 0)) (from_codes b)) (sym (take_all out i (omega (arith, l.size)))) (sym (drop_all x i (omega arith))) ∙ l.same
+pub shifts : (x rest : List ℕ) → length x ≡ 16 → rest ≡ take 15 x → from_codes (3 ∷ (rest ++ [])) ≡ shift false_literal (from_codes x)
+shifts x rest h e =
+    ap (λ (l : List ℕ). from_codes (3 ∷ l)) (append-nil rest ∙ e) ∙ sym (shifts_lem 3 x 16 h) ∙ ap (λ (y : Literal). shift y (from_codes x)) code_no
 
 -- what a product adds, by a bit of the constant
 all_false_lem : (x : List ℕ) (n : ℕ) → length x ≡ n → from_codes (replicate n 3) ≡ addend false (from_codes x)

@@ -18,7 +18,7 @@ use Rattle.clauses.specs.FlatState.{read_slots, layout_of, Slotted, Reads}
 use Rattle.clauses.specs.Encoders.{Writes, WritesMarked, MarkWritten, Here, Encodes, EncodesMarked, ints_at, bools_at, int_gates, bool_gates, IntHere, BoolHere, TestEncoded}
 use Rattle.clauses.specs.declared.gate.Cursor.{Cursor}
 use Rattle.clauses.specs.declared.gate.Pen.{Pen}
-use Rattle.clauses.specs.declared.expression.IntOut.{IntOut}
+use Rattle.clauses.specs.declared.expression.Encoded.{Encoded}
 use Rattle.clauses.proofs.EmitBuilds.{emits_same, emits_result, emits_give, emits_bind, emits_map}
 use Rattle.clauses.proofs.EmitMarks.{Moved, mark_moved}
 use Rattle.clauses.proofs.EmitSlots.{slotted_for}
@@ -256,8 +256,8 @@ module _ {A B R Q : Type 0} {text : List ℕ} (inner : ℕ → ℕ → Reader A)
   }
 
 -- what is handed out by its parts
-pub int_outs : {A : Type 0} {text : List ℕ} {reader : ℕ → ℕ → Reader A} {build : Bool → Literal → A → Build (WithMark Bits)} {at : ℕ} {pen : Pen} {xs ys : List ℤ} (r : IntOut) {lits : List ℕ} {after : Pen} {next : ℕ}
-    → (r.lits ≡ lits) × (r.pen ≡ after) × (r.next ≡ next) → EncodesMarked text reader build at pen xs ys (from_codes lits) after next → EncodesMarked text reader build at pen xs ys (from_codes r.lits) r.pen r.next
+pub int_outs : {A : Type 0} {text : List ℕ} {reader : ℕ → ℕ → Reader A} {build : Bool → Literal → A → Build (WithMark Bits)} {at : ℕ} {pen : Pen} {xs ys : List ℤ} (r : Encoded (List ℕ)) {lits : List ℕ} {after : Pen} {next : ℕ}
+    → (r.value ≡ lits) × (r.pen ≡ after) × (r.next ≡ next) → EncodesMarked text reader build at pen xs ys (from_codes lits) after next → EncodesMarked text reader build at pen xs ys (from_codes r.value) r.pen r.next
 int_outs {text = text} {reader = reader} {build = build} {at = at} {pen = pen} {xs = xs} {ys = ys} r {lits} {after} {next} (a, b, c) w =
     subst (λ (l : List ℕ). EncodesMarked text reader build at pen xs ys (from_codes l) r.pen r.next) (sym a)
     (subst (λ (p : Pen). EncodesMarked text reader build at pen xs ys (from_codes lits) p r.next) (sym b)
@@ -384,7 +384,7 @@ module _ (text file : List ℕ) (shape : Shape) (later : Bool) (at : ℕ) where
 
     -- an expression that marks nothing
     pub test_node : (pen : Cursor) (none : ℕ) {xs ys : List ℤ} (r : ℕ) (after : Pen) {next : ℕ} → from_code none ≡ false_literal → EncodesMarked text (bools_at text file shape later) BG at (record { at = pen; marks = false; mark = none }) xs ys (from_code r) after next
-        → TestEncoded text file shape later codes at pen xs ys (record { lit = r; cur = after.at.cur; var = after.at.var })
+        → TestEncoded text file shape later codes at pen xs ys (record { value = r; pen = after.at })
     unfolding test!
     test_node pen none r after e w end levels t n i h =
         emits_map (bool! false (layout_of shape) SL false_literal t) (λ (x : WithMark Literal). x.result)

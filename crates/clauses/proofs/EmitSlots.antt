@@ -1,6 +1,7 @@
 -- The state's literals in a flat list: widths, offsets, slots. Assumes nothing.
-use Rattle.std.proofs.Common.{◌≡◌, ℕ, zero, suc, ◌+◌, ◌-◌, ◌*◌, ◌/◌, ◌%◌, ◌<◌, ◌≤◌, Bool, true, false, cond, not, ◌||◌, eqb, List, [], ◌∷◌, ◌++◌, length, get_or, take, drop, set, replicate, sym, refl, ap, ◌∙◌, ap₂, append_assoc, add-one, arith, length-append, length-drop, length-set, length-take-le, get_or-drop, take-suc, drop-drop, get_or-append-add, eq-eqb, ne_eqb}
+use Rattle.std.proofs.Common.{◌≡◌, ℕ, zero, suc, ◌+◌, ◌-◌, ◌*◌, ◌/◌, ◌%◌, ◌<◌, ◌≤◌, Bool, true, false, cond, not, ◌||◌, eqb, List, [], ◌∷◌, ◌++◌, length, get_or, take, drop, set, replicate, sym, refl, ap, ◌∙◌, ap₂, arith, length-append, length-drop, length-set, length-take-le, drop-drop, get_or-append-add, eq-eqb, ne_eqb}
 use mathlib.Core.Bool.{false≢true}
+use Rattle.std.proofs.lemmas.List.{drop-replicate}
 use lib.ListN.{length-replicate, get_or-replicate, get_or-append}
 use lib.Seq.{take-append-le, take-append-add}
 use Rattle.design.proofs.Widths.{width_at, total_append, state_size}
@@ -222,33 +223,15 @@ set_seam [] z y r (suc n) h = absurd (omega arith)
 set_seam (x ∷ xs) z y r zero h = absurd (omega arith)
 set_seam (x ∷ xs) z y r (suc n) h = ap (λ (l : List ℕ). x ∷ l) (set_seam xs z y r n (omega arith))
 
-pub record Loading (bits : List ℕ) (off w : ℕ) (out : List ℕ) (i : ℕ) : Type 0 where
-  pub within : i ≤ w
-  pub size : length out ≡ 16
-  pub same : out ≡ take i (drop off bits) ++ replicate (16 - i) 3
+padded : (xs ys : List ℕ) (w : ℕ) → length xs ≡ w → w ≤ 16 → ys ≡ xs → from_codes (ys ++ drop w (replicate 16 3)) ≡ pad 16 (from_codes xs)
+padded xs ys w long small e =
+    ap (λ (a : List ℕ). from_codes (a ++ drop w (replicate 16 3))) e ∙ ap (λ (b : List ℕ). from_codes (xs ++ b)) (drop-replicate w 16 3)
+    ∙ pad_codes xs (16 - w) ∙ ap (λ (j : ℕ). pad j (from_codes xs)) (let q : length xs + (16 - w) ≡ 16 = omega arith in q)
 
-pub loading_start : (bits : List ℕ) (off w : ℕ) → Loading bits off w (replicate 16 3) 0
-loading_start bits off w = record { within = omega arith; size = refl; same = ap (λ (l : List ℕ). l ++ replicate 16 3) (sym (take_none (drop off bits))) }
-
-pub loading_on : (bits : List ℕ) (off w : ℕ) (out : List ℕ) (i : ℕ) → off + w ≤ length bits → w ≤ 16 → i < w → Loading bits off w out i → Loading bits off w (set out i (get_or bits (off + i) 0)) (i + 1)
-loading_on bits off w out i room small h l =
-    let xs = take i (drop off bits) in
-    let y = get_or bits (off + i) 0 in
-    let lx : length xs ≡ i = length-take-le i (drop off bits) (omega (arith, length-drop off bits)) in
-    let k : 16 - i ≡ suc (16 - (i + 1)) = omega arith in
-    let tk : take (i + 1) (drop off bits) ≡ xs ++ (y ∷ []) = ap (λ (j : ℕ). take j (drop off bits)) (add-one i) ∙ take-suc (drop off bits) i 0 (omega (arith, length-drop off bits)) ∙ ap (λ (z : ℕ). xs ++ (z ∷ [])) (get_or-drop off bits i 0) in
-    record {
-      within = omega arith;
-      size = length-set out i y ∙ l.size;
-      same = ap (λ (o : List ℕ). set o i y) (l.same ∙ ap (λ (j : ℕ). xs ++ replicate j 3) k) ∙ set_seam xs 3 y (replicate (16 - (i + 1)) 3) i lx ∙ sym (append_assoc xs (y ∷ []) (replicate (16 - (i + 1)) 3)) ∙ ap (λ (t : List ℕ). t ++ replicate (16 - (i + 1)) 3) (sym tk);
-    }
-
-pub loading_end : (bits : List ℕ) (off w : ℕ) (out : List ℕ) (i : ℕ) → off + w ≤ length bits → w ≤ 16 → w ≤ i → Loading bits off w out i → from_codes out ≡ pad 16 (take w (drop off (from_codes bits)))
-loading_end bits off w out i room small h l =
-    let e : i ≡ w = omega (arith, l.within) in
-    let lx : length (take w (drop off bits)) ≡ w = length-take-le w (drop off bits) (omega (arith, length-drop off bits)) in
-    let q : length (take w (drop off bits)) + (16 - w) ≡ 16 = omega arith in
-    ap from_codes (l.same ∙ ap (λ (j : ℕ). take j (drop off bits) ++ replicate (16 - j) 3) e) ∙ pad_codes (take w (drop off bits)) (16 - w) ∙ ap₂ (λ (j : ℕ) (r : List Literal). pad j r) q (codes_take w (drop off bits) ∙ ap (take w) (codes_drop off bits))
+pub loads : (bits : List ℕ) (off w : ℕ) (ys : List ℕ) → off + w ≤ length bits → w ≤ 16 → ys ≡ take (off + w - off) (drop off bits) → from_codes (ys ++ drop w (replicate 16 3)) ≡ pad 16 (take w (drop off (from_codes bits)))
+loads bits off w ys room small e =
+    padded (take w (drop off bits)) ys w (length-take-le w (drop off bits) (omega (arith, length-drop off bits))) small (e ∙ ap (λ (j : ℕ). take j (drop off bits)) (let q : off + w - off ≡ w = omega arith in q))
+    ∙ ap (pad 16) (codes_take w (drop off bits) ∙ ap (take w) (codes_drop off bits))
 
 -- the literals of a number
 pub record Counting (x : ℕ) (out : List ℕ) (n i : ℕ) : Type 0 where

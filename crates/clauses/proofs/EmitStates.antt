@@ -1,6 +1,7 @@
 -- The flat state: a slot set, and all bits muxed. Assumes nothing.
-use Rattle.std.proofs.Common.{◌≡◌, ℕ, zero, suc, ◌+◌, ◌-◌, ◌*◌, ◌<◌, ◌≤◌, Bool, false, cond, eqb, List, [], ◌∷◌, ◌++◌, length, get_or, take, drop, set, ℤ, sym, refl, ap, ◌∙◌, ap₂, append_assoc, add-one, arith, length-append, length-drop, length-set, take-append-drop, length-take-le, drop-cons, get_or-set_other, get_or-take, take-suc, drop-drop, take_at, take-add, drop_at}
+use Rattle.std.proofs.Common.{◌≡◌, ℕ, zero, suc, ◌+◌, ◌-◌, ◌*◌, ◌<◌, ◌≤◌, Bool, false, cond, eqb, List, [], ◌∷◌, ◌++◌, length, get_or, take, drop, set, ℤ, sym, refl, ap, ◌∙◌, ap₂, append_assoc, add-one, arith, length-append, length-drop, length-set, length-take-le, get_or-set_other, get_or-take, drop-drop, take_at, take-add, drop_at}
 use lib.Seq.{set_split}
+use borrow.Rule.Slice.PartMut.{put_mid}
 use Rattle.design.specs.declared.shape.Shape.{Shape}
 use Rattle.clauses.specs.Literal.{Literal, positive}
 use Rattle.clauses.specs.Gate.{Gate, mux}
@@ -14,7 +15,7 @@ use Rattle.clauses.proofs.EmitWords.{append-nil}
 use Rattle.clauses.proofs.EmitLists.{codes_append, codes_length, codes_take, codes_drop, take_all, take_none}
 use Rattle.clauses.proofs.EmitBuilds.{emits_same, emits_result, emits_map}
 use Rattle.clauses.proofs.EmitCircuits.{Row, Rowing, rowing_start, rowing_on, rowing_end}
-use Rattle.clauses.proofs.EmitSlots.{set_seam, variable_width, variable_start, variable_room, integer_width, boolean_width, status_width_lem, status_start, mark_width_lem, mark_start, widths_length}
+use Rattle.clauses.proofs.EmitSlots.{variable_width, variable_start, variable_room, integer_width, boolean_width, status_width_lem, status_start, mark_width_lem, mark_start, widths_length}
 
 pub cut_set : (ws : List ℕ) (v : ℕ) (xs g : List Literal) → v < length ws → length g ≡ get_or ws v 0 → total ws ≤ length xs
     → cut ws (take (total (take v ws)) xs ++ (g ++ drop (total (take v ws) + length g) xs)) ≡ set (cut ws xs) v g
@@ -107,40 +108,17 @@ unfolding mux_bits!
 mux_row c = record { nil = λ ys n. refl; step = λ a b xs bs n. refl }
 
 -- the first literals of a word stored
-pub record Storing (s₀ : List ℕ) (off : ℕ) (x : List ℕ) (w : ℕ) (s : List ℕ) (i : ℕ) : Type 0 where
-  pub within : i ≤ w
-  pub size : length s ≡ length s₀
-  pub same : s ≡ over off (take i x) s₀
-
-pub storing_start : (s : List ℕ) (off : ℕ) (x : List ℕ) (w : ℕ) → Storing s off x w s 0
+pub stored : (s x : List ℕ) (off w : ℕ) (ys : List ℕ) → w ≤ length x → off + w ≤ length s → ys ≡ take w x
+    → (put_mid off (off + w - off) s ys ≡ over off (take w x) s) × (length (put_mid off (off + w - off) s ys) ≡ length s)
 unfolding over
-storing_start s off x w =
-    record {
-      within = omega arith;
-      size = refl;
-      same = sym (ap (λ (w : List ℕ). take off s ++ (w ++ drop (off + length w) s)) (take_none x) ∙ ap (λ (k : ℕ). take off s ++ drop k s) (let q : off + 0 ≡ off = omega arith in q) ∙ take-append-drop off s);
-    }
-
-pub storing_on : (s₀ : List ℕ) (off : ℕ) (x : List ℕ) (w : ℕ) (s : List ℕ) (i : ℕ) → w ≤ length x → off + w ≤ length s₀ → i < w → Storing s₀ off x w s i → Storing s₀ off x w (set s (off + i) (get_or x i 0)) (i + 1)
-unfolding over
-storing_on s₀ off x w s i lx room h l =
-    let y = get_or x i 0 in
-    let f = take off s₀ ++ take i x in
-    let li : length (take i x) ≡ i = length-take-le i x (omega arith) in
-    let lf : length f ≡ off + i = length-append (take off s₀) (take i x) ∙ omega (arith, li, length-take-le off s₀ (omega arith)) in
-    let r = drop (suc (off + i)) s₀ in
-    let now : s ≡ f ++ (get_or s₀ (off + i) 0 ∷ r) = l.same ∙ sym (append_assoc (take off s₀) (take i x) (drop (off + length (take i x)) s₀)) ∙ ap (λ (k : ℕ). f ++ drop (off + k) s₀) li ∙ ap (λ (t : List ℕ). f ++ t) (drop-cons s₀ (off + i) 0 (omega arith)) in
-    let tk : take (i + 1) x ≡ take i x ++ (y ∷ []) = ap (λ (j : ℕ). take j x) (add-one i) ∙ take-suc x i 0 (omega arith) in
-    let ln : length (take (i + 1) x) ≡ i + 1 = length-take-le (i + 1) x (omega arith) in
-    let dr : drop (off + length (take (i + 1) x)) s₀ ≡ r = ap (λ (k : ℕ). drop k s₀) (let q : off + length (take (i + 1) x) ≡ suc (off + i) = omega arith in q) in
-    record {
-      within = omega arith;
-      size = length-set s (off + i) y ∙ l.size;
-      same = ap (λ (t : List ℕ). set t (off + i) y) now ∙ set_seam f (get_or s₀ (off + i) 0) y r (off + i) lf ∙ append_assoc (take off s₀) (take i x) (y ∷ r) ∙ ap (λ (t : List ℕ). take off s₀ ++ t) (sym (append_assoc (take i x) (y ∷ []) r)) ∙ sym (ap₂ (λ (a b : List ℕ). take off s₀ ++ (a ++ b)) tk dr);
-    }
-
-pub storing_end : (s₀ : List ℕ) (off : ℕ) (x : List ℕ) (w : ℕ) (s : List ℕ) (i : ℕ) → w ≤ i → Storing s₀ off x w s i → s ≡ over off (take w x) s₀
-storing_end s₀ off x w s i h l = l.same ∙ ap (λ (k : ℕ). over off (take k x) s₀) (let q : i ≡ w = omega (arith, l.within) in q)
+stored s x off w ys few room e =
+    let k = off + w - off in
+    let n : length (take w x) ≡ w = length-take-le w x few in
+    let f : length (take off s) ≡ off = length-take-le off s (omega arith) in
+    let past : off + k ≡ off + length (take w x) = omega arith in (
+      ap₂ (λ (a b : List ℕ). take off s ++ (a ++ b)) e (drop-drop k off s ∙ ap (λ (j : ℕ). drop j s) past),
+      omega (arith, length-append (take off s) (ys ++ drop k (drop off s)), length-append ys (drop k (drop off s)), ap length e, length-drop k (drop off s), length-drop off s),
+    )
 
 pub set_over : (o l : ℕ) (codes : List ℕ) → o < length codes → set codes o l ≡ over o (l ∷ []) codes
 unfolding over

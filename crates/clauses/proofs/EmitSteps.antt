@@ -286,12 +286,11 @@ module _ (file : List ℕ) (shape : Shape) (codes : List ℕ) where
   scanning_end part {n = n} {i = i} h k d w = left_end part (left_same _ _ (ap (λ (es : List Entry). no_invalid! (layout_of shape) SL part (invalids es) n) (drop_all w.entries i (omega (arith, w.cell_count_lem)))) (k.left d w))
 
 -- where a property has no gates
-pub gives_true : (b : Build Literal) → b ≡ give true_literal → {pen : Cursor} {xs : List ℤ} (r : Out) → (from_code r.lit ≡ true_literal) × (r.cur ≡ pen.cur) × (r.var ≡ pen.var) → Gives pen b xs xs r
-gives_true b e {pen} {xs} r (l, c, v) =
+pub gives_true : (b : Build Literal) → b ≡ give true_literal → {pen : Cursor} {xs : List ℤ} (r : Out ℕ) → (from_code r.value ≡ true_literal) × (r.pen ≡ pen) → Gives pen b xs xs r
+gives_true b e {pen} {xs} r (l, q) =
     let one = emits_same _ _ (ap (λ (x : Build Literal). x pen.var) (sym e)) (emits_give pen.var true_literal xs pen.cur) in
     emits_result _ (sym l)
-    (subst (λ (k : ℕ). Emits pen.var (b pen.var) xs xs pen.cur true_literal r.cur k) (sym v)
-    (subst (λ (k : ℕ). Emits pen.var (b pen.var) xs xs pen.cur true_literal k pen.var) (sym c) one))
+    (subst (λ (k : Cursor). Emits pen.var (b pen.var) xs xs pen.cur true_literal k.cur k.var) (sym q) one)
 
 module _ (file piece : List ℕ) (d : Design) (s : Slots) where
   pub property_none : (p : ℕ) → (p ≡ 0 → ⊥) → (p ≡ 1 → ⊥) → property! d (property_of file piece d p) s ≡ give true_literal
@@ -325,11 +324,11 @@ module _ (file piece : List ℕ) (d : Design) (s : Slots) where
     step_property_is_lem (suc (suc p)) h = refl
 
 -- a property's end: x is its literal so far, `mark` the code of the mark
-pub unmarked_gives : (d : Design) (s : Slots) (property : Build Literal) {pen : Cursor} {xs ys zs : List ℤ} (x r : Out) (mark : ℕ) → from_code mark ≡ mark_at (layout d) s → Gives pen property xs ys x
-    → Gives (record { cur = x.cur; var = x.var }) (and! (from_code x.lit) (negate (from_code mark))) ys zs r → Gives pen (unmarked! d s property) xs zs r
+pub unmarked_gives : (d : Design) (s : Slots) (property : Build Literal) {pen : Cursor} {xs ys zs : List ℤ} (x r : Out ℕ) (mark : ℕ) → from_code mark ≡ mark_at (layout d) s → Gives pen property xs ys x
+    → Gives x.pen (and! (from_code x.value) (negate (from_code mark))) ys zs r → Gives pen (unmarked! d s property) xs zs r
 unfolding unmarked!
 unmarked_gives d s property x r mark e w u =
-    emits_bind property (λ (y : Literal). and! y (negate (mark_at (layout d) s))) w (emits_same _ _ (ap (λ (l : Literal). and! (from_code x.lit) (negate l) x.var) e) u)
+    emits_bind property (λ (y : Literal). and! y (negate (mark_at (layout d) s))) w (emits_same _ _ (ap (λ (l : Literal). and! (from_code x.value) (negate l) x.pen.var) e) u)
 
 -- the mark of the later one of two states
 later_mark : (l : Layout) (s next : Slots) → length s ≡ l.end → boolean_at (s ++ next) (later_slot l l.mark) ≡ mark_at l next
@@ -359,14 +358,14 @@ module _ {file : List ℕ} {shape : Shape} (h : ShapedFile file shape) where
     mark_here : from_code mark ≡ mark_at (layout d) (slots_of file shape codes)
     mark_here = k ∙ ap (λ (l : Layout). mark_at l (slots_of file shape codes)) (sym (layout_is d w))
 
-    pub property_1_gives : p ≡ 1 → {pen : Cursor} {xs ys zs : List ℤ} (x r : Out) → Gives pen (no_invalid! (layout_of shape) (slots_of file shape codes) true_literal d.invalid) xs ys x
-        → Gives (record { cur = x.cur; var = x.var }) (and! (from_code x.lit) (negate (from_code mark))) ys zs r → Gives pen (property! d (property_of file piece d p) (slots_of file shape codes)) xs zs r
+    pub property_1_gives : p ≡ 1 → {pen : Cursor} {xs ys zs : List ℤ} (x r : Out ℕ) → Gives pen (no_invalid! (layout_of shape) (slots_of file shape codes) true_literal d.invalid) xs ys x
+        → Gives x.pen (and! (from_code x.value) (negate (from_code mark))) ys zs r → Gives pen (property! d (property_of file piece d p) (slots_of file shape codes)) xs zs r
     property_1_gives z {pen} x r g u =
         emits_same _ _ (ap (λ (b : Build Literal). b pen.var) (property_1 file piece d (slots_of file shape codes) p z))
         (unmarked_gives d (slots_of file shape codes) _ x r mark mark_here (emits_same _ _ (ap (λ (l : Layout). no_invalid! l (slots_of file shape codes) true_literal d.invalid pen.var) (sym (layout_is d w))) g) u)
 
-    property_0_gives : p ≡ 0 → {pen : Cursor} {xs ys zs : List ℤ} (x r : Out) → Gives pen (test! (layout_of shape) (slots_of file shape codes) (expression_of file piece d)) xs ys x
-        → Gives (record { cur = x.cur; var = x.var }) (and! (from_code x.lit) (negate (from_code mark))) ys zs r → Gives pen (property! d (property_of file piece d p) (slots_of file shape codes)) xs zs r
+    property_0_gives : p ≡ 0 → {pen : Cursor} {xs ys zs : List ℤ} (x r : Out ℕ) → Gives pen (test! (layout_of shape) (slots_of file shape codes) (expression_of file piece d)) xs ys x
+        → Gives x.pen (and! (from_code x.value) (negate (from_code mark))) ys zs r → Gives pen (property! d (property_of file piece d p) (slots_of file shape codes)) xs zs r
     property_0_gives z {pen} x r g u =
         emits_same _ _ (ap (λ (b : Build Literal). b pen.var) (property_0 file piece d (slots_of file shape codes) p z))
         (unmarked_gives d (slots_of file shape codes) _ x r mark mark_here (emits_same _ _ (ap (λ (l : Layout). test! l (slots_of file shape codes) (expression_of file piece d) pen.var) (sym (layout_is d w))) g) u)
@@ -381,8 +380,8 @@ module _ {file : List ℕ} {shape : Shape} (h : ShapedFile file shape) where
         let t = read file h.accepted in
         record { end = length text; levels = max_depth; inside = omega arith; read = record { tree = expression_of file piece t.tree; past = length text; reads = text_got t.tree t.all.parts } }
 
-    pub expression_gives : (codes : List ℕ) {pen : Cursor} {xs ys zs : List ℤ} (x r : Out) (mark : ℕ) → from_code mark ≡ mark_at (layout_of shape) (slots_of file shape codes) → TestEncoded text file shape false codes 0 pen xs ys x
-        → Gives (record { cur = x.cur; var = x.var }) (and! (from_code x.lit) (negate (from_code mark))) ys zs r
+    pub expression_gives : (codes : List ℕ) {pen : Cursor} {xs ys zs : List ℤ} (x r : Out ℕ) (mark : ℕ) → from_code mark ≡ mark_at (layout_of shape) (slots_of file shape codes) → TestEncoded text file shape false codes 0 pen xs ys x
+        → Gives x.pen (and! (from_code x.value) (negate (from_code mark))) ys zs r
         → (d : Design) (w : Parts file d) → Gives pen (property! d (property_of file piece d p) (slots_of file shape codes)) xs zs r
     expression_gives codes x r mark k t u d w = property_0_gives piece codes p mark k d w z x r (t (length text) max_depth _ _ (omega arith) (text_got d w)) u
 
@@ -396,13 +395,13 @@ module _ {file : List ℕ} {shape : Shape} (h : ShapedFile file shape) where
         let t = read file h.accepted in
         record { end = items_end file; levels = max_depth; inside = omega arith; read = record { tree = t.tree.constraint; past = items_end file; reads = constraint_got t.tree t.all.parts } }
 
-    pub constraint_gives : (codes : List ℕ) {pen : Cursor} {xs ys : List ℤ} (r : Out) → TestEncoded file file shape true codes at pen xs ys r
+    pub constraint_gives : (codes : List ℕ) {pen : Cursor} {xs ys : List ℤ} (r : Out ℕ) → TestEncoded file file shape true codes at pen xs ys r
         → (d : Design) (w : Parts file d) → Gives pen (test! (layout_of shape) (read_slots true file shape codes) d.constraint) xs ys r
     constraint_gives codes r t d w = t (items_end file) max_depth _ _ (omega arith) (constraint_got d w)
 
-  pub step_property_gives : (p : ℕ) → 2 ≤ p → (codes : List ℕ) {pen : Cursor} {xs ys zs : List ℤ} (x r : Out) (mark : ℕ) → from_code mark ≡ boolean_at (read_slots true file shape codes) (later_slot (layout_of shape) (layout_of shape).mark)
+  pub step_property_gives : (p : ℕ) → 2 ≤ p → (codes : List ℕ) {pen : Cursor} {xs ys zs : List ℤ} (x r : Out ℕ) (mark : ℕ) → from_code mark ≡ boolean_at (read_slots true file shape codes) (later_slot (layout_of shape) (layout_of shape).mark)
       → ((d : Design) (w : Parts file d) → Gives pen (test! (layout_of shape) (read_slots true file shape codes) d.constraint) xs ys x)
-      → Gives (record { cur = x.cur; var = x.var }) (and! (from_code x.lit) (negate (from_code mark))) ys zs r
+      → Gives x.pen (and! (from_code x.value) (negate (from_code mark))) ys zs r
       → (d : Design) (w : Parts file d) (piece : List ℕ) (v after : ℕ) → read_slots true file shape codes ≡ state_at d v ++ state_at d after
       → Gives pen (step_property! d (property_of file piece d p) (state_at d v) (state_at d after)) xs zs r
   step_property_gives p l codes {pen = pen} x r mark k t u d w piece v after e =

@@ -16,9 +16,6 @@ use Rattle.clauses.specs.Encode.{words_to_write, filled, encode}
 use Rattle.clauses.specs.Ready.{Admitted, Writable, Written}
 use Rattle.clauses.specs.Replies.{admission_sizes, EncodeExit, encode_exit, ENCODE}
 use Rattle.clauses.specs.declared.frame.FrameSizes.{FrameSizes}
-use Rattle.clauses.specs.declared.admission.Admission.TheVariants as admission
-use Rattle.clauses.specs.declared.encode.EncodeReply.{EncodeReply}
-use Rattle.clauses.specs.declared.encode.EncodeReply.TheVariants.{Refused, Encoded}
 use Rattle.clauses.proofs.Limits.{small_of_file}
 use Rattle.clauses.proofs.FrameNumbers.{variables_are, part_is}
 use Rattle.clauses.proofs.Admissions.{admission_refused, admission_admitted, admitted_in}
@@ -31,7 +28,7 @@ at_front ws before after c few room p =
     (q.written ∙ put_all ws before room, omega (arith, q.cursor))
 
 module _ (file piece : List ℕ) (p k i : ℕ) (buffer : List ℤ) where
-  abbrev exit : EncodeReply → List ℤ → EncodeExit
+  abbrev exit : Answer ℕ → List ℤ → EncodeExit
   exit r after = record { reply = r; buffer = after }
 
   -- what the call asks of a design, past 19
@@ -42,7 +39,7 @@ module _ (file piece : List ℕ) (p k i : ℕ) (buffer : List ℤ) where
   unfolding encode
   exits a e = sym (ap (λ (x : Answer (List ℤ)). encode_exit (filled x buffer)) e)
 
-  pub encode_refused : (number place : ℕ) → admission.Refused number place ≡ admission_sizes file piece p k → exit (Refused number place) buffer ≡ ENCODE file piece p k i buffer
+  pub encode_refused : (number place : ℕ) → refused number place ≡ admission_sizes file piece p k → exit (refused number place) buffer ≡ ENCODE file piece p k i buffer
   unfolding words_to_write
   encode_refused number place e = exits (refused number place) (admission_refused file piece p k number place e asked)
 
@@ -60,30 +57,30 @@ module _ (file piece : List ℕ) (p k i : ℕ) (buffer : List ℤ) where
     unfolding words_to_write
     here = admitted_in a bytes asked d ok
 
-    over_part : k + 2 < i → exit (Refused 15 0) buffer ≡ ENCODE file piece p k i buffer
+    over_part : k + 2 < i → exit (refused 15 0) buffer ≡ ENCODE file piece p k i buffer
     over_part l = exits (refused 15 0) (here ∙ ap (λ (t : Bool). need t 15 0 (need (leb (length ws) (length buffer)) 16 0 (answer ws))) (lt-leb i (k + 2) l))
 
     module _ (l : i ≤ k + 2) (m : ℕ) (q : m ≡ part_words_of s k i) where
       counted : m ≡ length ws
       counted = q ∙ ap (λ (x : FrameSizes). part_words_of x k i) (a.sizes d ok) ∙ part_is d (well_formed file bytes d ok) (property_of file piece d p) k i
 
-      pub encode_short : length buffer < m → exit (Refused 16 0) buffer ≡ ENCODE file piece p k i buffer
+      pub encode_short : length buffer < m → exit (refused 16 0) buffer ≡ ENCODE file piece p k i buffer
       encode_short r =
           let z : length buffer < length ws = omega (arith, counted) in
           exits (refused 16 0) (here ∙ ap₂ (λ (t u : Bool). need t 15 0 (need u 16 0 (answer ws))) (le-leb i (k + 2) l) (lt-leb (length ws) (length buffer) z))
 
       pub encode_done : m ≤ length buffer → (after : List ℤ) (c : ℕ)
           → ((d : Design) → check file ≡ Checked.accepted d → s ≡ frame_sizes d (property_of file piece d p) → Puts (words (part d (property_of file piece d p) k i)) buffer after 0 c)
-          → exit (Encoded m) after ≡ ENCODE file piece p k i buffer
+          → exit (answer m) after ≡ ENCODE file piece p k i buffer
       encode_done r after c g =
           let few = (small_of_file file piece bytes d ok p a.right k a.small.bound).part_words_lem i in
           let room : length ws ≤ length buffer = omega (arith, counted) in
           let z = at_front ws buffer after c (omega arith) room (g d ok (a.sizes d ok)) in
-          ap₂ (λ (x : ℕ) (y : List ℤ). exit (Encoded x) y) counted z.0
+          ap₂ (λ (x : ℕ) (y : List ℤ). exit (answer x) y) counted z.0
           ∙ exits (answer ws) (here ∙ ap₂ (λ (t u : Bool). need t 15 0 (need u 16 0 (answer ws))) (le-leb i (k + 2) l) (le-leb (length ws) (length buffer) room))
 
   -- 15
-  pub encode_part : (s : FrameSizes) → admission.Passed s ≡ admission_sizes file piece p k → ((i : ℕ) → get_or file i 0 < 256) → k + 2 < i → exit (Refused 15 0) buffer ≡ ENCODE file piece p k i buffer
+  pub encode_part : (s : FrameSizes) → answer s ≡ admission_sizes file piece p k → ((i : ℕ) → get_or file i 0 < 256) → k + 2 < i → exit (refused 15 0) buffer ≡ ENCODE file piece p k i buffer
   encode_part s e bytes = over_part (admission_admitted file piece p k s e bytes) bytes
 
 -- the whole formula

@@ -1,10 +1,15 @@
 -- The loops of DECODE: the one flag of a frame that is 1, the first frame without just one, and the choices that are written.
-use Rattle.std.proofs.Common.{◌≡◌, ℕ, zero, suc, ◌+◌, ◌-◌, ◌*◌, ◌<◌, ◌≤◌, Bool, true, false, cond, ◌&&◌, eqb, List, [], ◌∷◌, ◌++◌, length, get_or, take, drop, set, sym, refl, ap, ◌∙◌, subst, ap₂, append_assoc, suc-mul, add-one, arith, length-drop, length-set, length-take-le, drop-cons, take-suc-set, drop-set-lt, eq-eqb, ne_eqb, eqb-true}
+use Rattle.std.proofs.Common.{◌≡◌, ℕ, zero, suc, ◌+◌, ◌-◌, ◌*◌, ◌<◌, ◌≤◌, Bool, true, false, cond, ◌&&◌, not, eqb, ltb, lt-ltb, le-ltb, ltb-true, ltb-false, List, [], ◌∷◌, ◌++◌, length, get_or, take, drop, set, sym, refl, ap, ◌∙◌, subst, ap₂, append_assoc, suc-mul, add-one, arith, length-drop, length-set, length-take-le, drop-cons, take-suc-set, eq-eqb, ne_eqb, eqb-true}
+use Rattle.std.specs.Prelude.{Option, Some, None}
+use Rattle.std.specs.Option.{is_some, unwrap_or}
+use Rattle.std.specs.List.{position, position_or_len, list_all}
 use mathlib.Core.Bool.{false≢true}
 use lib.Seq.{drop-length}
 use borrow.Author.Tests.{lt-leb}
+use Rattle.clauses.proofs.EmitWords.{append-nil}
+use Rattle.clauses.proofs.EmitLists.{take_all}
 use Rattle.clauses.specs.Decode.{all_bits, ones, first_one, just_one}
-use Rattle.clauses.specs.Chosen.{first_nonzero, all_zero, chosen_in, flags_from, first_bad, chosen_list}
+use Rattle.clauses.specs.Chosen.{below, first_nonzero, all_zero, chosen_in, flags_from, first_bad, chosen_list}
 
 and_false : (b : Bool) → (b && false) ≡ false
 and_false true = refl
@@ -13,51 +18,58 @@ and_false false = refl
 past_end : (xs : List ℕ) (i : ℕ) → length xs ≤ i → i ≤ length xs → drop i xs ≡ []
 past_end xs i a b = let z : i ≡ length xs = omega arith in ap (λ (n : ℕ). drop n xs) z ∙ drop-length xs
 
--- the first that is not 0
-pub record Passing (xs : List ℕ) (i : ℕ) : Type 0 where
-  pub inside : i ≤ length xs
-  pub same : i + first_nonzero (drop i xs) ≡ first_nonzero xs
+-- a place among n, and none
+module _ (n i : ℕ) where
+  pub found : (j : ℕ) → j ≡ i → j < n → Some j ≡ below n i
+  found j e l = ap (λ (t : Bool). cond t (Some j) None) (sym (lt-ltb j n l)) ∙ ap (below n) e
 
--- all that follow are 0
-pub record Zeros (xs : List ℕ) (from i : ℕ) : Type 0 where
-  pub inside : i ≤ length xs
-  pub same : all_zero (drop i xs) ≡ all_zero (drop from xs)
+  pub not_found : n ≤ i → None ≡ below n i
+  not_found l = ap (λ (t : Bool). cond t (Some i) None) (sym (le-ltb i n l))
 
-module _ (xs : List ℕ) where
-  pub zero_start : (from : ℕ) → from ≤ length xs → Zeros xs from from
-  zero_start from l = record { inside = l; same = refl }
+  pub found_at : (j : ℕ) → Some j ≡ below n i → (j ≡ i) × (j < n)
+  found_at j e = go (ltb i n) refl e
+    where
+      go : (t : Bool) → ltb i n ≡ t → Some j ≡ cond t (Some i) None → (j ≡ i) × (j < n)
+      go true q f = let k : j ≡ i = cc in (k, let l = ltb-true i n q in omega arith)
+      go false q f = absurd cc
 
-  pub passing_start : Passing xs 0
-  passing_start = record { inside = omega arith; same = omega arith }
+  pub none_found : None ≡ below n i → n ≤ i
+  none_found e = go (ltb i n) refl e
+    where
+      go : (t : Bool) → ltb i n ≡ t → None ≡ cond t (Some i) None → n ≤ i
+      go true q f = absurd cc
+      go false q f = ltb-false i n q
 
-  module _ (i : ℕ) (l : i < length xs) where
-    here : drop i xs ≡ get_or xs i 0 ∷ drop (i + 1) xs
-    here = drop-cons xs i 0 l ∙ ap (λ (n : ℕ). get_or xs i 0 ∷ drop n xs) (sym (add-one i))
+  pub none_is : (o : Option ℕ) → o ≡ below n i → is_some o ≡ false → n ≤ i
+  none_is None e z = none_found e
+  none_is (Some j) e z = absurd (false≢true (sym z))
 
-    pub passing_on : Passing xs i → get_or xs i 0 ≡ 0 → Passing xs (i + 1)
-    passing_on g e =
-        let f : first_nonzero (drop i xs) ≡ suc (first_nonzero (drop (i + 1) xs)) =
-        ap first_nonzero here
-        ∙ ap (λ (t : Bool). cond t (suc (first_nonzero (drop (i + 1) xs))) 0) (eq-eqb _ _ e) in
-        record { inside = omega arith; same = omega (arith, g.same) }
+  pub some_is : (o : Option ℕ) → o ≡ below n i → is_some o ≡ true → i < n
+  some_is None e z = absurd (false≢true z)
+  some_is (Some j) e z = let a = found_at j e in omega arith
 
-    pub passing_found : Passing xs i → (get_or xs i 0 ≡ 0 → ⊥) → i ≡ first_nonzero xs
-    passing_found g e =
-        let f : first_nonzero (drop i xs) ≡ 0 = ap first_nonzero here ∙ ap (λ (t : Bool). cond t (suc (first_nonzero (drop (i + 1) xs))) 0) (ne_eqb _ _ e) in
-        omega (arith, g.same)
+  pub or_past : (o : Option ℕ) → o ≡ below n i → i ≤ n → unwrap_or o n ≡ i
+  or_past None e l = let a = none_found e in omega arith
+  or_past (Some j) e l = (found_at j e).0
 
-    pub zero_on : (from : ℕ) → Zeros xs from i → get_or xs i 0 ≡ 0 → Zeros xs from (i + 1)
-    zero_on from g e =
-        record { inside = omega arith; same = sym (ap all_zero here ∙ ap (λ (t : Bool). t && all_zero (drop (i + 1) xs)) (eq-eqb _ _ e)) ∙ g.same }
+-- the first that is not 0, and whether all are 0, as the library says it
+not_not : (b : Bool) → not (not b) ≡ b
+not_not true = refl
+not_not false = refl
 
-    pub zero_found : (from : ℕ) → Zeros xs from i → (get_or xs i 0 ≡ 0 → ⊥) → false ≡ all_zero (drop from xs)
-    zero_found from g e = sym (ap all_zero here ∙ ap (λ (t : Bool). t && all_zero (drop (i + 1) xs)) (ne_eqb _ _ e)) ∙ g.same
+nonzero_place : (xs : List ℕ) → position_or_len (λ x. not (eqb x 0)) xs ≡ first_nonzero xs
+nonzero_place [] = refl
+nonzero_place (x ∷ xs) = ap (λ (t : Bool). cond t (1 + position_or_len (λ y. not (eqb y 0)) xs) 0) (not_not (eqb x 0)) ∙ ap (λ (n : ℕ). cond (eqb x 0) n 0) (omega (arith, nonzero_place xs))
 
-  pub passing_end : (i : ℕ) → length xs ≤ i → Passing xs i → i ≡ first_nonzero xs
-  passing_end i l g = let f = ap first_nonzero (past_end xs i l g.inside) in omega (arith, g.same)
+pub first_place : (xs : List ℕ) → position (λ x. not (eqb x 0)) xs ≡ below (length xs) (first_nonzero xs)
+first_place xs = ap (below (length xs)) (nonzero_place xs)
 
-  pub zero_end : (i from : ℕ) → length xs ≤ i → Zeros xs from i → true ≡ all_zero (drop from xs)
-  zero_end i from l g = sym (ap all_zero (past_end xs i l g.inside)) ∙ g.same
+pub all_zeros : (xs : List ℕ) → list_all (λ x. eqb x 0) xs ≡ all_zero xs
+all_zeros [] = refl
+all_zeros (x ∷ xs) = ap (λ (t : Bool). eqb x 0 && t) (all_zeros xs)
+
+here : (xs : List ℕ) (i : ℕ) → i < length xs → drop i xs ≡ get_or xs i 0 ∷ drop (i + 1) xs
+here xs i l = drop-cons xs i 0 l ∙ ap (λ (n : ℕ). get_or xs i 0 ∷ drop n xs) (sym (add-one i))
 
 -- just one 1, by the first that is not 0 and what follows it
 nonzero : (x : ℕ) → eqb (suc x) 0 ≡ false
@@ -176,6 +188,21 @@ wrong_frame xs l = go (just_one xs) refl
         let k = one_inside xs (λ z. omega arith) in
         absurd (omega arith)
 
+first_small : (xs : List ℕ) → first_one xs ≤ length xs
+first_small [] = omega arith
+first_small (x ∷ xs) = go (eqb x 1) (first_small xs)
+  where
+    go : (t : Bool) → first_one xs ≤ length xs → cond t 0 (suc (first_one xs)) ≤ suc (length xs)
+    go true l = omega arith
+    go false l = omega arith
+
+chosen_small : (xs : List ℕ) → chosen_in xs ≤ length xs
+chosen_small xs = go (just_one xs)
+  where
+    go : (t : Bool) → cond t (first_one xs) (length xs) ≤ length xs
+    go true = first_small xs
+    go false = omega arith
+
 -- the frames, one after the other
 module _ (values : List ℕ) (size w k base : ℕ) where
   -- frame j is next, with its flags at `at`
@@ -216,11 +243,11 @@ module _ (values : List ℕ) (size w k base : ℕ) where
       pub flags_long : length cut ≡ w
       flags_long = ap length cut_is ∙ length-take-le w (drop at values) (let h = length-drop at values in omega (arith, flags_inside))
 
-      choice_bad : (r : ℕ) → r ≡ chosen_in cut → w ≤ r → just_one (flags_from values size w at) ≡ false
-      choice_bad r e m = sym (ap just_one cut_is) ∙ wrong_frame cut (omega (arith, flags_long))
+    choice_bad : length cut ≤ chosen_in cut → just_one (flags_from values size w at) ≡ false
+    choice_bad m = sym (ap just_one cut_is) ∙ wrong_frame cut m
 
-      choice_good : (r : ℕ) → r ≡ chosen_in cut → r < w → just_one (flags_from values size w at) ≡ true
-      choice_good r e m = sym (ap just_one cut_is) ∙ right_frame cut (omega (arith, flags_long))
+    choice_good : chosen_in cut < length cut → just_one (flags_from values size w at) ≡ true
+    choice_good m = sym (ap just_one cut_is) ∙ right_frame cut m
 
   pub record Testing (at j : ℕ) : Type 0 where
     pub next : Next at j
@@ -229,79 +256,65 @@ module _ (values : List ℕ) (size w k base : ℕ) where
   pub testing_start : base + k * size ≤ length values → Testing base 0
   testing_start l = record { next = next_start l; same = ap (λ (n : ℕ). first_bad values size w n base 0) none_passed }
 
-  module _ (at j : ℕ) (l : j < k) (g : Testing at j) (f : w ≤ size) (r : ℕ) (q : r ≡ chosen_in (take (at + w - at) (drop at values))) where
+  module _ (at j : ℕ) (l : j < k) (g : Testing at j) (o : Option ℕ) (q : o ≡ below (length (take (at + w - at) (drop at values))) (chosen_in (take (at + w - at) (drop at values)))) where
     turn : first_bad values size w (k - j) at j ≡ cond (just_one (flags_from values size w at)) (first_bad values size w (k - (j + 1)) (at + size) (suc j)) j
     unfolding first_bad
     turn = ap (λ (n : ℕ). first_bad values size w n at j) (left at j l)
 
-    pub testing_on : r < w → Testing (at + size) (j + 1)
+    pub testing_on : is_some o ≡ true → Testing (at + size) (j + 1)
     testing_on m = record {
       next = next_on at j l g.next;
       same =
           ap (first_bad values size w (k - (j + 1)) (at + size)) (add-one j)
-          ∙ ap (λ (t : Bool). cond t (first_bad values size w (k - (j + 1)) (at + size) (suc j)) j) (sym (choice_good at j l g.next f r q m))
+          ∙ ap (λ (t : Bool). cond t (first_bad values size w (k - (j + 1)) (at + size) (suc j)) j) (sym (choice_good at j l (some_is _ _ o q m)))
           ∙ sym turn ∙ g.same;
     }
 
-    pub testing_bad : w ≤ r → j ≡ first_bad values size w k base 0
+    pub testing_bad : is_some o ≡ false → Some j ≡ below k (first_bad values size w k base 0)
     testing_bad m =
-        ap (λ (t : Bool). cond t (first_bad values size w (k - (j + 1)) (at + size) (suc j)) j) (sym (choice_bad at j l g.next f r q m)) ∙ sym turn
-        ∙ g.same
+        let e = ap (λ (t : Bool). cond t (first_bad values size w (k - (j + 1)) (at + size) (suc j)) j) (sym (choice_bad at j l (none_is _ _ o q m))) in
+        found k _ j (e ∙ sym turn ∙ g.same) l
 
-  pub testing_end : (at j : ℕ) → k ≤ j → Testing at j → j ≡ first_bad values size w k base 0
+  pub testing_end : (at j : ℕ) → k ≤ j → Testing at j → None ≡ below k (first_bad values size w k base 0)
   unfolding first_bad
-  testing_end at j l g = sym (ap (λ (n : ℕ). first_bad values size w n at j) (let z : k - j ≡ 0 = omega arith in z)) ∙ g.same
+  testing_end at j l g =
+      let e = sym (ap (λ (n : ℕ). first_bad values size w n at j) (let z : k - j ≡ 0 = omega arith in z)) ∙ g.same in
+      not_found k _ (omega arith)
 
   -- the choices that are written
-  pub record Writing (before : List ℕ) (at j : ℕ) (choices : List ℕ) : Type 0 where
+  pub record Writing (at j : ℕ) (choices : List ℕ) : Type 0 where
     pub next : Next at j
-    pub long : length choices ≡ length before
+    pub long : length choices ≡ k
     pub same : take j choices ++ chosen_list values size w (k - j) at ≡ chosen_list values size w k base
-    pub kept : drop k choices ≡ drop k before
 
-  module _ (before : List ℕ) where
-    pub writing_start : base + k * size ≤ length values → Writing before base 0 before
-    writing_start l = record {
-      next = next_start l;
-      long = refl;
-      same = ap (λ (n : ℕ). chosen_list values size w n base) none_passed;
-      kept = refl;
-    }
+  pub writing_start : (choices : List ℕ) → base + k * size ≤ length values → length choices ≡ k → Writing base 0 choices
+  writing_start choices l e = record {
+    next = next_start l;
+    long = e;
+    same = ap (λ (n : ℕ). chosen_list values size w n base) none_passed;
+  }
 
-    pub writing_on : (at j : ℕ) (choices : List ℕ) (v : ℕ) → j < k → k ≤ length before → Writing before at j choices
-        → v ≡ chosen_in (take (at + w - at) (drop at values)) → Writing before (at + size) (j + 1) (set choices j v)
-    unfolding chosen_list
-    writing_on at j choices v l m g e =
-        let n : j < length choices = omega (arith, g.long) in
-        let rest = chosen_list values size w (k - (j + 1)) (at + size) in
-        record {
-          next = next_on at j l g.next;
-          long = length-set choices j v ∙ g.long;
-          same =
-              ap (λ (i : ℕ). take i (set choices j v) ++ rest) (add-one j)
-              ∙ ap (λ (xs : List ℕ). xs ++ rest) (take-suc-set choices j v n)
-              ∙ append_assoc (take j choices) (v ∷ []) rest
-              ∙ ap (λ (c : ℕ). take j choices ++ (c ∷ rest)) (e ∙ ap chosen_in (cut_is at j l))
-              ∙ ap (λ (i : ℕ). take j choices ++ chosen_list values size w i at) (sym (left at j l))
-              ∙ g.same;
-          kept = drop-set-lt k choices j v l ∙ g.kept;
-        }
+  pub writing_on : (at j : ℕ) (choices : List ℕ) (o : Option ℕ) (v : ℕ) → j < k → Writing at j choices → w ≤ size
+      → o ≡ below (length (take (at + w - at) (drop at values))) (chosen_in (take (at + w - at) (drop at values))) → v ≡ unwrap_or o w → Writing (at + size) (j + 1) (set choices j v)
+  unfolding chosen_list
+  writing_on at j choices o v l g f q e =
+      let n : j < length choices = omega (arith, g.long) in
+      let rest = chosen_list values size w (k - (j + 1)) (at + size) in
+      let c : v ≡ chosen_in (cut at j l) = e ∙ ap (unwrap_or o) (sym (flags_long at j l g.next f)) ∙ or_past _ _ o q (chosen_small (cut at j l)) in
+      record {
+        next = next_on at j l g.next;
+        long = length-set choices j v ∙ g.long;
+        same =
+            ap (λ (i : ℕ). take i (set choices j v) ++ rest) (add-one j)
+            ∙ ap (λ (xs : List ℕ). xs ++ rest) (take-suc-set choices j v n)
+            ∙ append_assoc (take j choices) (v ∷ []) rest
+            ∙ ap (λ (c : ℕ). take j choices ++ (c ∷ rest)) (c ∙ ap chosen_in (cut_is at j l))
+            ∙ ap (λ (i : ℕ). take j choices ++ chosen_list values size w i at) (sym (left at j l))
+            ∙ g.same;
+      }
 
-    pub writing_end : (at j : ℕ) (choices : List ℕ) → k ≤ j → Writing before at j choices → choices ≡ chosen_list values size w k base ++ drop k before
-    unfolding chosen_list
-    writing_end at j choices l g =
-        let z : j ≡ k = omega (arith, g.next.inside) in
-        let none : k - j ≡ 0 = omega arith in
-        let front : take k choices ≡ chosen_list values size w k base =
-        ap (λ (i : ℕ). take i choices) (sym z) ∙ nil (take j choices)
-        ∙ sym (ap (λ (i : ℕ). take j choices ++ chosen_list values size w i at) none) ∙ g.same in
-        halves k choices ∙ ap₂ ◌++◌ front g.kept
-      where
-        nil : (xs : List ℕ) → xs ≡ xs ++ []
-        nil [] = refl
-        nil (x ∷ xs) = ap (λ (ys : List ℕ). x ∷ ys) (nil xs)
-
-        halves : (n : ℕ) (xs : List ℕ) → xs ≡ take n xs ++ drop n xs
-        halves zero xs = refl
-        halves (suc n) [] = refl
-        halves (suc n) (x ∷ xs) = ap (λ (ys : List ℕ). x ∷ ys) (halves n xs)
+  pub writing_end : (at j : ℕ) (choices : List ℕ) → k ≤ j → Writing at j choices → choices ≡ chosen_list values size w k base
+  unfolding chosen_list
+  writing_end at j choices l g =
+      let none : k - j ≡ 0 = omega arith in
+      sym (take_all choices j (omega (arith, g.long))) ∙ sym (append-nil (take j choices)) ∙ ap (λ (i : ℕ). take j choices ++ chosen_list values size w i at) (sym none) ∙ g.same

@@ -1,6 +1,10 @@
 -- What the code of DECODE finds among the values: the flags of a frame are w of them, and frames stand `size` apart.
-use Rattle.std.specs.Prelude.{ℕ, zero, suc, ◌+◌, Bool, true, cond, ◌&&◌, List, [], ◌∷◌, length, take, drop, ◌==◌}
+use Rattle.std.specs.Prelude.{ℕ, zero, suc, ◌+◌, Bool, true, cond, ◌&&◌, List, [], ◌∷◌, length, take, drop, ◌==◌, nat_lt, Option, Some, None}
 use Rattle.clauses.specs.Decode.{just_one, first_one}
+
+-- A place among n, where it is one. The places below are the number past the last where there is none.
+abbrev pub below : ℕ → ℕ → Option ℕ
+below n i = cond (nat_lt i n) (Some i) None
 
 -- the place of the first that is not 0, or the length
 abbrev pub first_nonzero : List ℕ → ℕ

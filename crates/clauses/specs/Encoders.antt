@@ -19,8 +19,7 @@ use Rattle.clauses.specs.declared.gate.Pen.{Pen}
 use Rattle.clauses.specs.declared.gate.Out.{Out}
 use Rattle.clauses.specs.declared.circuit.Bit.{Bit}
 use Rattle.clauses.specs.declared.circuit.Word.{Word}
-use Rattle.clauses.specs.declared.expression.IntOut.{IntOut}
-use Rattle.clauses.specs.declared.expression.BoolOut.{BoolOut}
+use Rattle.clauses.specs.declared.expression.Encoded.{Encoded}
 use Rattle.clauses.specs.declared.action.Done.{Done}
 
 -- gates written from one cursor to another
@@ -32,26 +31,29 @@ abbrev pub WritesMarked : {A : Type 0} → Pen → Build (WithMark A) → List �
 WritesMarked pen build xs ys out after = Writes pen.at build xs ys (record { result = out; mark = from_code after.mark }) after.at × (after.marks ≡ pen.marks)
 
 -- an operand in code, with the mark behind it
-abbrev pub int_marked : IntOut → WithMark Bits
-int_marked r = record { result = from_codes r.lits; mark = from_code r.pen.mark }
+abbrev pub int_marked : Encoded (List ℕ) → WithMark Bits
+int_marked r = record { result = from_codes r.value; mark = from_code r.pen.mark }
 
 -- the mark behind an operator, whose gates end at a cursor: an or of the mark so far with a test, if the pen marks
 abbrev pub MarkWritten : Cursor → Pen → Build Literal → List ℤ → List ℤ → Pen → Type 0
 MarkWritten from pen test xs ys after = Writes from (mark! pen.marks (from_code pen.mark) test) xs ys (from_code after.mark) after.at × (after.marks ≡ pen.marks)
 
--- gates whose result is a literal
-abbrev pub Gives : Cursor → Build Literal → List ℤ → List ℤ → Out → Type 0
-Gives pen build xs ys r = Emits pen.var (build pen.var) xs ys pen.cur (from_code r.lit) r.cur r.var
+-- gates whose result is a literal, or a word of them
+abbrev pub Gives : Cursor → Build Literal → List ℤ → List ℤ → Out ℕ → Type 0
+Gives pen build xs ys r = Writes pen build xs ys (from_code r.value) r.pen
 
--- a sum's bits and carries, and those of one bit, from a cursor and a next variable on
+abbrev pub GivesWord : Cursor → Build Bits → List ℤ → List ℤ → Out (List ℕ) → Type 0
+GivesWord pen build xs ys r = Writes pen build xs ys (from_codes r.value) r.pen
+
+-- a sum's bits and carries, and those of one bit
 abbrev pub summed : Word → Summed
 summed r = record { bits = from_codes r.lits; carry = from_code r.carry; earlier = from_code r.earlier }
 
-abbrev pub Sums : ℕ → ℕ → Build Summed → List ℤ → List ℤ → Word → Type 0
-Sums cur var build xs ys r = Emits var (build var) xs ys cur (summed r) r.cur r.var
+abbrev pub Sums : Cursor → Build Summed → List ℤ → List ℤ → Out Word → Type 0
+Sums pen build xs ys r = Writes pen build xs ys (summed r.value) r.pen
 
-abbrev pub SumsBit : ℕ → ℕ → Build SumBit → List ℤ → List ℤ → Bit → Type 0
-SumsBit cur var build xs ys r = Emits var (build var) xs ys cur (record { bit = from_code r.bit; carry = from_code r.carry }) r.cur r.var
+abbrev pub SumsBit : Cursor → Build SumBit → List ℤ → List ℤ → Out Bit → Type 0
+SumsBit pen build xs ys r = Writes pen build xs ys (record { bit = from_code r.value.bit; carry = from_code r.value.carry }) r.pen
 
 -- the muxes of all bits, for each file whose state has so many
 abbrev pub MuxesWritten : Shape → ℕ → List ℕ → List ℕ → List ℕ → Cursor → List ℤ → List ℤ → Cursor → Type 0
@@ -102,14 +104,14 @@ module _ (text file : List ℕ) (shape : Shape) where
   abbrev pub bool_gates : Bool → List ℕ → Bool → Literal → BoolExpr → Build (WithMark Literal)
   bool_gates later codes marks m t = bool! marks (layout_of shape) (read_slots later file shape codes) m t
 
-  abbrev pub IntEncoded : Bool → List ℕ → ℕ → Pen → List ℤ → List ℤ → IntOut → Type 0
-  IntEncoded later codes at pen xs ys r = EncodesMarked text (ints_at later) (int_gates later codes) at pen xs ys (from_codes r.lits) r.pen r.next
+  abbrev pub IntEncoded : Bool → List ℕ → ℕ → Pen → List ℤ → List ℤ → Encoded (List ℕ) → Type 0
+  IntEncoded later codes at pen xs ys r = EncodesMarked text (ints_at later) (int_gates later codes) at pen xs ys (from_codes r.value) r.pen r.next
 
-  abbrev pub BoolEncoded : Bool → List ℕ → ℕ → Pen → List ℤ → List ℤ → BoolOut → Type 0
-  BoolEncoded later codes at pen xs ys r = EncodesMarked text (bools_at later) (bool_gates later codes) at pen xs ys (from_code r.lit) r.pen r.next
+  abbrev pub BoolEncoded : Bool → List ℕ → ℕ → Pen → List ℤ → List ℤ → Encoded ℕ → Type 0
+  BoolEncoded later codes at pen xs ys r = EncodesMarked text (bools_at later) (bool_gates later codes) at pen xs ys (from_code r.value) r.pen r.next
 
   -- an expression that marks nothing
-  abbrev pub TestEncoded : Bool → List ℕ → ℕ → Cursor → List ℤ → List ℤ → Out → Type 0
+  abbrev pub TestEncoded : Bool → List ℕ → ℕ → Cursor → List ℤ → List ℤ → Out ℕ → Type 0
   TestEncoded later codes at pen xs ys r =
       (end levels : ℕ) (t : BoolExpr) (n : ℕ) → end ≤ length text → bools_at later end levels at ≡ got t n → Gives pen (test! (layout_of shape) (read_slots later file shape codes) t) xs ys r
 

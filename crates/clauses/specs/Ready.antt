@@ -4,7 +4,7 @@ use Rattle.design.specs.Tree.{BoolExpr, Variable, InvalidCell, Design, Mover, mo
 use Rattle.design.specs.State.{width}
 use Rattle.design.specs.DesignFile.{c_kind, c_matrix, c_status, c_event}
 use Rattle.design.specs.Check.{Checked, check}
-use Rattle.design.specs.Places.{Accepted, Shaped, StateBits, EventsIndexed, CellsIndexed, externals_from}
+use Rattle.design.specs.Places.{Accepted, Measured, Shaped, StateBits, EventsIndexed, CellsIndexed, externals_from}
 use Rattle.design.specs.Sections.{Parts}
 use Rattle.design.specs.declared.shape.Shape.{Shape}
 use Rattle.step.specs.Piece.{piece_right}
@@ -15,7 +15,7 @@ use Rattle.clauses.specs.Formula.{total, variables_from, slots_from, flat, initi
 use Rattle.clauses.specs.Expression.{Slots, test! }
 use Rattle.clauses.specs.Action.{status_and_event!, enable!, mover!, movers!, no_invalid! }
 use Rattle.clauses.specs.Limits.{last_variable}
-use Rattle.clauses.specs.Writing.{variable_limit, from_code, Puts, Emits}
+use Rattle.clauses.specs.Writing.{variable_limit, from_code, Puts}
 use Rattle.clauses.specs.Builders.{link! }
 use Rattle.clauses.specs.FlatState.{widths_in, layout_of, cut, slots_of}
 use Rattle.clauses.specs.Encoders.{Gives, Writes}
@@ -23,8 +23,6 @@ use Rattle.clauses.specs.FrameSizes.{frame_sizes, SmallFrame, variables_of}
 use Rattle.step.specs.Limits.{last_property, max_bound}
 use Rattle.clauses.specs.declared.gate.Cursor.{Cursor}
 use Rattle.clauses.specs.declared.gate.Out.{Out}
-use Rattle.clauses.specs.declared.mover.Moved.{Moved}
-use Rattle.clauses.specs.declared.movers.StepOut.{StepOut}
 use Rattle.clauses.specs.declared.frame.FrameSizes.{FrameSizes}
 use Rattle.clauses.specs.declared.instance.Instance.{Instance}
 
@@ -45,36 +43,36 @@ result_from file shape v = cut (widths_in file shape) (variables_from v (total (
 
 -- What the functions for cells and movers write. `codes` are the state's literals, `f` finds the event that a cell names.
 module _ (file : List ℕ) (shape : Shape) (codes : List ℕ) where
-  abbrev pub BoolGates : BoolExpr → Cursor → List ℤ → List ℤ → Out → Type 0
+  abbrev pub BoolGates : BoolExpr → Cursor → List ℤ → List ℤ → Out ℕ → Type 0
   BoolGates e pen xs ys r = Gives pen (test! (layout_of shape) (slots_of file shape codes) e) xs ys r
 
-  abbrev pub CellGates : ℕ → (ℕ → ℕ → BoolExpr) → Cursor → List ℤ → List ℤ → Out → Type 0
+  abbrev pub CellGates : ℕ → (ℕ → ℕ → BoolExpr) → Cursor → List ℤ → List ℤ → Out ℕ → Type 0
   CellGates p f pen xs ys r = Gives pen (status_and_event! (layout_of shape) (slots_of file shape codes) (c_matrix file p) (c_status file p) (f (c_matrix file p) (c_event file p))) xs ys r
 
-  abbrev pub EnableGates : Mover → Cursor → List ℤ → List ℤ → Out → Type 0
+  abbrev pub EnableGates : Mover → Cursor → List ℤ → List ℤ → Out ℕ → Type 0
   EnableGates m pen xs ys r = Gives pen (enable! (layout_of shape) (slots_of file shape codes) m) xs ys r
 
-  abbrev pub Moves : Mover → Cursor → List ℤ → List ℤ → Moved → Type 0
-  Moves m pen xs ys r = Emits pen.var (mover! (layout_of shape) (slots_of file shape codes) m pen.var) xs ys pen.cur (result_from file shape r.first) r.cur r.var
+  abbrev pub Moves : Mover → Cursor → List ℤ → List ℤ → Out ℕ → Type 0
+  Moves m pen xs ys r = Writes pen (mover! (layout_of shape) (slots_of file shape codes) m) xs ys (result_from file shape r.value) r.pen
 
-  abbrev pub AllMove : Cursor → List ℤ → List ℤ → StepOut → Type 0
+  abbrev pub AllMove : Cursor → List ℤ → List ℤ → Out (List ℕ) → Type 0
   AllMove pen xs ys r =
-      (d : Design) (parts : Parts file d) → Writes pen (movers! (layout_of shape) (slots_of file shape codes) (movers d)) xs ys (map (result_from file shape) (take (shape.normals + shape.externals) r.firsts)) r.pen
+      (d : Design) (parts : Parts file d) → Writes pen (movers! (layout_of shape) (slots_of file shape codes) (movers d)) xs ys (map (result_from file shape) (take (shape.normals + shape.externals) r.value)) r.pen
 
   -- a cell's link of property 1's chain, the chain, and a property
-  abbrev pub LinkGates : ℕ → (ℕ → ℕ → BoolExpr) → Out → List ℤ → List ℤ → Out → Type 0
+  abbrev pub LinkGates : ℕ → (ℕ → ℕ → BoolExpr) → Out ℕ → List ℤ → List ℤ → Out ℕ → Type 0
   LinkGates p f chain xs ys r =
-      Gives (record { cur = chain.cur; var = chain.var })
-      (link! (layout_of shape) (slots_of file shape codes) (from_code chain.lit) (c_kind file p) (c_matrix file p) (c_status file p) (f (c_matrix file p) (c_event file p))) xs ys r
+      Gives chain.pen
+      (link! (layout_of shape) (slots_of file shape codes) (from_code chain.value) (c_kind file p) (c_matrix file p) (c_status file p) (f (c_matrix file p) (c_event file p))) xs ys r
 
-  abbrev pub InvalidGates : List InvalidCell → Cursor → List ℤ → List ℤ → Out → Type 0
+  abbrev pub InvalidGates : List InvalidCell → Cursor → List ℤ → List ℤ → Out ℕ → Type 0
   InvalidGates cs pen xs ys r = Gives pen (no_invalid! (layout_of shape) (slots_of file shape codes) true_literal cs) xs ys r
 
-  abbrev pub PropertyGates : Design → Property → Cursor → List ℤ → List ℤ → Out → Type 0
+  abbrev pub PropertyGates : Design → Property → Cursor → List ℤ → List ℤ → Out ℕ → Type 0
   PropertyGates d q pen xs ys r = Gives pen (property! d q (slots_of file shape codes)) xs ys r
 
 -- property 2 in a step, of the state whose first variable is v and the next one's, which starts at `after`
-abbrev pub StepPropertyGates : Design → Property → ℕ → ℕ → Cursor → List ℤ → List ℤ → Out → Type 0
+abbrev pub StepPropertyGates : Design → Property → ℕ → ℕ → Cursor → List ℤ → List ℤ → Out ℕ → Type 0
 StepPropertyGates d q v after pen xs ys r =
     v + S d ≤ variable_limit → after + S d ≤ variable_limit → Gives pen (step_property! d q (state_at d v) (state_at d after)) xs ys r
 
@@ -136,6 +134,13 @@ pub record FormulaReady (file events : List ℕ) (z : Instance) : Type 0 where
   pub normals : CellsIndexed file z.cells z.shape.normals
   pub small : SmallFormula z.sizes z.bound
   pub movers : z.sizes.movers ≡ z.shape.normals + z.shape.externals
+
+-- an instance of an accepted file: where its normal cells stand, its shape, and what is asked
+pub record Instanced (file : List ℕ) (s : FrameSizes) (p k : ℕ) (z : Instance) : Type 0 where
+  pub count : ℕ
+  pub indexed : CellsIndexed file z.cells count
+  pub measured : Measured file count z.shape
+  pub asked : z ≡ record { shape = z.shape; cells = z.cells; sizes = s; property = p; bound = k }
 
 -- what a call about a formula has tested (`admit`), and the sizes of a frame
 pub record Admitted (file piece : List ℕ) (p k : ℕ) (s : FrameSizes) : Type 0 where

@@ -31,17 +31,13 @@ pub fn muxes(
     requires { (shape.bits ≤ max_bits) × (length state.old ≡ max_bits) × (length other.now ≡ max_bits) }
     ensures { MuxesWritten shape c state.old other.now state.new pen buf.old buf.new result × (length state.new ≡ max_bits) }
 {
-    let mut at = pen.cur;
-    let mut g = pen.var;
-    let mut i: usize = 0;
-    while i < shape.bits {
-        let t = emit_mux(buf, at, g, c, state[i], other[i]);
-        state[i] = t.lit;
-        at = t.cur;
-        g = t.var;
-        i = i + 1;
+    let mut pen = pen;
+    for i in 0..shape.bits {
+        let t = emit_mux(buf, pen, c, state[i], other[i]);
+        state[i] = t.value;
+        pen = t.pen;
     }
-    Cursor { cur: at, var: g }
+    pen
 }
 
 // The first w of sixteen literals into the state.
@@ -49,11 +45,7 @@ pub fn store_word(state: &mut [u32; MAX_BITS], off: usize, x: [u32; 16], w: usiz
     requires { (off + w ≤ max_bits) × (w ≤ 16) × (length state.old ≡ max_bits) }
     ensures { (state.new ≡ over off (take w x) state.old) × (length state.new ≡ max_bits) }
 {
-    let mut i: usize = 0;
-    while i < w {
-        state[off + i] = x[i];
-        i = i + 1;
-    }
+    state[off..off + w].copy_from_slice(&x[..w]);
 }
 
 // What follows the operator byte of an assignment. The mark is stored and then the value.
@@ -79,21 +71,18 @@ pub fn encode_assign(
     };
     if k == 1 {
         let x = encode_int(file, file, at + 1, shape, state, buf, from);
-        let w = x.lits;
         state[last] = x.pen.mark;
-        store_word(state, o, w, 16);
-        let done = x.pen.at;
+        store_word(state, o, x.value, 16);
         Done {
-            pen: done,
+            pen: x.pen.at,
             next: x.next,
         }
     } else {
         let x = encode_bool(file, file, at + 1, shape, state, buf, from);
         state[last] = x.pen.mark;
-        state[o] = x.lit;
-        let done = x.pen.at;
+        state[o] = x.value;
         Done {
-            pen: done,
+            pen: x.pen.at,
             next: x.next,
         }
     }
@@ -127,7 +116,7 @@ pub fn encode_stmt(
     let mut other = *state;
     let a = encode_list(file, c.next, shape, state, buf, c.pen.at);
     let b = encode_list(file, a.next, shape, &mut other, buf, a.pen);
-    let m = muxes(shape, c.lit, state, &other, buf, b.pen);
+    let m = muxes(shape, c.value, state, &other, buf, b.pen);
     Done {
         pen: m,
         next: b.next,
@@ -147,18 +136,9 @@ pub fn encode_list(
     requires { Slotted false file.now shape state.old × (length state.old ≡ max_bits) × Here file.now (lists_at file.now file.now shape) at }
     ensures { ListEncoded file.now shape state.old state.new at pen buf.old buf.new result × (length state.new ≡ max_bits) }
 {
-    let mut left = wide(file[at]);
-    let mut p = at + 1;
-    let mut c = pen.cur;
-    let mut v = pen.var;
-    while 0 < left {
-        let from = Cursor { cur: c, var: v };
-        let r = encode_stmt(file, p, shape, state, buf, from);
-        p = r.next;
-        c = r.pen.cur;
-        v = r.pen.var;
-        left = left - 1;
+    let mut done = Done { pen, next: at + 1 };
+    for _ in 0..file[at] {
+        done = encode_stmt(file, done.next, shape, state, buf, done.pen);
     }
-    let done = Cursor { cur: c, var: v };
-    Done { pen: done, next: p }
+    done
 }

@@ -101,12 +101,10 @@ pub fn size_cells(file: &[u8], events: &[u16; EVENT_PLACES], shape: Shape, inval
     requires { Ready file.now events.now shape }
     ensures { FewGates most_gates result × ((d : Design) (parts : Parts file.now d) → HasGates result (entries_cost shape.bits invalid parts.entries)) }
 {
-    let mut left = trailer_word(file, CELLS);
     let mut sum = no_gates(trailer_word(file, CELLS_AT));
-    while 0 < left {
+    for _ in 0..trailer_word(file, CELLS) {
         let x = size_cell(file, events, shape, invalid, sum.next);
         sum = join(sum, x, 0, 0);
-        left = left - 1;
     }
     sum
 }

@@ -4,29 +4,25 @@ ghost use Rattle.design.specs.Tree.{truth};
 ghost use Rattle.clauses.specs.Literal.{negate as negated, false_literal, literal_of};
 ghost use Rattle.clauses.specs.Circuit.{shift as shifted, addend as addend_of, negate_top, sum!, difference!, product!, less!, xors!, chain!, equal! };
 ghost use Rattle.clauses.specs.Expression.{constant_bits};
-ghost use Rattle.clauses.specs.Writing.{from_code, from_codes, Emits};
+ghost use Rattle.clauses.specs.Writing.{from_code, from_codes};
 ghost use Rattle.clauses.specs.Builders.{sum_bit! };
-ghost use Rattle.clauses.specs.Encoders.{Sums, SumsBit};
+ghost use Rattle.clauses.specs.Encoders.{Gives, GivesWord, Sums, SumsBit};
 
-use super::gate::{Out, emit_and, emit_or, emit_xor};
+use super::gate::{Cursor, Out, emit_and, emit_or, emit_xor};
 use super::literal::{FALSE, TRUE, negate};
 
 #[derive(Clone, Copy)]
 pub struct Bit {
     pub bit: u32,
     pub carry: u32,
-    pub cur: usize,
-    pub var: u32,
 }
 
-// A word; of a sum also its last carry and the earlier one, which goes into the last bit.
+// A sum's word, its last carry and the earlier one, which goes into the last bit.
 #[derive(Clone, Copy)]
 pub struct Word {
     pub lits: [u32; 16],
     pub carry: u32,
     pub earlier: u32,
-    pub cur: usize,
-    pub var: u32,
 }
 
 pub fn truth_code(b: u16) -> u32
@@ -39,59 +35,55 @@ pub fn truth_code(b: u16) -> u32
 pub fn constant(x: u16) -> [u32; 16]
     ensures { from_codes result ≡ constant_bits 16 x }
 {
-    let mut out = [3u32; 16];
+    let mut out = [FALSE; 16];
     let mut n = x;
-    let mut i: usize = 0;
-    while i < 16 {
-        out[i] = truth_code(n % 2);
-        n = n / 2;
-        i = i + 1;
+    for lit in &mut out {
+        *lit = truth_code(n % 2);
+        n /= 2;
     }
     out
 }
 
 // One bit of a sum.
-pub fn sum_bit(buf: &mut [i32], cur: usize, var: u32, a: u32, b: u32, c: u32) -> Bit
-    ensures { SumsBit cur var (sum_bit! (from_code a) (from_code b) (from_code c)) buf.old buf.new result }
+pub fn sum_bit(buf: &mut [i32], pen: Cursor, a: u32, b: u32, c: u32) -> Out<Bit>
+    ensures { SumsBit pen (sum_bit! (from_code a) (from_code b) (from_code c)) buf.old buf.new result }
 {
-    let p = emit_xor(buf, cur, var, a, b);
-    let s = emit_xor(buf, p.cur, p.var, p.lit, c);
-    let u = emit_and(buf, s.cur, s.var, a, b);
-    let t = emit_and(buf, u.cur, u.var, p.lit, c);
-    let k = emit_or(buf, t.cur, t.var, u.lit, t.lit);
-    Bit {
-        bit: s.lit,
-        carry: k.lit,
-        cur: k.cur,
-        var: k.var,
+    let p = emit_xor(buf, pen, a, b);
+    let s = emit_xor(buf, p.pen, p.value, c);
+    let u = emit_and(buf, s.pen, a, b);
+    let t = emit_and(buf, u.pen, p.value, c);
+    let k = emit_or(buf, t.pen, u.value, t.value);
+    Out {
+        value: Bit {
+            bit: s.value,
+            carry: k.value,
+        },
+        pen: k.pen,
     }
 }
 
 // The sum's bits and its last two carries.
-pub fn sum(a: [u32; 16], b: [u32; 16], c: u32, buf: &mut [i32], cur: usize, var: u32) -> Word
-    ensures { Sums cur var (sum! (from_codes a) (from_codes b) (from_code c)) buf.old buf.new result }
+pub fn sum(a: [u32; 16], b: [u32; 16], c: u32, buf: &mut [i32], pen: Cursor) -> Out<Word>
+    ensures { Sums pen (sum! (from_codes a) (from_codes b) (from_code c)) buf.old buf.new result }
 {
-    let mut out = [0u32; 16];
+    let mut lits = [0u32; 16];
     let mut carry = c;
     let mut earlier = c;
-    let mut at = cur;
-    let mut g = var;
-    let mut i: usize = 0;
-    while i < 16 {
-        let t = sum_bit(buf, at, g, a[i], b[i], carry);
-        out[i] = t.bit;
+    let mut pen = pen;
+    for i in 0..16 {
+        let t = sum_bit(buf, pen, a[i], b[i], carry);
+        lits[i] = t.value.bit;
         earlier = carry;
-        carry = t.carry;
-        at = t.cur;
-        g = t.var;
-        i = i + 1;
+        carry = t.value.carry;
+        pen = t.pen;
     }
-    Word {
-        lits: out,
-        carry: carry,
-        earlier: earlier,
-        cur: at,
-        var: g,
+    Out {
+        value: Word {
+            lits,
+            carry,
+            earlier,
+        },
+        pen,
     }
 }
 
@@ -99,12 +91,8 @@ pub fn sum(a: [u32; 16], b: [u32; 16], c: u32, buf: &mut [i32], cur: usize, var:
 pub fn shift(x: [u32; 16]) -> [u32; 16]
     ensures { from_codes result ≡ shifted false_literal (from_codes x) }
 {
-    let mut out = [3u32; 16];
-    let mut i: usize = 1;
-    while i < 16 {
-        out[i] = x[i - 1];
-        i = i + 1;
-    }
+    let mut out = [FALSE; 16];
+    out[1..].copy_from_slice(&x[..15]);
     out
 }
 
@@ -113,33 +101,36 @@ pub fn addend(bit: u16, x: [u32; 16]) -> [u32; 16]
     ensures { from_codes result ≡ addend_of (truth bit) (from_codes x) }
 {
     if bit == 0 {
-        return [3u32; 16];
+        return [FALSE; 16];
     }
     x
 }
 
 // The sums of a product that are left: c is the constant without the bits that are done, x the operand shifted so far, and `partial` has the sum so far.
-pub fn product(left: usize, c: u16, x: [u32; 16], partial: Word, buf: &mut [i32]) -> Word
-    ensures { Emits partial.var (product! left c (from_codes x) (from_codes partial.lits) partial.var) buf.old buf.new partial.cur (from_codes result.lits) result.cur result.var }
+pub fn product(
+    left: usize,
+    c: u16,
+    x: [u32; 16],
+    partial: Out<[u32; 16]>,
+    buf: &mut [i32],
+) -> Out<[u32; 16]>
+    ensures { GivesWord partial.pen (product! left c (from_codes x) (from_codes partial.value)) buf.old buf.new result }
 {
     if left == 0 {
         return partial;
     }
-    let y = partial.lits;
-    let w = sum(y, addend(c % 2, x), FALSE, buf, partial.cur, partial.var);
-    product(left - 1, c / 2, shift(x), w, buf)
+    let y = partial.value;
+    let w = sum(y, addend(c % 2, x), FALSE, buf, partial.pen);
+    let total = w.value;
+    let value = total.lits;
+    let done = Out { value, pen: w.pen };
+    product(left - 1, c / 2, shift(x), done, buf)
 }
 
 pub fn negate_all(b: [u32; 16]) -> [u32; 16]
     ensures { from_codes result ≡ map negated (from_codes b) }
 {
-    let mut out = [0u32; 16];
-    let mut i: usize = 0;
-    while i < 16 {
-        out[i] = negate(b[i]);
-        i = i + 1;
-    }
-    out
+    b.map(negate)
 }
 
 pub fn negate_top(b: [u32; 16]) -> [u32; 16]
@@ -150,77 +141,53 @@ pub fn negate_top(b: [u32; 16]) -> [u32; 16]
     out
 }
 
-pub fn difference(a: [u32; 16], b: [u32; 16], buf: &mut [i32], cur: usize, var: u32) -> Word
-    ensures { Sums cur var (difference! (from_codes a) (from_codes b)) buf.old buf.new result }
+pub fn difference(a: [u32; 16], b: [u32; 16], buf: &mut [i32], pen: Cursor) -> Out<Word>
+    ensures { Sums pen (difference! (from_codes a) (from_codes b)) buf.old buf.new result }
 {
-    sum(a, negate_all(b), TRUE, buf, cur, var)
+    sum(a, negate_all(b), TRUE, buf, pen)
 }
 
-pub fn less(a: [u32; 16], b: [u32; 16], buf: &mut [i32], cur: usize, var: u32) -> Out
-    ensures { Emits var (less! (from_codes a) (from_codes b) var) buf.old buf.new cur (from_code result.lit) result.cur result.var }
+pub fn less(a: [u32; 16], b: [u32; 16], buf: &mut [i32], pen: Cursor) -> Out<u32>
+    ensures { Gives pen (less! (from_codes a) (from_codes b)) buf.old buf.new result }
 {
     let x = negate_top(a);
     let y = negate_top(b);
-    let w = difference(x, y, buf, cur, var);
-    let l = negate(w.carry);
+    let w = difference(x, y, buf, pen);
     Out {
-        lit: l,
-        cur: w.cur,
-        var: w.var,
+        value: negate(w.value.carry),
+        pen: w.pen,
     }
 }
 
 // An xor for each pair of bits.
-pub fn xors(a: [u32; 16], b: [u32; 16], buf: &mut [i32], cur: usize, var: u32) -> Word
-    ensures { Emits var (xors! (from_codes a) (from_codes b) var) buf.old buf.new cur (from_codes result.lits) result.cur result.var }
+pub fn xors(a: [u32; 16], b: [u32; 16], buf: &mut [i32], pen: Cursor) -> Out<[u32; 16]>
+    ensures { GivesWord pen (xors! (from_codes a) (from_codes b)) buf.old buf.new result }
 {
-    let mut out = [0u32; 16];
-    let mut at = cur;
-    let mut g = var;
-    let mut i: usize = 0;
-    while i < 16 {
-        let t = emit_xor(buf, at, g, a[i], b[i]);
-        out[i] = t.lit;
-        at = t.cur;
-        g = t.var;
-        i = i + 1;
+    let mut value = [0u32; 16];
+    let mut pen = pen;
+    for i in 0..16 {
+        let t = emit_xor(buf, pen, a[i], b[i]);
+        value[i] = t.value;
+        pen = t.pen;
     }
-    Word {
-        lits: out,
-        carry: TRUE,
-        earlier: TRUE,
-        cur: at,
-        var: g,
-    }
+    Out { value, pen }
 }
 
 // An and-chain from c over the negations.
-pub fn chain(x: [u32; 16], c: u32, buf: &mut [i32], cur: usize, var: u32) -> Out
-    ensures { Emits var (chain! (from_code c) (map negated (from_codes x)) var) buf.old buf.new cur (from_code result.lit) result.cur result.var }
+pub fn chain(x: [u32; 16], c: u32, buf: &mut [i32], pen: Cursor) -> Out<u32>
+    ensures { Gives pen (chain! (from_code c) (map negated (from_codes x))) buf.old buf.new result }
 {
-    let mut part = c;
-    let mut at = cur;
-    let mut g = var;
-    let mut i: usize = 0;
-    while i < 16 {
-        let n = negate(x[i]);
-        let t = emit_and(buf, at, g, part, n);
-        part = t.lit;
-        at = t.cur;
-        g = t.var;
-        i = i + 1;
+    let mut part = Out { value: c, pen };
+    for l in x {
+        part = emit_and(buf, part.pen, part.value, negate(l));
     }
-    Out {
-        lit: part,
-        cur: at,
-        var: g,
-    }
+    part
 }
 
-pub fn equal(a: [u32; 16], b: [u32; 16], buf: &mut [i32], cur: usize, var: u32) -> Out
-    ensures { Emits var (equal! (from_codes a) (from_codes b) var) buf.old buf.new cur (from_code result.lit) result.cur result.var }
+pub fn equal(a: [u32; 16], b: [u32; 16], buf: &mut [i32], pen: Cursor) -> Out<u32>
+    ensures { Gives pen (equal! (from_codes a) (from_codes b)) buf.old buf.new result }
 {
-    let x = xors(a, b, buf, cur, var);
-    let xs = x.lits;
-    chain(xs, TRUE, buf, x.cur, x.var)
+    let x = xors(a, b, buf, pen);
+    let xs = x.value;
+    chain(xs, TRUE, buf, x.pen)
 }

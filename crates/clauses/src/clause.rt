@@ -20,11 +20,9 @@ pub fn variables(v: u32, n: usize) -> [u32; MAX_BITS]
 {
     let mut out = [0u32; MAX_BITS];
     let mut x = v;
-    let mut i: usize = 0;
-    while i < n {
+    for i in 0..n {
         out[i] = positive(x);
         x = next(x);
-        i = i + 1;
     }
     out
 }
@@ -37,13 +35,11 @@ pub fn two_states(v: u32, w: u32, n: usize) -> [u32; PAIR_BITS]
     let mut out = [0u32; PAIR_BITS];
     let mut x = v;
     let mut y = w;
-    let mut i: usize = 0;
-    while i < n {
+    for i in 0..n {
         out[i] = positive(x);
         out[n + i] = positive(y);
         x = next(x);
         y = next(y);
-        i = i + 1;
     }
     out
 }
@@ -55,11 +51,9 @@ pub fn put_any(buf: &mut [i32], cur: usize, v: u32, n: usize) -> usize
 {
     let mut at = cur;
     let mut x = v;
-    let mut i: usize = 0;
-    while i < n {
+    for _ in 0..n {
         at = put_literal(buf, at, positive(x));
         x = next(x);
-        i = i + 1;
     }
     put_end(buf, at)
 }
@@ -72,11 +66,9 @@ pub fn put_against(buf: &mut [i32], cur: usize, f: u32, v: u32, n: usize) -> usi
     let nf = negate(positive(f));
     let mut at = cur;
     let mut x = v;
-    let mut i: usize = 0;
-    while i < n {
+    for _ in 0..n {
         at = clause2(buf, at, nf, negate(positive(x)));
         x = next(x);
-        i = i + 1;
     }
     at
 }
@@ -88,9 +80,7 @@ pub fn put_pairs(buf: &mut [i32], cur: usize, v: u32, n: usize) -> usize
 {
     let mut at = cur;
     let mut x = v;
-    let mut left = n;
-    while 0 < left {
-        left = left - 1;
+    for left in (0..n).rev() {
         let y = next(x);
         at = put_against(buf, at, x, y, left);
         x = y;
@@ -107,15 +97,13 @@ pub fn put_ties(buf: &mut [i32], cur: usize, f: u32, r: u32, b: u32, n: usize) -
     let mut at = cur;
     let mut x = r;
     let mut y = b;
-    let mut i: usize = 0;
-    while i < n {
+    for _ in 0..n {
         let p = positive(x);
         let q = positive(y);
         let s = clause3(buf, at, nf, negate(p), q);
         at = clause3(buf, s, nf, p, negate(q));
         x = next(x);
         y = next(y);
-        i = i + 1;
     }
     at
 }
@@ -135,11 +123,9 @@ pub fn put_all_ties(
 {
     let mut at = cur;
     let mut x = f;
-    let mut i: usize = 0;
-    while i < all {
-        at = put_ties(buf, at, x, firsts[i], b, n);
+    for first in &firsts[..all] {
+        at = put_ties(buf, at, x, *first, b, n);
         x = next(x);
-        i = i + 1;
     }
     at
 }
@@ -152,12 +138,10 @@ pub fn put_units(buf: &mut [i32], cur: usize, v: u32, n: usize, value: usize) ->
     let mut at = cur;
     let mut x = v;
     let mut y = value;
-    let mut i: usize = 0;
-    while i < n {
+    for _ in 0..n {
         at = clause1(buf, at, signed_by(x, y % 2));
         x = next(x);
-        y = y / 2;
-        i = i + 1;
+        y /= 2;
     }
     at
 }

@@ -47,7 +47,7 @@ pub fn no_gates(next: usize) -> GatesAt
     GatesAt {
         ands: 0,
         wides: 0,
-        next: next,
+        next,
     }
 }
 
@@ -202,12 +202,10 @@ pub fn size_list(file: &[u8], at: usize, end: usize, shape: Shape, nest: usize) 
     requires in_bounds { (end ≤ length file.now) × (end ≤ max_bytes) × (3 * shape.variables ≤ length file.now) × (shape.bits ≤ max_bits) }
     ensures { result ≡ list_gates shape.bits (list file.now (names_of file.now shape) end nest at) }
 {
-    let mut left = wide(file[at]);
     let mut sum = no_gates(at + 1);
-    while 0 < left {
+    for _ in 0..file[at] {
         let x = size_stmt(file, sum.next, end, shape, nest);
         sum = join(sum, x, 0, 0);
-        left = left - 1;
     }
     sum
 }

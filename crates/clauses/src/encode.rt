@@ -1,29 +1,42 @@
 // ENCODE, and the whole formula for VERDICT.
 ghost use Rattle.std.specs.Prelude.{◌≡◌, ◌+◌, ◌≤◌};
 ghost use Rattle.step.specs.Property.{property_of};
+ghost use Rattle.design.specs.Answer.{told};
 ghost use Rattle.design.specs.Tree.{Design};
 ghost use Rattle.design.specs.Check.{check, accepted};
+ghost use Rattle.design.specs.Places.{Accepted};
 ghost use Rattle.clauses.specs.Replies.{ENCODE};
-ghost use Rattle.clauses.specs.Ready.{Admitted, Writable, Written};
+ghost use Rattle.clauses.specs.Ready.{Instanced, Admitted, Writable, Written};
 
-use super::admission::{Admission, admit};
+use super::admission::admit;
 use super::frame::{FrameSizes, part_words, sizes, variables};
 use super::instance::Instance;
 use super::part::{put_part, put_parts};
 use design::index::{index_cells, index_events, shape};
 use design::limits::{EVENT_PLACES, MAX_MOVERS};
-
-#[derive(Clone, Copy)]
-pub enum EncodeReply {
-    Refused { number: u8, place: usize },
-    Encoded(u64),
-}
+use design::refusal::Refused;
 
 // How many words and variables a formula has.
 #[derive(Clone, Copy)]
 pub struct Formula {
     pub words: usize,
     pub variables: usize,
+}
+
+// What formula is written of an accepted file; `sizes` are those of a frame.
+fn instance(file: &[u8], sizes: FrameSizes, property: u64, bound: u64) -> Instance
+    requires { Accepted file.now }
+    ensures { Instanced file.now sizes property bound result }
+{
+    let mut cells = [0u16; MAX_MOVERS];
+    let shape = shape(file, index_cells(file, &mut cells));
+    Instance {
+        shape,
+        cells,
+        sizes,
+        property,
+        bound,
+    }
 }
 
 // ENCODE of a part that is there, once it is admitted; `s` has the sizes of a frame.
@@ -35,30 +48,19 @@ pub fn encode_admitted<'a>(
     part: u64,
     s: FrameSizes,
     buffer: &mut [i32],
-) -> EncodeReply
+) -> Result<u64, Refused>
     requires { Admitted file.now piece.now property bound s × (part ≤ bound + 2) }
-    ensures { record { reply = result; buffer = buffer.new } ≡ ENCODE file.now piece.now property bound part buffer.old }
+    ensures { record { reply = told result; buffer = buffer.new } ≡ ENCODE file.now piece.now property bound part buffer.old }
 {
     let words = part_words(s, bound, part);
     if (buffer.len() as u64) < words {
-        return EncodeReply::Refused {
-            number: 16,
-            place: 0,
-        };
+        return Err(Refused::Memory);
     }
     let mut events = [0u16; EVENT_PLACES];
     index_events(file, &mut events);
-    let mut cells = [0u16; MAX_MOVERS];
-    let shape = shape(file, index_cells(file, &mut cells));
-    let inst = Instance {
-        shape: shape,
-        cells: cells,
-        sizes: s,
-        property: property,
-        bound: bound,
-    };
+    let inst = instance(file, s, property, bound);
     put_part(file, piece, &events, inst, part, buffer, 0);
-    EncodeReply::Encoded(words)
+    Ok(words)
 }
 
 // Writes the words of a part of the formula and answers their number.
@@ -69,21 +71,14 @@ pub fn encode<'a>(
     bound: u64,
     part: u64,
     buffer: &mut [i32],
-) -> EncodeReply
-    ensures { record { reply = result; buffer = buffer.new } ≡ ENCODE file.now piece.now property bound part buffer.old }
+) -> Result<u64, Refused>
+    ensures { record { reply = told result; buffer = buffer.new } ≡ ENCODE file.now piece.now property bound part buffer.old }
 {
-    match admit(file, piece, property, bound) {
-        Admission::Refused { number, place } => EncodeReply::Refused { number, place },
-        Admission::Passed(s) => {
-            if bound + 2 < part {
-                return EncodeReply::Refused {
-                    number: 15,
-                    place: 0,
-                };
-            }
-            encode_admitted(file, piece, property, bound, part, s, buffer)
-        }
+    let s = admit(file, piece, property, bound)?;
+    if bound + 2 < part {
+        return Err(Refused::Part);
     }
+    encode_admitted(file, piece, property, bound, part, s, buffer)
 }
 
 // Writes the whole formula to the buffer's front.
@@ -100,18 +95,10 @@ pub fn write_formula<'a>(
     let s = sizes(file, piece, property);
     let mut events = [0u16; EVENT_PLACES];
     index_events(file, &mut events);
-    let mut cells = [0u16; MAX_MOVERS];
-    let shape = shape(file, index_cells(file, &mut cells));
-    let inst = Instance {
-        shape: shape,
-        cells: cells,
-        sizes: s,
-        property: property,
-        bound: bound,
-    };
+    let inst = instance(file, s, property, bound);
     let words = put_parts(file, piece, &events, inst, clauses);
     Formula {
-        words: words,
+        words,
         variables: variables(s, bound) as usize,
     }
 }

@@ -8,7 +8,7 @@ ghost use Rattle.clauses.specs.Builders.{beside!, arithmetic!, multiplied!, logi
 ghost use Rattle.clauses.specs.FlatState.{read_slots, Slotted};
 ghost use Rattle.clauses.specs.Encoders.{WritesMarked, int_marked, IntHere, BoolHere, IntEncoded, BoolEncoded, TestEncoded};
 
-use super::circuit::{Word, constant, difference, equal, less, product, sum, truth_code};
+use super::circuit::{constant, difference, equal, less, product, sum, truth_code};
 use super::gate::{Cursor, Out, Pen, emit_and, emit_or, moved};
 use super::literal::{FALSE, negate};
 use super::mark::{mark_product, mark_sum};
@@ -16,17 +16,10 @@ use design::bits::offset;
 use design::bytes::{wide, word};
 use design::shape::Shape;
 
-// The result of an expression, the pen after its gates, and the position past it.
+// The literal of a Boolean expression or the literals of an integer one, the pen after its gates, and the position past it.
 #[derive(Clone, Copy)]
-pub struct IntOut {
-    pub lits: [u32; 16],
-    pub pen: Pen,
-    pub next: usize,
-}
-
-#[derive(Clone, Copy)]
-pub struct BoolOut {
-    pub lit: u32,
+pub struct Encoded<T> {
+    pub value: T,
     pub pen: Pen,
     pub next: usize,
 }
@@ -36,102 +29,74 @@ pub fn load(bits: &[u32], off: usize, w: usize) -> [u32; 16]
     requires { (off + w ≤ length bits.now) × (w ≤ 16) }
     ensures { from_codes result ≡ pad 16 (take w (drop off (from_codes bits.now))) }
 {
-    let mut out = [3u32; 16];
-    let mut i: usize = 0;
-    while i < w {
-        out[i] = bits[off + i];
-        i = i + 1;
-    }
+    let mut out = [FALSE; 16];
+    out[..w].copy_from_slice(&bits[off..off + w]);
     out
 }
 
 // An operator's gates after those of its operands, of which b is the last.
-fn arithmetic(op: u8, a: [u32; 16], b: IntOut, buf: &mut [i32]) -> IntOut
-    ensures { WritesMarked b.pen (arithmetic! op b.pen.marks (from_codes a) (int_marked b)) buf.old buf.new (from_codes result.lits) result.pen × (result.next ≡ b.next) }
+fn arithmetic(op: u8, a: [u32; 16], b: Encoded<[u32; 16]>, buf: &mut [i32]) -> Encoded<[u32; 16]>
+    ensures { WritesMarked b.pen (arithmetic! op b.pen.marks (from_codes a) (int_marked b)) buf.old buf.new (from_codes result.value) result.pen × (result.next ≡ b.next) }
 {
-    let y = b.lits;
-    if op == 0x04 {
-        let w = sum(a, y, FALSE, buf, b.pen.at.cur, b.pen.at.var);
-        let z = w.lits;
-        let done = mark_sum(w, b.pen, buf);
-        return IntOut {
-            lits: z,
-            pen: done,
-            next: b.next,
-        };
-    }
-    let w = difference(a, y, buf, b.pen.at.cur, b.pen.at.var);
-    let z = w.lits;
-    let done = mark_sum(w, b.pen, buf);
-    IntOut {
-        lits: z,
-        pen: done,
+    let w = if op == 0x04 {
+        sum(a, b.value, FALSE, buf, b.pen.at)
+    } else {
+        difference(a, b.value, buf, b.pen.at)
+    };
+    let total = w.value;
+    let value = total.lits;
+    Encoded {
+        value,
+        pen: mark_sum(w, b.pen, buf),
         next: b.next,
     }
 }
 
 // The gates of a product by the constant c after those of its operand.
-fn multiply(c: u16, a: IntOut, buf: &mut [i32]) -> IntOut
-    ensures { WritesMarked a.pen (multiplied! c a.pen.marks (int_marked a)) buf.old buf.new (from_codes result.lits) result.pen × (result.next ≡ a.next) }
+fn multiply(c: u16, a: Encoded<[u32; 16]>, buf: &mut [i32]) -> Encoded<[u32; 16]>
+    ensures { WritesMarked a.pen (multiplied! c a.pen.marks (int_marked a)) buf.old buf.new (from_codes result.value) result.pen × (result.next ≡ a.next) }
 {
-    let x = a.lits;
-    let none = constant(0);
-    let start = Word {
-        lits: none,
-        carry: FALSE,
-        earlier: FALSE,
-        cur: a.pen.at.cur,
-        var: a.pen.at.var,
+    let value = constant(0);
+    let none = Out {
+        value,
+        pen: a.pen.at,
     };
-    let w = product(16, c, x, start, buf);
-    let z = w.lits;
-    let done = mark_product(c, x, moved(a.pen, w.cur, w.var), buf);
-    IntOut {
-        lits: z,
-        pen: done,
+    let x = a.value;
+    let w = product(16, c, x, none, buf);
+    let value = w.value;
+    Encoded {
+        value,
+        pen: mark_product(c, x, moved(a.pen, w.pen), buf),
         next: a.next,
     }
 }
 
-fn logic(op: u8, a: u32, b: BoolOut, buf: &mut [i32]) -> BoolOut
-    ensures { WritesMarked b.pen (beside! (from_code b.pen.mark) (logic! op (from_code a) (from_code b.lit))) buf.old buf.new (from_code result.lit) result.pen × (result.next ≡ b.next) }
+fn logic(op: u8, a: u32, b: Encoded<u32>, buf: &mut [i32]) -> Encoded<u32>
+    ensures { WritesMarked b.pen (beside! (from_code b.pen.mark) (logic! op (from_code a) (from_code b.value))) buf.old buf.new (from_code result.value) result.pen × (result.next ≡ b.next) }
 {
-    if op == 0x13 {
-        let w = emit_and(buf, b.pen.at.cur, b.pen.at.var, a, b.lit);
-        let done = moved(b.pen, w.cur, w.var);
-        return BoolOut {
-            lit: w.lit,
-            pen: done,
-            next: b.next,
-        };
-    }
-    let w = emit_or(buf, b.pen.at.cur, b.pen.at.var, a, b.lit);
-    let done = moved(b.pen, w.cur, w.var);
-    BoolOut {
-        lit: w.lit,
-        pen: done,
+    let w = if op == 0x13 {
+        emit_and(buf, b.pen.at, a, b.value)
+    } else {
+        emit_or(buf, b.pen.at, a, b.value)
+    };
+    Encoded {
+        value: w.value,
+        pen: moved(b.pen, w.pen),
         next: b.next,
     }
 }
 
-fn compare(op: u8, a: [u32; 16], b: IntOut, buf: &mut [i32]) -> BoolOut
-    ensures { WritesMarked b.pen (beside! (from_code b.pen.mark) (compare! op (from_codes a) (from_codes b.lits))) buf.old buf.new (from_code result.lit) result.pen × (result.next ≡ b.next) }
+fn compare(op: u8, a: [u32; 16], b: Encoded<[u32; 16]>, buf: &mut [i32]) -> Encoded<u32>
+    ensures { WritesMarked b.pen (beside! (from_code b.pen.mark) (compare! op (from_codes a) (from_codes b.value))) buf.old buf.new (from_code result.value) result.pen × (result.next ≡ b.next) }
 {
-    let y = b.lits;
-    if op == 0x15 {
-        let w = equal(a, y, buf, b.pen.at.cur, b.pen.at.var);
-        let done = moved(b.pen, w.cur, w.var);
-        return BoolOut {
-            lit: w.lit,
-            pen: done,
-            next: b.next,
-        };
-    }
-    let w = less(a, y, buf, b.pen.at.cur, b.pen.at.var);
-    let done = moved(b.pen, w.cur, w.var);
-    BoolOut {
-        lit: w.lit,
-        pen: done,
+    let w = if op == 0x15 {
+        equal(a, b.value, buf, b.pen.at)
+    } else {
+        less(a, b.value, buf, b.pen.at)
+    };
+    Encoded {
+        value: w.value,
+        pen: moved(b.pen, w.pen),
         next: b.next,
     }
 }
@@ -173,14 +138,21 @@ pub fn load_flag(file: &[u8], v: usize, next: bool, shape: Shape, bits: &[u32]) 
     bits[o]
 }
 
-fn int_out(lits: [u32; 16], pen: Pen, next: usize) -> IntOut
-    ensures { (result.lits ≡ lits) × (result.pen ≡ pen) × (result.next ≡ next) }
+fn int_out(value: [u32; 16], pen: Pen, next: usize) -> Encoded<[u32; 16]>
+    ensures { (result.value ≡ value) × (result.pen ≡ pen) × (result.next ≡ next) }
 {
-    IntOut { lits, pen, next }
+    Encoded { value, pen, next }
 }
 
 // The constant, variable or status at `at`: no gates.
-fn int_leaf(text: &[u8], file: &[u8], at: usize, shape: Shape, bits: &[u32], pen: Pen) -> IntOut
+fn int_leaf(
+    text: &[u8],
+    file: &[u8],
+    at: usize,
+    shape: Shape,
+    bits: &[u32],
+    pen: Pen,
+) -> Encoded<[u32; 16]>
     requires { ((later : Bool) × Slotted later file.now shape bits.now × IntHere text.now file.now shape later at)
         × ((slice_index text.now at < 0x04) ⊎ (0x05 < slice_index text.now at)) × (slice_index text.now at ≢ 0x08) }
     ensures { (later : Bool) (xs : List ℤ) → IntEncoded text.now file.now shape later bits.now at pen xs xs result }
@@ -207,7 +179,7 @@ pub fn encode_int(
     bits: &[u32],
     buf: &mut [i32],
     pen: Pen,
-) -> IntOut
+) -> Encoded<[u32; 16]>
     requires { (later : Bool) × Slotted later file.now shape bits.now × IntHere text.now file.now shape later at }
     ensures { (later : Bool)
         → IntEncoded text.now file.now shape later bits.now at pen buf.old buf.new result }
@@ -225,29 +197,33 @@ pub fn encode_int(
     }
     let a = encode_int(text, file, at + 1, shape, bits, buf, pen);
     let b = encode_int(text, file, a.next, shape, bits, buf, a.pen);
-    let x = a.lits;
-    arithmetic(op, x, b, buf)
+    arithmetic(op, a.value, b, buf)
 }
 
 // The constant, Boolean or external at `at`: no gates.
-fn bool_leaf(text: &[u8], file: &[u8], at: usize, shape: Shape, bits: &[u32], pen: Pen) -> BoolOut
+fn bool_leaf(
+    text: &[u8],
+    file: &[u8],
+    at: usize,
+    shape: Shape,
+    bits: &[u32],
+    pen: Pen,
+) -> Encoded<u32>
     requires { ((later : Bool) × Slotted later file.now shape bits.now × BoolHere text.now file.now shape later at)
         × ((slice_index text.now at < 0x12) ⊎ (0x16 < slice_index text.now at)) }
     ensures { (later : Bool) (xs : List ℤ) → BoolEncoded text.now file.now shape later bits.now at pen xs xs result }
 {
     let op = text[at];
     if op == 0x10 {
-        let l = truth_code(text[at + 1] as u16);
-        return BoolOut {
-            lit: l,
-            pen: pen,
+        return Encoded {
+            value: truth_code(text[at + 1] as u16),
+            pen,
             next: at + 2,
         };
     }
-    let l = load_flag(file, wide(text[at + 1]), 0x16 < op, shape, bits);
-    BoolOut {
-        lit: l,
-        pen: pen,
+    Encoded {
+        value: load_flag(file, wide(text[at + 1]), 0x16 < op, shape, bits),
+        pen,
         next: at + 2,
     }
 }
@@ -261,7 +237,7 @@ fn encode_compare(
     bits: &[u32],
     buf: &mut [i32],
     pen: Pen,
-) -> BoolOut
+) -> Encoded<u32>
     requires { ((later : Bool) × Slotted later file.now shape bits.now × BoolHere text.now file.now shape later at)
         × (0x15 ≤ slice_index text.now at) × (slice_index text.now at ≤ 0x16) }
     ensures { (later : Bool)
@@ -269,8 +245,7 @@ fn encode_compare(
 {
     let a = encode_int(text, file, at + 1, shape, bits, buf, pen);
     let b = encode_int(text, file, a.next, shape, bits, buf, a.pen);
-    let x = a.lits;
-    compare(text[at], x, b, buf)
+    compare(text[at], a.value, b, buf)
 }
 
 // The gates of the Boolean expression at `at`.
@@ -282,7 +257,7 @@ pub fn encode_bool(
     bits: &[u32],
     buf: &mut [i32],
     pen: Pen,
-) -> BoolOut
+) -> Encoded<u32>
     requires { (later : Bool) × Slotted later file.now shape bits.now × BoolHere text.now file.now shape later at }
     ensures { (later : Bool)
         → BoolEncoded text.now file.now shape later bits.now at pen buf.old buf.new result }
@@ -296,18 +271,16 @@ pub fn encode_bool(
     }
     if op == 0x12 {
         let a = encode_bool(text, file, at + 1, shape, bits, buf, pen);
-        let l = negate(a.lit);
-        let done = a.pen;
-        return BoolOut {
-            lit: l,
-            pen: done,
+        return Encoded {
+            value: negate(a.value),
+            pen: a.pen,
             next: a.next,
         };
     }
     if op < 0x15 {
         let a = encode_bool(text, file, at + 1, shape, bits, buf, pen);
         let b = encode_bool(text, file, a.next, shape, bits, buf, a.pen);
-        return logic(op, a.lit, b, buf);
+        return logic(op, a.value, b, buf);
     }
     encode_compare(text, file, at, shape, bits, buf, pen)
 }
@@ -321,7 +294,7 @@ pub fn encode_test(
     bits: &[u32],
     buf: &mut [i32],
     pen: Cursor,
-) -> Out
+) -> Out<u32>
     requires { (later : Bool) × Slotted later file.now shape bits.now × BoolHere text.now file.now shape later at }
     ensures { (later : Bool)
         → TestEncoded text.now file.now shape later bits.now at pen buf.old buf.new result }
@@ -333,8 +306,7 @@ pub fn encode_test(
     };
     let x = encode_bool(text, file, at, shape, bits, buf, quiet);
     Out {
-        lit: x.lit,
-        cur: x.pen.at.cur,
-        var: x.pen.at.var,
+        value: x.value,
+        pen: x.pen.at,
     }
 }

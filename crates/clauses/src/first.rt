@@ -21,13 +21,11 @@ pub fn put_values(file: &[u8], shape: Shape, buf: &mut [i32], cur: usize) -> usi
 {
     let mut at = cur;
     let mut x: u32 = 2;
-    let mut v: usize = 0;
-    while v < shape.variables {
+    for v in 0..shape.variables {
         let n = width(file[3 * v]);
         let value = word(file, 3 * v + 1);
         at = put_units(buf, at, x, n, value);
-        x = x + n as u32;
-        v = v + 1;
+        x += n as u32;
     }
     at
 }

@@ -91,7 +91,7 @@ pub fn size_step_property(file: &[u8], shape: Shape, property: u64) -> GatesAt
         return ends_unmarked(no_gates(0));
     }
     let stands = constraint(file);
-    ends_unmarked(size_bool(file, stands.at, stands.end, shape, false))
+    ends_unmarked(size_bool(file, stands.start, stands.end, shape, false))
 }
 
 // The sizes of a frame of an accepted file, with a right piece.
@@ -108,7 +108,7 @@ pub fn sizes<'a>(file: &'a [u8], piece: &'a [u8], property: u64) -> FrameSizes
     let c = size_step_property(file, shape, property);
     let bits = shape.bits as u64;
     FrameSizes {
-        bits: bits,
+        bits,
         movers: (shape.normals + shape.externals) as u64,
         property: Gates {
             ands: p.ands,
@@ -204,9 +204,9 @@ pub fn formula(s: FrameSizes, k: u64) -> FormulaSizes
     let words = 10 * s.property.ands + 16 * s.property.wides;
     FormulaSizes {
         bits: s.bits,
-        property: property,
+        property,
         movers: s.movers,
-        step: step,
+        step,
         variables: variables(s, k),
         clauses: 1 + s.bits + times(1 + k, clauses) + times(k, step_clauses(s)) + 1,
         words: 2 + 2 * s.bits + times(1 + k, words) + times(k, step_words(s)) + (k + s.last + 1),

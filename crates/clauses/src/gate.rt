@@ -2,7 +2,8 @@
 ghost use Rattle.std.specs.Prelude.{◌≡◌, [], ◌∷◌};
 ghost use Rattle.clauses.specs.Words.{clause_words};
 ghost use Rattle.clauses.specs.Circuit.{and!, xor!, mux!, or! };
-ghost use Rattle.clauses.specs.Writing.{from_code, Puts, Emits};
+ghost use Rattle.clauses.specs.Writing.{from_code, Puts};
+ghost use Rattle.clauses.specs.Encoders.{Gives};
 
 use super::literal::{negate, next, positive, put_end, put_literal};
 
@@ -21,23 +22,18 @@ pub struct Pen {
     pub mark: u32,
 }
 
-// A literal, and the cursor and the next variable after its gates.
+// What gates give, as a literal or a word of them, and where the writer stands after them.
 #[derive(Clone, Copy)]
-pub struct Out {
-    pub lit: u32,
-    pub cur: usize,
-    pub var: u32,
+pub struct Out<T> {
+    pub value: T,
+    pub pen: Cursor,
 }
 
 // The pen further on, with the same mark.
-pub fn moved(pen: Pen, cur: usize, var: u32) -> Pen
-    ensures { (result.at ≡ record { cur = cur; var = var }) × (result.marks ≡ pen.marks) × (result.mark ≡ pen.mark) }
+pub fn moved(pen: Pen, at: Cursor) -> Pen
+    ensures { (result.at ≡ at) × (result.marks ≡ pen.marks) × (result.mark ≡ pen.mark) }
 {
-    Pen {
-        at: Cursor { cur, var },
-        marks: pen.marks,
-        mark: pen.mark,
-    }
+    Pen { at, ..pen }
 }
 
 pub fn clause1(buf: &mut [i32], cur: usize, a: u32) -> usize
@@ -62,76 +58,77 @@ pub fn clause3(buf: &mut [i32], cur: usize, a: u32, b: u32, c: u32) -> usize
 }
 
 // (-g a)(-g b)(g -a -b)
-pub fn emit_and(buf: &mut [i32], cur: usize, var: u32, a: u32, b: u32) -> Out
-    ensures { Emits var (and! (from_code a) (from_code b) var) buf.old buf.new cur (from_code result.lit) result.cur result.var }
+pub fn emit_and(buf: &mut [i32], pen: Cursor, a: u32, b: u32) -> Out<u32>
+    ensures { Gives pen (and! (from_code a) (from_code b)) buf.old buf.new result }
 {
-    let g = positive(var);
+    let g = positive(pen.var);
     let ng = negate(g);
     let na = negate(a);
     let nb = negate(b);
-    let p = clause2(buf, cur, ng, a);
+    let p = clause2(buf, pen.cur, ng, a);
     let q = clause2(buf, p, ng, b);
     let s = clause3(buf, q, g, na, nb);
-    let v = next(var);
     Out {
-        lit: g,
-        cur: s,
-        var: v,
+        value: g,
+        pen: Cursor {
+            cur: s,
+            var: next(pen.var),
+        },
     }
 }
 
 // (-g a b)(-g -a -b)(g -a b)(g a -b)
-pub fn emit_xor(buf: &mut [i32], cur: usize, var: u32, a: u32, b: u32) -> Out
-    ensures { Emits var (xor! (from_code a) (from_code b) var) buf.old buf.new cur (from_code result.lit) result.cur result.var }
+pub fn emit_xor(buf: &mut [i32], pen: Cursor, a: u32, b: u32) -> Out<u32>
+    ensures { Gives pen (xor! (from_code a) (from_code b)) buf.old buf.new result }
 {
-    let g = positive(var);
+    let g = positive(pen.var);
     let ng = negate(g);
     let na = negate(a);
     let nb = negate(b);
-    let p = clause3(buf, cur, ng, a, b);
+    let p = clause3(buf, pen.cur, ng, a, b);
     let q = clause3(buf, p, ng, na, nb);
     let s = clause3(buf, q, g, na, b);
     let t = clause3(buf, s, g, a, nb);
-    let v = next(var);
     Out {
-        lit: g,
-        cur: t,
-        var: v,
+        value: g,
+        pen: Cursor {
+            cur: t,
+            var: next(pen.var),
+        },
     }
 }
 
 // (-c -a g)(-c a -g)(c -b g)(c b -g)
-pub fn emit_mux(buf: &mut [i32], cur: usize, var: u32, c: u32, a: u32, b: u32) -> Out
-    ensures { Emits var (mux! (from_code c) (from_code a) (from_code b) var) buf.old buf.new cur (from_code result.lit) result.cur result.var }
+pub fn emit_mux(buf: &mut [i32], pen: Cursor, c: u32, a: u32, b: u32) -> Out<u32>
+    ensures { Gives pen (mux! (from_code c) (from_code a) (from_code b)) buf.old buf.new result }
 {
-    let g = positive(var);
+    let g = positive(pen.var);
     let ng = negate(g);
     let nc = negate(c);
     let na = negate(a);
     let nb = negate(b);
-    let p = clause3(buf, cur, nc, na, g);
+    let p = clause3(buf, pen.cur, nc, na, g);
     let q = clause3(buf, p, nc, a, ng);
     let s = clause3(buf, q, c, nb, g);
     let t = clause3(buf, s, c, b, ng);
-    let v = next(var);
     Out {
-        lit: g,
-        cur: t,
-        var: v,
+        value: g,
+        pen: Cursor {
+            cur: t,
+            var: next(pen.var),
+        },
     }
 }
 
 // or(a,b) is -and(-a,-b)
-pub fn emit_or(buf: &mut [i32], cur: usize, var: u32, a: u32, b: u32) -> Out
-    ensures { Emits var (or! (from_code a) (from_code b) var) buf.old buf.new cur (from_code result.lit) result.cur result.var }
+pub fn emit_or(buf: &mut [i32], pen: Cursor, a: u32, b: u32) -> Out<u32>
+    ensures { Gives pen (or! (from_code a) (from_code b)) buf.old buf.new result }
 {
     let na = negate(a);
     let nb = negate(b);
-    let x = emit_and(buf, cur, var, na, nb);
-    let l = negate(x.lit);
+    let x = emit_and(buf, pen, na, nb);
     Out {
-        lit: l,
-        cur: x.cur,
-        var: x.var,
+        value: negate(x.value),
+        pen: x.pen,
     }
 }

@@ -40,17 +40,14 @@ pub fn state_literal<'a>(
         var: v + shape.bits as u32,
     };
     let x = encode_property(file, piece, events, inst, &bits, &mut none, pen);
-    x.lit
+    x.value
 }
 
 // a - b, or 0 where b is greater.
 pub fn less_by(a: u32, b: u64) -> u32
     ensures { b ≤ a → result ≡ a - b }
 {
-    if (a as u64) < b {
-        return 0;
-    }
-    a - b as u32
+    (a as u64).saturating_sub(b) as u32
 }
 
 // Property 2's literal in the step out of the frame at v, the next frame being at `after`; its gates go nowhere. They are the last before the next frame.
@@ -66,7 +63,7 @@ pub fn step_literal(file: &[u8], shape: Shape, property: u64, v: u32, after: u32
         var: less_by(after, gates.ands + gates.wides),
     };
     let x = encode_step_property(file, shape, property, v, after, &mut none, pen);
-    x.lit
+    x.value
 }
 
 // The property's literal in the frame at v, where frames are `stride` apart.
@@ -105,12 +102,10 @@ pub fn put_last<'a>(
     let stride = frame_length(sizes) as u32;
     let mut at = cur;
     let mut x: u32 = 2;
-    let mut j: u64 = 0;
-    while j < frames {
+    for _ in 0..frames {
         let l = property_literal(file, piece, events, inst, x, stride);
         at = put_literal(buf, at, negate(l));
-        x = x + stride;
-        j = j + 1;
+        x += stride;
     }
     put_end(buf, at)
 }

@@ -53,10 +53,9 @@ fn advance(cur: usize) -> usize
 fn store(buf: &mut [i32], cur: usize, word: i32) -> usize
     ensures { Puts (word ∷ []) buf.old buf.new cur result }
 {
-    if buf.len() <= cur {
-        return advance(cur);
+    if cur < buf.len() {
+        buf[cur] = word;
     }
-    buf[cur] = word;
     advance(cur)
 }
 

@@ -7,7 +7,7 @@ ghost use Rattle.clauses.specs.Writing.{from_code, from_codes};
 ghost use Rattle.clauses.specs.Encoders.{Writes, summed, MarkWritten};
 
 use super::circuit::{Word, constant, less};
-use super::gate::{Cursor, Out, Pen, emit_or, emit_xor, moved};
+use super::gate::{Out, Pen, emit_or, emit_xor, moved};
 
 // The magnitudes of the least and the largest integer, the first being its pattern, too; and the pattern of -1.
 const LEAST: u16 = 32768;
@@ -17,28 +17,25 @@ const LARGEST: u16 = 32767;
 const MINUS_ONE: u16 = 65535;
 
 // The or of the mark so far with x, which says that an operation passes the end.
-pub fn or_mark(pen: Pen, x: Out, buf: &mut [i32]) -> Pen
-    ensures { Writes (record { cur = x.cur; var = x.var }) (or! (from_code pen.mark) (from_code x.lit)) buf.old buf.new (from_code result.mark) result.at × (result.marks ≡ true) }
+pub fn or_mark(pen: Pen, x: Out<u32>, buf: &mut [i32]) -> Pen
+    ensures { Writes x.pen (or! (from_code pen.mark) (from_code x.value)) buf.old buf.new (from_code result.mark) result.at × (result.marks ≡ true) }
 {
-    let m = emit_or(buf, x.cur, x.var, pen.mark, x.lit);
+    let m = emit_or(buf, x.pen, pen.mark, x.value);
     Pen {
-        at: Cursor {
-            cur: m.cur,
-            var: m.var,
-        },
+        at: m.pen,
         marks: true,
-        mark: m.lit,
+        mark: m.value,
     }
 }
 
 // After a sum or difference: an xor of its last two carries. The pen is that of its operands.
-pub fn mark_sum(w: Word, pen: Pen, buf: &mut [i32]) -> Pen
-    ensures { MarkWritten (record { cur = w.cur; var = w.var }) pen (sum_passes! (summed w)) buf.old buf.new result }
+pub fn mark_sum(w: Out<Word>, pen: Pen, buf: &mut [i32]) -> Pen
+    ensures { MarkWritten w.pen pen (sum_passes! (summed w.value)) buf.old buf.new result }
 {
     if !pen.marks {
-        return moved(pen, w.cur, w.var);
+        return moved(pen, w.pen);
     }
-    let x = emit_xor(buf, w.cur, w.var, w.earlier, w.carry);
+    let x = emit_xor(buf, w.pen, w.value.earlier, w.value.carry);
     or_mark(pen, x, buf)
 }
 
@@ -50,9 +47,9 @@ pub fn least_operand(c: u16) -> u16
         return LEAST;
     }
     if c < LEAST {
-        return std::num::wrapping_sub_u16(0, LEAST / c);
+        return (LEAST / c).wrapping_neg();
     }
-    std::num::wrapping_sub_u16(0, LARGEST / std::num::wrapping_sub_u16(0, c))
+    (LARGEST / c.wrapping_neg()).wrapping_neg()
 }
 
 pub fn largest_operand(c: u16) -> u16
@@ -67,7 +64,7 @@ pub fn largest_operand(c: u16) -> u16
     if c == MINUS_ONE {
         return LARGEST;
     }
-    LEAST / std::num::wrapping_sub_u16(0, c)
+    LEAST / c.wrapping_neg()
 }
 
 // After the sums of a product of x by c: less(x, least), less(largest, x), their or.
@@ -78,9 +75,9 @@ pub fn mark_product(c: u16, x: [u32; 16], pen: Pen, buf: &mut [i32]) -> Pen
         return pen;
     }
     let l = constant(least_operand(c));
-    let a = less(x, l, buf, pen.at.cur, pen.at.var);
+    let a = less(x, l, buf, pen.at);
     let h = constant(largest_operand(c));
-    let b = less(h, x, buf, a.cur, a.var);
-    let o = emit_or(buf, b.cur, b.var, a.lit, b.lit);
+    let b = less(h, x, buf, a.pen);
+    let o = emit_or(buf, b.pen, a.value, b.value);
     or_mark(pen, o, buf)
 }

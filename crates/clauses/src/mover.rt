@@ -18,14 +18,6 @@ use design::bytes::wide;
 use design::limits::{EVENT_PLACES, EVENT_ROW, MAX_BITS};
 use design::shape::Shape;
 
-// The first variable of a mover's result, the cursor, and the next variable.
-#[derive(Clone, Copy)]
-pub struct Moved {
-    pub first: u32,
-    pub cur: usize,
-    pub var: u32,
-}
-
 // and(equal(status, constant), event) of the cell.
 pub fn status_and_event(
     file: &[u8],
@@ -35,7 +27,7 @@ pub fn status_and_event(
     bits: &[u32; MAX_BITS],
     buf: &mut [i32],
     pen: Cursor,
-) -> Out
+) -> Out<u32>
     requires { Ready file.now events.now shape × (length bits.now ≡ max_bits) × CellFields file.now p }
     ensures { (d : Design) (parts : Parts file.now d)
         → CellGates file.now shape bits.now p (event_in parts.rows) pen buf.old buf.new result }
@@ -43,22 +35,11 @@ pub fn status_and_event(
     let m = wide(file[p]);
     let x = load_status(file, m, false, shape, bits);
     let k = constant(wide(file[p + 1]) as u16);
-    let q = equal(x, k, buf, pen.cur, pen.var);
+    let q = equal(x, k, buf, pen);
     let e = wide(file[p + 2]);
     let at = events[EVENT_ROW * m + e] as usize;
-    let v = encode_test(
-        file,
-        file,
-        at + 1,
-        shape,
-        bits,
-        buf,
-        Cursor {
-            cur: q.cur,
-            var: q.var,
-        },
-    );
-    emit_and(buf, v.cur, v.var, q.lit, v.lit)
+    let v = encode_test(file, file, at + 1, shape, bits, buf, q.pen);
+    emit_and(buf, v.pen, q.value, v.value)
 }
 
 // The guard of a normal cell; an absent one is true.
@@ -69,17 +50,13 @@ pub fn encode_guard(
     bits: &[u32; MAX_BITS],
     buf: &mut [i32],
     pen: Cursor,
-) -> Out
+) -> Out<u32>
     requires { ((table : List ℕ) × Ready file.now table shape) × (length bits.now ≡ max_bits) × NormalCell file.now p }
     ensures { (x : NormalCell file.now p) → BoolGates file.now shape bits.now x.cell.guard pen buf.old buf.new result }
 {
     let n = wide(file[p + 5]);
     if n == 0 {
-        return Out {
-            lit: TRUE,
-            cur: pen.cur,
-            var: pen.var,
-        };
+        return Out { value: TRUE, pen };
     }
     encode_test(file, file, p + 8, shape, bits, buf, pen)
 }
@@ -93,26 +70,16 @@ pub fn encode_enable(
     bits: &[u32; MAX_BITS],
     buf: &mut [i32],
     pen: Cursor,
-) -> Out
+) -> Out<u32>
     requires { Ready file.now events.now shape × (length bits.now ≡ max_bits) × NormalCell file.now p }
     ensures { (x : NormalCell file.now p) → EnableGates file.now shape bits.now (cell x.cell) pen buf.old buf.new result }
 {
     let a = status_and_event(file, events, p, shape, bits, buf, pen);
-    let g = encode_guard(
-        file,
-        p,
-        shape,
-        bits,
-        buf,
-        Cursor {
-            cur: a.cur,
-            var: a.var,
-        },
-    );
-    emit_and(buf, g.cur, g.var, a.lit, g.lit)
+    let g = encode_guard(file, p, shape, bits, buf, a.pen);
+    emit_and(buf, g.pen, a.value, g.value)
 }
 
-// A normal cell: enable, action and target, muxes.
+// A normal cell: enable, action and target, muxes. The value is the first variable of its result, as it is of an external.
 pub fn encode_cell(
     file: &[u8],
     events: &[u16; EVENT_PLACES],
@@ -121,25 +88,20 @@ pub fn encode_cell(
     bits: &[u32; MAX_BITS],
     buf: &mut [i32],
     pen: Cursor,
-) -> Moved
+) -> Out<u32>
     requires { Ready file.now events.now shape × (length bits.now ≡ max_bits) × NormalCell file.now p }
     ensures { (x : NormalCell file.now p) → Moves file.now shape bits.now (cell x.cell) pen buf.old buf.new result }
 {
     let e = encode_enable(file, events, p, shape, bits, buf, pen);
     let mut state = *bits;
     let at = p + 8 + wide(file[p + 5]);
-    let pen = Cursor {
-        cur: e.cur,
-        var: e.var,
-    };
-    let a = encode_list(file, at, shape, &mut state, buf, pen);
+    let a = encode_list(file, at, shape, &mut state, buf, e.pen);
     let o = offset(file, shape.variables) + 4 * wide(file[p]);
     store_word(&mut state, o, constant(wide(file[p + 4]) as u16), 4);
-    let x = muxes(shape, e.lit, &mut state, bits, buf, a.pen);
-    Moved {
-        first: a.pen.var,
-        cur: x.cur,
-        var: x.var,
+    let x = muxes(shape, e.value, &mut state, bits, buf, a.pen);
+    Out {
+        value: a.pen.var,
+        pen: x,
     }
 }
 
@@ -151,7 +113,7 @@ pub fn encode_external(
     bits: &[u32; MAX_BITS],
     buf: &mut [i32],
     pen: Cursor,
-) -> Moved
+) -> Out<u32>
     requires { ShapedFile file.now shape × (length bits.now ≡ max_bits) × (v < shape.variables) × (slice_index file.now (3 * v) ≡ 2) }
     ensures { Moves file.now shape bits.now (raise v) pen buf.old buf.new result }
 {
@@ -160,9 +122,8 @@ pub fn encode_external(
     let o = offset(file, v);
     state[o] = TRUE;
     let x = muxes(shape, e, &mut state, bits, buf, pen);
-    Moved {
-        first: pen.var,
-        cur: x.cur,
-        var: x.var,
+    Out {
+        value: pen.var,
+        pen: x,
     }
 }

@@ -4,20 +4,13 @@ ghost use Rattle.design.specs.Limits.{max_bits, max_movers};
 ghost use Rattle.design.specs.Places.{CellsIndexed};
 ghost use Rattle.clauses.specs.Ready.{Ready, AllMove};
 
-use super::gate::Cursor;
+use super::gate::{Cursor, Out};
 use super::mover::{encode_cell, encode_external};
 use design::index::external;
 use design::limits::{EVENT_PLACES, MAX_BITS, MAX_MOVERS};
 use design::shape::Shape;
 
-// The first variable of each mover's result, and the cursor.
-#[derive(Clone, Copy)]
-pub struct StepOut {
-    pub firsts: [u32; MAX_MOVERS],
-    pub pen: Cursor,
-}
-
-// All movers: the normal cells, then the externals.
+// All movers: the normal cells, then the externals; the first variable of each one's result.
 pub fn encode_step(
     file: &[u8],
     events: &[u16; EVENT_PLACES],
@@ -26,33 +19,21 @@ pub fn encode_step(
     bits: &[u32; MAX_BITS],
     buf: &mut [i32],
     pen: Cursor,
-) -> StepOut
+) -> Out<[u32; MAX_MOVERS]>
     requires { Ready file.now events.now shape × (length bits.now ≡ max_bits) × CellsIndexed file.now cells.now shape.normals }
-    ensures { AllMove file.now shape bits.now pen buf.old buf.new result × (length result.firsts ≡ max_movers) }
+    ensures { AllMove file.now shape bits.now pen buf.old buf.new result × (length result.value ≡ max_movers) }
 {
-    let mut firsts = [0u32; MAX_MOVERS];
-    let mut at = pen.cur;
-    let mut g = pen.var;
-    let mut i: usize = 0;
-    while i < shape.normals + shape.externals {
-        let p = Cursor { cur: at, var: g };
-        if i < shape.normals {
-            let t = encode_cell(file, events, cells[i] as usize, shape, bits, buf, p);
-            firsts[i] = t.first;
-            at = t.cur;
-            g = t.var;
-            i = i + 1;
+    let mut value = [0u32; MAX_MOVERS];
+    let mut pen = pen;
+    for i in 0..shape.normals + shape.externals {
+        let t = if i < shape.normals {
+            encode_cell(file, events, cells[i] as usize, shape, bits, buf, pen)
         } else {
             let v = external(file, shape.variables, i - shape.normals);
-            let t = encode_external(file, v, shape, bits, buf, p);
-            firsts[i] = t.first;
-            at = t.cur;
-            g = t.var;
-            i = i + 1;
-        }
+            encode_external(file, v, shape, bits, buf, pen)
+        };
+        value[i] = t.value;
+        pen = t.pen;
     }
-    StepOut {
-        firsts: firsts,
-        pen: Cursor { cur: at, var: g },
-    }
+    Out { value, pen }
 }

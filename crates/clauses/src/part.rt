@@ -51,9 +51,9 @@ pub fn put_step(
         var: flags + all as u32,
     };
     let g = encode_step(file, events, &cells, shape, &bits, buf, pen);
-    let firsts = g.firsts;
+    let firsts = g.value;
     let x = encode_step_property(file, shape, inst.property, v, after, buf, g.pen);
-    put_all_ties(buf, x.cur, flags, all, &firsts, after, n)
+    put_all_ties(buf, x.pen.cur, flags, all, &firsts, after, n)
 }
 
 // Frame j: the property's gates, and the step out of it if it is not the last.
@@ -75,14 +75,14 @@ pub fn put_frame<'a>(
     let n = s.bits as usize;
     let bits = variables(v, n);
     let pen = Cursor {
-        cur: cur,
+        cur,
         var: v + n as u32,
     };
     let x = encode_property(file, piece, events, inst, &bits, buf, pen);
     if j < k {
-        put_step(file, events, inst, v, buf, x.cur)
+        put_step(file, events, inst, v, buf, x.pen.cur)
     } else {
-        x.cur
+        x.pen.cur
     }
 }
 
@@ -120,12 +120,9 @@ pub fn put_parts<'a>(
     requires { FormulaReady file.now events.now inst × (piece_right file.now piece.now inst.property ≡ true) }
     ensures { FormulaPut file.now piece.now buf.old buf.new 0 result inst }
 {
-    let k = inst.bound;
     let mut at: usize = 0;
-    let mut i: u64 = 0;
-    while i < k + 3 {
+    for i in 0..inst.bound + 3 {
         at = put_part(file, piece, events, inst, i, buf, at);
-        i = i + 1;
     }
     at
 }

@@ -35,8 +35,8 @@ pub fn encode_link(
     shape: Shape,
     bits: &[u32; MAX_BITS],
     buf: &mut [i32],
-    chain: Out,
-) -> Out
+    chain: Out<u32>,
+) -> Out<u32>
     requires { Ready file.now events.now shape × (length bits.now ≡ max_bits) × CellFields file.now p }
     ensures { (d : Design) (parts : Parts file.now d)
         → LinkGates file.now shape bits.now p (event_in parts.rows) chain buf.old buf.new result }
@@ -45,13 +45,8 @@ pub fn encode_link(
     if kind == 0 {
         return chain;
     }
-    let pen = Cursor {
-        cur: chain.cur,
-        var: chain.var,
-    };
-    let a = status_and_event(file, events, p, shape, bits, buf, pen);
-    let n = negate(a.lit);
-    emit_and(buf, a.cur, a.var, chain.lit, n)
+    let a = status_and_event(file, events, p, shape, bits, buf, chain.pen);
+    emit_and(buf, a.pen, chain.value, negate(a.value))
 }
 
 // An and-chain from true over not(and(equal, event)) of the invalid cells.
@@ -62,41 +57,24 @@ pub fn encode_invalid(
     bits: &[u32; MAX_BITS],
     buf: &mut [i32],
     pen: Cursor,
-) -> Out
+) -> Out<u32>
     requires { Ready file.now events.now shape × (length bits.now ≡ max_bits) }
     ensures { (d : Design) (parts : Parts file.now d) → InvalidGates file.now shape bits.now d.invalid pen buf.old buf.new result }
 {
-    let count = trailer_word(file, CELLS);
     let mut p = trailer_word(file, CELLS_AT);
-    let mut part = TRUE;
-    let mut at = pen.cur;
-    let mut g = pen.var;
-    let mut i = 0;
-    while i < count {
-        let chain = Out {
-            lit: part,
-            cur: at,
-            var: g,
-        };
-        let t = encode_link(file, events, p, shape, bits, buf, chain);
-        part = t.lit;
-        at = t.cur;
-        g = t.var;
-        p = p + 8 + wide(file[p + 5]) + word(file, p + 6);
-        i = i + 1;
+    let mut chain = Out { value: TRUE, pen };
+    for _ in 0..trailer_word(file, CELLS) {
+        chain = encode_link(file, events, p, shape, bits, buf, chain);
+        p += 8 + wide(file[p + 5]) + word(file, p + 6);
     }
-    Out {
-        lit: part,
-        cur: at,
-        var: g,
-    }
+    chain
 }
 
 // A property's end: an and with the mark's negation.
-pub fn unmarked(x: Out, mark: u32, buf: &mut [i32]) -> Out
-    ensures { Gives (record { cur = x.cur; var = x.var }) (and! (from_code x.lit) (negated (from_code mark))) buf.old buf.new result }
+pub fn unmarked(x: Out<u32>, mark: u32, buf: &mut [i32]) -> Out<u32>
+    ensures { Gives x.pen (and! (from_code x.value) (negated (from_code mark))) buf.old buf.new result }
 {
-    emit_and(buf, x.cur, x.var, x.lit, negate(mark))
+    emit_and(buf, x.pen, x.value, negate(mark))
 }
 
 // The property in the frame whose state has the literals `bits`.
@@ -108,7 +86,7 @@ pub fn encode_property<'a>(
     bits: &[u32; MAX_BITS],
     buf: &mut [i32],
     pen: Cursor,
-) -> Out
+) -> Out<u32>
     requires { Ready file.now events.now inst.shape × (piece_right file.now piece.now inst.property ≡ true) × (length bits.now ≡ max_bits) }
     ensures { (d : Design) (parts : Parts file.now d)
         → PropertyGates file.now inst.shape bits.now d (property_of file.now piece.now d inst.property) pen buf.old buf.new result }
@@ -128,14 +106,10 @@ pub fn encode_property<'a>(
 }
 
 // True, and no gates: where a property has none.
-pub fn no_property(pen: Cursor) -> Out
-    ensures { (from_code result.lit ≡ true_literal) × (result.cur ≡ pen.cur) × (result.var ≡ pen.var) }
+pub fn no_property(pen: Cursor) -> Out<u32>
+    ensures { (from_code result.value ≡ true_literal) × (result.pen ≡ pen) }
 {
-    Out {
-        lit: TRUE,
-        cur: pen.cur,
-        var: pen.var,
-    }
+    Out { value: TRUE, pen }
 }
 
 // The constraint over the literals of two states; an absent one is true.
@@ -145,7 +119,7 @@ pub fn encode_constraint(
     both: &[u32; PAIR_BITS],
     buf: &mut [i32],
     pen: Cursor,
-) -> Out
+) -> Out<u32>
     requires { ShapedFile file.now shape × (length both.now ≡ pair_bits) }
     ensures { (d : Design) (parts : Parts file.now d)
         → Gives pen (test! (layout_of shape) (read_slots true file.now shape both.now) d.constraint) buf.old buf.new result }
@@ -154,7 +128,7 @@ pub fn encode_constraint(
         return no_property(pen);
     }
     let stands = constraint(file);
-    encode_test(file, file, stands.at, shape, both, buf, pen)
+    encode_test(file, file, stands.start, shape, both, buf, pen)
 }
 
 // Property 2 in the step out of the state whose first variable is v; the next state's is `after`. Other properties have no gates there. No piece is read.
@@ -166,7 +140,7 @@ pub fn encode_step_property(
     after: u32,
     buf: &mut [i32],
     pen: Cursor,
-) -> Out
+) -> Out<u32>
     requires { ShapedFile file.now shape }
     ensures { (d : Design) (parts : Parts file.now d) (piece : List ℕ)
         → StepPropertyGates d (property_of file.now piece d property) v after pen buf.old buf.new result }

@@ -7,21 +7,46 @@ ghost use Rattle.design.specs.Check.{names_of};
 ghost use Rattle.design.specs.Answers.{found};
 
 use super::kind::Kind;
+use super::shape::Shape;
 use super::source::Source;
 
-impl<'a> Source<'a> {
-    // The integer constant at `at`.
-    pub fn read_integer_constant(self, at: usize) -> Option<usize>
-        requires { at ≤ self.end }
-        ensures { (N : Names) → result ≡ found (int_of self.entry.text.now N self.entry.end fail IntOp.op_constant at) }
-    {
-        if 2 <= self.end - at {
-            Some(at + 2)
-        } else {
-            None
-        }
-    }
+// The integer constant at `at`.
+pub fn read_integer_constant(at: usize, end: usize) -> Option<usize>
+    requires { at ≤ end }
+    ensures { (text : List ℕ) (N : Names) → result ≡ found (int_of text N end fail IntOp.op_constant at) }
+{
+    if 2 <= end - at { Some(at + 2) } else { None }
+}
 
+// The matrix whose status is read.
+pub fn read_status(text: &[u8], at: usize, end: usize, shape: Shape) -> Option<usize>
+    requires { end ≤ length text.now }
+    ensures { (file : List ℕ) → result ≡ found (int_of text.now (names_of file shape) end fail (IntOp.op_status false) at) }
+{
+    if end <= at {
+        return None;
+    }
+    let m = text[at] as usize;
+    if m < shape.matrices {
+        Some(at + 1)
+    } else {
+        None
+    }
+}
+
+// The byte 0 or 1.
+pub fn read_boolean_constant(text: &[u8], at: usize, end: usize) -> Option<usize>
+    requires { end ≤ length text.now }
+    ensures { (N : Names) → result ≡ found (bool_of text.now N end fail fail BoolOp.op_constant at) }
+{
+    if end <= at {
+        return None;
+    }
+    let b = text[at];
+    if b <= 1 { Some(at + 1) } else { None }
+}
+
+impl<'a> Source<'a> {
     // The integer variable named at `at`.
     pub fn read_integer_variable(self, at: usize) -> Option<usize>
         ensures { result ≡ found (int_of self.entry.text.now (names_of self.entry.file.now self.entry.shape) self.entry.end fail (IntOp.op_variable false) at) }
@@ -39,32 +64,6 @@ impl<'a> Source<'a> {
         } else {
             None
         }
-    }
-
-    // The matrix whose status is read.
-    pub fn read_status(self, at: usize) -> Option<usize>
-        ensures { result ≡ found (int_of self.entry.text.now (names_of self.entry.file.now self.entry.shape) self.entry.end fail (IntOp.op_status false) at) }
-    {
-        if self.end <= at {
-            return None;
-        }
-        let m = self.text[at] as usize;
-        if m < self.shape.matrices {
-            Some(at + 1)
-        } else {
-            None
-        }
-    }
-
-    // The byte 0 or 1.
-    pub fn read_boolean_constant(self, at: usize) -> Option<usize>
-        ensures { (N : Names) → result ≡ found (bool_of self.entry.text.now N self.entry.end fail fail BoolOp.op_constant at) }
-    {
-        if self.end <= at {
-            return None;
-        }
-        let b = self.text[at];
-        if b <= 1 { Some(at + 1) } else { None }
     }
 
     // The Boolean or external variable named at `at`.
@@ -98,9 +97,9 @@ impl<'a> Source<'a> {
         }
         let op = self.text[at];
         match op {
-            0x01 => self.read_integer_constant(at + 1),
+            0x01 => read_integer_constant(at + 1, self.end),
             0x02 => self.read_integer_variable(at + 1),
-            0x03 => self.read_status(at + 1),
+            0x03 => read_status(self.text, at + 1, self.end, self.shape),
             0x04..=0x05 => {
                 let m = self.check_int(at + 1, later, depth - 1)?;
                 self.check_int(m, later, depth - 1)
@@ -112,11 +111,11 @@ impl<'a> Source<'a> {
                 if op == 0x06 {
                     self.read_integer_variable(at + 1)
                 } else {
-                    self.read_status(at + 1)
+                    read_status(self.text, at + 1, self.end, self.shape)
                 }
             }
             0x08 => {
-                let m = self.read_integer_constant(at + 1)?;
+                let m = read_integer_constant(at + 1, self.end)?;
                 self.check_int(m, later, depth - 1)
             }
             _ => None,
@@ -135,7 +134,7 @@ impl<'a> Source<'a> {
         }
         let op = self.text[at];
         match op {
-            0x10 => self.read_boolean_constant(at + 1),
+            0x10 => read_boolean_constant(self.text, at + 1, self.end),
             0x11 => self.read_boolean_variable(at + 1),
             0x12 => self.check_bool(at + 1, later, depth - 1),
             0x13..=0x14 => {

@@ -118,11 +118,10 @@ pub fn index_row(
     m: usize,
     table: &mut [u16; EVENT_PLACES],
 ) -> usize
-    requires { (count ≤ max_events) × (m < max_matrices) × (length file.now ≤ max_bytes) × (length table.old ≡ event_places) × ((i : ℕ) → i < count
+    requires { (count ≤ max_events) × (m < max_matrices) × (length file.now ≤ max_bytes) × ((i : ℕ) → i < count
         → past_events file.now i at < length file.now) }
     ensures { (result ≡ past_events file.now count at) × ((i : ℕ) → i < count → get_or table.new (max_events * m + i) 0
-        ≡ past_events file.now i at) × ((i : ℕ) → i < max_events * m → get_or table.new i 0 ≡ get_or table.old i 0)
-        × (length table.new ≡ event_places) }
+        ≡ past_events file.now i at) × ((i : ℕ) → i < max_events * m → get_or table.new i 0 ≡ get_or table.old i 0) }
 {
     let mut p = at;
     for i in 0..count {
@@ -134,7 +133,7 @@ pub fn index_row(
 
 // The events of all matrices.
 pub fn index_events(file: &[u8], table: &mut [u16; EVENT_PLACES])
-    requires { Accepted file.now × (length table.old ≡ event_places) }
+    requires { Accepted file.now }
     ensures { EventsIndexed file.now table.new }
 {
     let mats = trailer_word(file, MATRICES_AT);
@@ -147,7 +146,7 @@ pub fn index_events(file: &[u8], table: &mut [u16; EVENT_PLACES])
 
 // The normal cells; answers how many there are.
 pub fn index_cells(file: &[u8], table: &mut [u16; MAX_MOVERS]) -> usize
-    requires { Accepted file.now × (length table.old ≡ max_movers) }
+    requires { Accepted file.now }
     ensures { CellsIndexed file.now table.new result }
 {
     let count = trailer_word(file, CELLS);

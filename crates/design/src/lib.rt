@@ -1,7 +1,6 @@
 // The file reader: CHECK.
 #![tactic(auto)]
 
-pub mod accepted;
 pub mod action;
 pub mod bits;
 pub mod bytes;

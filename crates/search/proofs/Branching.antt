@@ -8,8 +8,9 @@ use native.Mathlib.Nat.{le_refl}
 use lib.Dec.{eqb}
 use lib.ListN.{length, get_or}
 use borrow.Author.Tests.{eqb-true, eqb-false, lt-ltb}
+use Rattle.std.specs.Prelude.{Option, None, Some}
 use Rattle.clauses.specs.Literal.{Clause}
-use Rattle.search.specs.Search.{unset, is, Setting, Settings, value_of, Place, none, at, is_unset, lowest_unset, Turn, sets, takes, satisfied, refuted, forced, branch_false, branch_true, undo, branch}
+use Rattle.search.specs.Search.{unset, is, Setting, Settings, value_of, is_unset, lowest_unset, Turn, sets, takes, satisfied, refuted, forced, branch_false, branch_true, undo, branch}
 use Rattle.search.specs.AnyOrder.{Move, by_conflict, by_unit, by_branch}
 use Rattle.search.specs.Memory.{value_of_byte, settings_of, TrailAgrees, SetTo}
 use Rattle.search.proofs.Scans.{AllSet, LowestRight, lowest_right}
@@ -53,9 +54,9 @@ move_onward n cs m ss g a (by_conflict e) = undo_onward n cs m ss g
 move_onward n cs m ss g a (by_unit l u) = all_more m m (forced l) ss a (λ v k ne. k)
 move_onward n cs m ss g a (by_branch q) = go (lowest_unset (value_of ss) 1 n) (lowest_right ss 1 n)
   where
-    go : (p : Place) → LowestRight ss 1 n p → Onward m (branch ss p)
-    go none h = tt
-    go (at v) h = reaches (branch_false v) ss (λ u b c. h.before u b (omega (arith, h.low)))
+    go : (p : Option ℕ) → LowestRight ss 1 n p → Onward m (branch ss p)
+    go None h = tt
+    go (Some v) h = reaches (branch_false v) ss (λ u b c. h.before u b (omega (arith, h.low)))
 
 -- In lent memory: a byte that is set is a bit, and each byte tells its variable's value.
 pub set_bit : (x : ℕ) → is_unset (value_of_byte x) ≡ false → x ≤ 1

@@ -4,11 +4,11 @@ use mathlib.Core.List.{List, [], ◌∷◌}
 use Prim.Native.Nat.{ℕ}
 use lib.IntN.{ℤ, pos, negsuc}
 use lib.ListN.{replicate}
+use Rattle.design.specs.Answer.{answer}
 use Rattle.search.specs.Search.{turn, solved}
 use Rattle.search.specs.Solve.{After, refuses, solve}
 use Rattle.search.specs.declared.Answered.{Answered}
 use Rattle.search.specs.declared.Answered.TheVariants.{Sat, Spent}
-use Rattle.search.specs.declared.Reply.TheVariants.{Done}
 
 -- n, the words and the budget
 abbrev solves : ℕ → List ℤ → ℕ → After
@@ -16,7 +16,7 @@ solves n ws budget = solve n ws (replicate n 7) (replicate n 7) budget
 
 -- the answer and the tries, values and trail left 0
 abbrev answers : ℕ → Answered → ℕ → After
-answers n a t = record { reply = Done (record { answer = a; tries = t }); values = replicate n 0; trail = replicate n 0 }
+answers n a t = record { reply = answer (record { answer = a; tries = t }); values = replicate n 0; trail = replicate n 0 }
 
 -- a literal that stands twice is no unit
 pub stands_twice : solves 1 (pos 1 ∷ pos 1 ∷ pos 0 ∷ []) 0 ≡ answers 1 Spent 0

@@ -1,6 +1,6 @@
 -- A clause's literals set false, one after the other.
 use mathlib.Core.Path.{◌≡◌, refl, sym, ap, ap₂, ◌∙◌, subst, subst₂}
-use mathlib.Core.Bool.{Bool, true, false, not, ◌||◌, cond}
+use mathlib.Core.Bool.{Bool, true, false, ◌||◌, cond}
 use mathlib.Core.List.{List, [], ◌∷◌}
 use Prim.Native.Nat.{ℕ, zero, suc, ◌+◌, ◌-◌, ◌<◌, ◌≤◌}
 use native.Mathlib.Omega.{arith}
@@ -8,15 +8,15 @@ use native.Mathlib.Numerals.{add-one}
 use lib.Dec.{eqb}
 use lib.IntN.{ℤ, pos, negsuc, nat_abs}
 use lib.ListN.{length, get_or, drop, set, length-set, get_or-replicate}
-use borrow.Author.Tests.{eqb-true, eqb-false, eq-eqb, ne_eqb, lt-ltb, not-true, not-false}
+use borrow.Author.Tests.{eqb-true, eqb-false, eq-eqb, ne_eqb, lt-ltb}
 use Rattle.clauses.specs.Literal.{Literal, positive, negative, negate, Clause}
 use Rattle.clauses.specs.Words.{is_end, literal_of_word}
 use Rattle.search.specs.Search.{is, Setting, Settings, value_of, opposite, literal_value, forced}
 use Rattle.search.specs.Refutation.{set_false, same_literal, holds, holds_both}
-use Rattle.search.specs.Memory.{AllIn, first_clause, has_end, sign_of, value_of_byte, value_at, literal_from, AllUnset, Agrees, Denied}
+use Rattle.search.specs.Memory.{AllIn, first_clause, has_end, sign_of, value_of_byte, value_at, literal_from, AllUnset, Agrees}
 use Rattle.search.proofs.Scans.{is_true, or_true, or_false}
-use Rattle.search.proofs.Reading.{inside_low, inside_next, inside_end, Passing, passing_start, passing_next_lem}
-use Rattle.search.proofs.Scanning.{literal_low, sign_bit}
+use Rattle.search.proofs.Reading.{inside_low, inside_next, Passing, passing_start, passing_next_lem}
+use Rattle.search.proofs.Scanning.{literal_low}
 use Rattle.search.proofs.State.{byte_bit, value_other, value_same}
 use Rattle.search.proofs.Steps.{forced_is}
 
@@ -81,14 +81,7 @@ held_next ss l ls e =
     or_assoc true b c = refl
     or_assoc false b c = refl
 
-held_true : (ss : Settings) (l : Literal) (ls : Clause) → is_true (literal_value (value_of ss) l) ≡ true → held ss (l ∷ ls) ≡ true
-held_true ss l ls e = rw e
-
 -- a literal's byte
-byte_true : (z : ℤ) (vs : List ℕ) → get_or vs (nat_abs z - 1) 0 ≡ sign_of z → is_true (literal_value (value_at vs) (literal_of_word z)) ≡ true
-byte_true (pos v) vs e = rw e
-byte_true (negsuc v) vs e = rw e
-
 byte_not : (z : ℤ) (vs : List ℕ) → (get_or vs (nat_abs z - 1) 0 ≡ sign_of z → ⊥) → is_true (literal_value (value_at vs) (literal_of_word z)) ≡ false
 byte_not (pos v) vs h = go (get_or vs (v - 1) 0) h
   where
@@ -143,10 +136,7 @@ module _ {ws : List ℤ} {vs : List ℕ} {n from i : ℕ} (h : Denying ws vs n f
   pub denying_low : i < length ws
   denying_low = inside_low ws i h.passing.ends
 
-  module _ {ended : Bool} (word : ended ≡ is_end (get_or ws i (pos 0))) (goes : not ended ≡ true) (inside : AllIn n ws) {v : ℕ} (name : v ≡ nat_abs (get_or ws i (pos 0))) where
-    literal : is_end (get_or ws i (pos 0)) ≡ false
-    literal = sym word ∙ not-true ended goes
-
+  module _ (literal : is_end (get_or ws i (pos 0)) ≡ false) (inside : AllIn n ws) {v : ℕ} (name : v ≡ nat_abs (get_or ws i (pos 0))) where
     pub denying_named : 0 < v
     denying_named = literal_low (get_or ws i (pos 0)) v literal name
 
@@ -163,15 +153,6 @@ module _ {ws : List ℤ} {vs : List ℕ} {n from i : ℕ} (h : Denying ws vs n f
         lit_agrees h.settings vs h.agrees (get_or ws i (pos 0)) (subst (λ (k : ℕ). 0 < k) name a) (subst (λ (k : ℕ). k ≤ length vs) name b)
 
     module _ {x : ℕ} (sign : x ≡ sign_of (get_or ws i (pos 0))) where
-      pub denying_sign : x ≤ 1
-      denying_sign = subst (λ (k : ℕ). k ≤ 1) (sym sign) (sign_bit (get_or ws i (pos 0)))
-
-      pub denying_both : get_or vs (v - 1) 0 ≡ x → Denied (first_clause (drop from ws)) true vs
-      denying_both e =
-          sym h.both ∙ ap (held h.settings) first
-          ∙ held_true h.settings (literal_of_word (get_or ws i (pos 0))) (first_clause (drop (suc i) ws))
-          (ap is_true value ∙ byte_true (get_or ws i (pos 0)) vs (ap (λ (k : ℕ). get_or vs (k - 1) 0) (sym name) ∙ e ∙ sign))
-
       pub denying_next : (get_or vs (v - 1) 0 ≡ x → ⊥) → Denying ws (set vs (v - 1) (1 - x)) n from (i + 1)
       denying_next ne =
           let l = literal_of_word (get_or ws i (pos 0)) in
@@ -189,11 +170,3 @@ module _ {ws : List ℤ} {vs : List ℕ} {n from i : ℕ} (h : Denying ws vs n f
             sets = ap (set_false h.settings) (sym first) ∙ h.sets;
             both = sym (held_next h.settings l (first_clause (drop (suc i) ws)) u) ∙ ap (held h.settings) (sym first) ∙ h.both;
           })
-
-  pub denying_end : {ended : Bool} → ended ≡ is_end (get_or ws i (pos 0)) → not ended ≡ false → Denied (first_clause (drop from ws)) false vs
-  denying_end {ended} word stops =
-      let g : is_end (get_or ws i (pos 0)) ≡ true = sym word ∙ not-false ended stops in
-      let e : first_clause (drop i ws) ≡ [] = (inside_end ws i h.passing.ends g).1 in (
-        sym h.both ∙ ap (held h.settings) e,
-        subst (λ (ss : Settings). Agrees ss vs) (ap (set_false h.settings) (sym e) ∙ h.sets) h.agrees,
-      )

@@ -13,14 +13,12 @@ pub mod Order
 -- refutations
 pub mod Refutations
 -- the code's words, scan, memory and turns
-pub mod Signed
 pub mod Reading
 pub mod BadWords
 pub mod Scanning
 pub mod Prefixes
 pub mod Seeking
 pub mod State
-pub mod Filling
 pub mod Steps
 pub mod Branching
 pub mod Running

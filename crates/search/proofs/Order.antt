@@ -6,9 +6,10 @@ use Prim.Native.Nat.{ℕ, zero, suc, ◌^◌, ◌<◌, ◌≤◌}
 use native.Mathlib.Omega.{arith}
 use native.Mathlib.Nat.{le_refl}
 use lib.Dec.{eqb}
+use Rattle.std.specs.Prelude.{Option, None, Some}
 use Rattle.clauses.specs.Literal.{Literal, positive, negative, Clause}
 use Rattle.clauses.specs.Meaning.{Within}
-use Rattle.search.specs.Search.{Value, is, Setting, Settings, Values, value_of, conflict, Place, none, at, is_unset, lowest_unset, Turn, sets, takes, satisfied, refuted, forced, branch_false, branch_true, undo, branch, turn, no_budget, up_to, Answer, SAT, UNSAT, SPENT, Outcome, run, solved}
+use Rattle.search.specs.Search.{Value, is, Setting, Settings, Values, value_of, conflict, is_unset, lowest_unset, Turn, sets, takes, satisfied, refuted, forced, branch_false, branch_true, undo, branch, turn, no_budget, up_to, Answer, SAT, UNSAT, SPENT, Outcome, run, solved}
 use Rattle.search.specs.Answers.{declared_answer}
 use Rattle.search.specs.Solve.{bit_of, values_from, values_left}
 use Rattle.search.specs.AnyOrder.{IsUnit, Quiet, Settles, done, more, Move, by_conflict, by_unit, by_branch}
@@ -21,8 +22,8 @@ use Rattle.search.proofs.Closure.{Same, same_sym, calm_all, one_closure}
 pub data Any (n : ℕ) (cs : List Clause) : Settings → ℕ → Answer → ℕ → Type 0 where
   back : {ss ss₁ ss₂ : Settings} {t r : ℕ} {a : Answer} → Settles cs ss ss₁ → conflict (value_of ss₁) cs ≡ true → undo ss₁ ≡ takes ss₂ → Any n cs ss₂ (suc t) a r → Any n cs ss t a r
   stop : {ss ss₁ : Settings} {t : ℕ} → Settles cs ss ss₁ → conflict (value_of ss₁) cs ≡ true → undo ss₁ ≡ refuted → Any n cs ss t UNSAT t
-  split : {ss ss₁ : Settings} {t r v : ℕ} {a : Answer} → Settles cs ss ss₁ → Quiet (value_of ss₁) cs → lowest_unset (value_of ss₁) 1 n ≡ at v → Any n cs (branch_false v ∷ ss₁) (suc t) a r → Any n cs ss t a r
-  full : {ss ss₁ : Settings} {t : ℕ} → Settles cs ss ss₁ → Quiet (value_of ss₁) cs → lowest_unset (value_of ss₁) 1 n ≡ none → Any n cs ss t (SAT ss₁) t
+  split : {ss ss₁ : Settings} {t r v : ℕ} {a : Answer} → Settles cs ss ss₁ → Quiet (value_of ss₁) cs → lowest_unset (value_of ss₁) 1 n ≡ Some v → Any n cs (branch_false v ∷ ss₁) (suc t) a r → Any n cs ss t a r
+  full : {ss ss₁ : Settings} {t : ℕ} → Settles cs ss ss₁ → Quiet (value_of ss₁) cs → lowest_unset (value_of ss₁) 1 n ≡ None → Any n cs ss t (SAT ss₁) t
 
 -- trails with the same branches at their first value, over the same values
 data Twin : Settings → Settings → Type 0 where
@@ -61,7 +62,7 @@ Alike SPENT SPENT = Unit {0}
 
 lowest_same : (σ τ : Values) → ((v : ℕ) → σ v ≡ τ v) → (v k : ℕ) → lowest_unset σ v k ≡ lowest_unset τ v k
 lowest_same σ τ h v zero = refl
-lowest_same σ τ h v (suc k) = ap₂ (λ (x : Value) (y : Place). cond (is_unset x) (at v) y) (h v) (lowest_same σ τ h (suc v) k)
+lowest_same σ τ h v (suc k) = ap₂ (λ (x : Value) (y : Option ℕ). cond (is_unset x) (Some v) y) (h v) (lowest_same σ τ h (suc v) k)
 
 undo_branch : (v : ℕ) (ss : Settings) → undo (branch_false v ∷ ss) ≡ takes (branch_true v ∷ ss)
 undo_branch v ss = refl
@@ -72,11 +73,11 @@ tries_inj e = cc
 tries_unsat : {ss : Settings} → takes ss ≡ refuted → ⊥
 tries_unsat e = let z : ◌≡◌ {A = ℕ} 0 1 = cc in omega arith
 
-at_inj : {u v : ℕ} → at u ≡ at v → u ≡ v
-at_inj e = cc
+some_inj : {u v : ℕ} → Some u ≡ Some v → u ≡ v
+some_inj e = cc
 
-at_none : {u : ℕ} → at u ≡ none → ⊥
-at_none e = let z : ◌≡◌ {A = ℕ} 0 1 = cc in omega arith
+some_none : {u : ℕ} → Some u ≡ None → ⊥
+some_none e = let z : ◌≡◌ {A = ℕ} 0 1 = cc in omega arith
 
 -- two searches that undo
 record Undone₂ (ss₂ ts₂ : Settings) : Type 0 where
@@ -119,15 +120,15 @@ any_same n cs (split s k l d) (back s' c' u' d') h w = absurd (calm_all cs h s k
 any_same n cs (split s k l d) (stop s' c' u') h w = absurd (calm_all cs h s k s' c')
 any_same n cs {t = t} {r = r} {q = q} {a = a} {b = b} (split {ss₁ = ss₁} {v = v} s k l d) (split {ss₁ = ts₁} {v = v'} s' k' l' d') h w =
     let e : Same ss₁ ts₁ = one_closure cs h s k s' k' in
-    let m : v' ≡ v = at_inj (sym l' ∙ sym (lowest_same (value_of ss₁) (value_of ts₁) e 1 n) ∙ l) in
+    let m : v' ≡ v = some_inj (sym l' ∙ sym (lowest_same (value_of ss₁) (value_of ts₁) e 1 n) ∙ l) in
     any_same n cs d (subst (λ (x : ℕ). Any n cs (branch_false x ∷ ts₁) (suc t) b q) m d')
     (same_more (branch_false v) ss₁ ts₁ e) (fork (undo_branch v ss₁) (undo_branch v ts₁) e (twin_settles cs s s' w))
 any_same n cs (split {ss₁ = ss₁} s k l d) (full {ss₁ = ts₁} s' k' l') h w =
-    absurd (at_none (sym l ∙ lowest_same (value_of ss₁) (value_of ts₁) (one_closure cs h s k s' k') 1 n ∙ l'))
+    absurd (some_none (sym l ∙ lowest_same (value_of ss₁) (value_of ts₁) (one_closure cs h s k s' k') 1 n ∙ l'))
 any_same n cs (full s k l) (back s' c' u' d') h w = absurd (calm_all cs h s k s' c')
 any_same n cs (full s k l) (stop s' c' u') h w = absurd (calm_all cs h s k s' c')
 any_same n cs (full {ss₁ = ss₁} s k l) (split {ss₁ = ts₁} s' k' l' d') h w =
-    absurd (at_none (sym l' ∙ sym (lowest_same (value_of ss₁) (value_of ts₁) (one_closure cs h s k s' k') 1 n) ∙ l))
+    absurd (some_none (sym l' ∙ sym (lowest_same (value_of ss₁) (value_of ts₁) (one_closure cs h s k s' k') 1 n) ∙ l))
 any_same n cs (full s k l) (full s' k' l') h w = record { answers = one_closure cs h s k s' k'; tries = refl }
 
 -- a move, and a search after it
@@ -165,9 +166,9 @@ module _ (n : ℕ) (cs : List Clause) (ss : Settings) (t r : ℕ) (a : Answer) w
   any_undo (satisfied s₁) e u c d = absurd u
   any_undo refuted e u c d = subst₂ (Any n cs ss t) (sym d.0) (sym d.1) (stop done c e)
 
-  any_branch : (p : Place) → lowest_unset (value_of ss) 1 n ≡ p → Quiet (value_of ss) cs → AnyAfter n cs t (branch ss p) a r → Any n cs ss t a r
-  any_branch none e q d = subst₂ (Any n cs ss t) (sym d.0) (sym d.1) (full done q e)
-  any_branch (at v) e q d = split done q e d
+  any_branch : (p : Option ℕ) → lowest_unset (value_of ss) 1 n ≡ p → Quiet (value_of ss) cs → AnyAfter n cs t (branch ss p) a r → Any n cs ss t a r
+  any_branch None e q d = subst₂ (Any n cs ss t) (sym d.0) (sym d.1) (full done q e)
+  any_branch (Some v) e q d = split done q e d
 
   pub any_step : {x : Turn} → Move n cs ss x → AnyAfter n cs t x a r → Any n cs ss t a r
   any_step (by_conflict c) d = any_undo (undo ss) refl (undoes ss) c d

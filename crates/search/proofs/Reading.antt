@@ -13,7 +13,7 @@ use lib.Seq.{drop-cons}
 use Rattle.clauses.specs.Literal.{Literal, positive, negative, variable_of, Clause}
 use Rattle.clauses.specs.Meaning.{Within}
 use Rattle.clauses.specs.Words.{is_end, literal_of_word, with_literal, clauses_of}
-use Rattle.search.specs.Memory.{AllIn, closed_from, closed, first_clause, has_end, rest_words, Past, Starts}
+use Rattle.search.specs.Memory.{AllIn, closed_from, closed, first_clause, has_end, rest_words, Starts}
 
 pub clauses_split : (ws : List ℤ) → has_end ws ≡ true → clauses_of ws ≡ first_clause ws ∷ clauses_of (rest_words ws)
 clauses_split [] e = absurd (true≢false (sym e))
@@ -89,11 +89,6 @@ pub passing_next_lem : (ws : List ℤ) (from i : ℕ) → Passing ws from i → 
 passing_next_lem ws from i p g =
     let k = inside_next ws i p.ends g in
     rw (add-one i) (record { since = omega (arith, p.since); ends = k.0; rest = k.1 ∙ p.rest })
-
-pub passing_end : (ws : List ℤ) (from i : ℕ) → Passing ws from i → is_end (get_or ws i (pos 0)) ≡ true → Past ws from (i + 1)
-passing_end ws from i p g =
-    let l = inside_low ws i p.ends in
-    rw (add-one i) (record { since = omega (arith, p.since); low = l; rest = (inside_end ws i p.ends g).0 ∙ p.rest })
 
 -- where clauses start
 pub starts_zero : (ws : List ℤ) → closed ws ≡ true → Starts ws 0

@@ -6,26 +6,23 @@ use Prim.Native.Nat.{ℕ, suc, ◌+◌, ◌-◌, ◌^◌, ◌<◌, ◌≤◌}
 use native.Mathlib.Omega.{arith}
 use lib.Dec.{ltb}
 use lib.IntN.{ℤ, pos}
-use lib.ListN.{length, get_or, drop, take, replicate, length-replicate, drop_of_length-le}
+use lib.ListN.{length, get_or, drop, take, replicate, length-replicate}
 use lib.Seq.{length-take-le}
-use borrow.Author.Tests.{lt-ltb, le-ltb, not-true, not-false}
+use borrow.Author.Tests.{lt-ltb, le-ltb}
+use Rattle.std.specs.Prelude.{Option, None, Some}
+use Rattle.design.specs.Answer.{refused, answer}
 use Rattle.clauses.specs.Literal.{Literal, Clause}
 use Rattle.clauses.specs.Meaning.{Within}
 use Rattle.clauses.specs.Words.{is_end, clauses_of}
-use Rattle.search.specs.Search.{Place, none, at}
-use Rattle.search.specs.Answers.{declared_spot}
 use Rattle.search.specs.Solve.{outside, bad_word, at_place}
 use Rattle.search.specs.Refutation.{set_false, reaches, holds_both, follows, judged, AfterRefute, refuses, refute, Refutes, Right}
 use Rattle.search.specs.Memory.{AllIn, first_clause, has_end, rest_words, Past, AllUnset, Denied, Two, both_of, Reaches, ReadTo, follows_at}
-use Rattle.search.proofs.Reading.{inside_end, inside_next, within_words}
-use Rattle.search.proofs.Prefixes.{clause_at, next_place, read_next, clauses_next, inside_take}
+use Rattle.search.proofs.Reading.{inside_next, within_words}
+use Rattle.search.proofs.Prefixes.{clause_at, next_place, read_next, clauses_next}
 use Rattle.search.proofs.BadWords.{good_words}
-use Rattle.search.proofs.Solving.{no_place}
 use Rattle.search.proofs.Refutations.{follows_from, from_follows, refutes_none, accepted_refutes, refutes_accepted}
-use Rattle.search.specs.declared.words.Spot.TheVariants.{Nowhere, At}
 use Rattle.search.specs.declared.refute.Judged.{Judged}
-use Rattle.search.specs.declared.refute.Judged.TheVariants.{Accepted, Word, Ended}
-use Rattle.search.specs.declared.refute.Reply.TheVariants.{Refused, Done}
+use Rattle.search.specs.declared.refute.Judged.TheVariants.{Accepted, Word}
 
 -- one clause: the values are set anew, its literals set false, and units set
 module _ {n : ℕ} {ws ds : List ℤ} {vs₂ : List ℕ} {i : ℕ} (two : Two n ws ds) (read : ReadTo ds i) (l : i < length ds) (filled : vs₂ ≡ replicate n 2) where
@@ -42,11 +39,6 @@ module _ {n : ℕ} {ws ds : List ℤ} {vs₂ : List ℕ} {i : ℕ} (two : Two n 
     follows_both e =
         let h : holds_both (first_clause (drop i ds)) ≡ true = subst (λ (b : Bool). Denied (first_clause (drop i ds)) b vs₃) e d in
         rw h
-
-    pub reaches_ready : Two (length vs₃) ws (take i ds)
-    reaches_ready =
-        let e : length vs₃ ≡ n = same ∙ wide in
-        rw e (record { inside = two.inside; closes = two.closes; inside₂ = inside_take n i ds read.low two.inside₂; closes₂ = read.before })
 
     pub follows_reached : r ≡ false → (q : Bool) → Reaches (both_of ws (take i ds)) vs₃ q → q ≡ follows_at n ws ds i
     unfolding follows
@@ -68,9 +60,6 @@ judging_start {n} {ws} {ds} t =
     }
 
 module _ {n : ℕ} {ws ds : List ℤ} {i : ℕ} (h : Judging n ws ds i) where
-  pub judging_end : length ds ≤ i → Ended ≡ judged n 0 (clauses_of ws) (clauses_of ds)
-  judging_end l = (ap (λ (x : List ℤ). judged n i (both_of ws (take i ds)) (clauses_of x)) (sym (drop_of_length-le ds {i = i} l)) ∙ h.same)
-
   -- at a clause, where r tells whether it follows
   module _ (l : i < length ds) {m : ℕ} (wide : m ≡ n) {r : Bool} (found : r ≡ follows_at m ws ds i) where
     f : r ≡ follows_at n ws ds i
@@ -80,25 +69,16 @@ module _ {n : ℕ} {ws ds : List ℤ} {i : ℕ} (h : Judging n ws ds i) where
     apart : judged n i (both_of ws (take i ds)) (first_clause (drop i ds) ∷ clauses_of (rest_words (drop i ds))) ≡ judged n 0 (clauses_of ws) (clauses_of ds)
     apart = ap (judged n i (both_of ws (take i ds))) (sym (clause_at ds i h.read l).split) ∙ h.same
 
-    pub judging_stops : not r ≡ true → Word i ≡ judged n 0 (clauses_of ws) (clauses_of ds)
-    judging_stops e = (go (first_clause (drop i ds)) (sym f ∙ not-true r e) ∙ apart)
+    pub judging_stops : r ≡ false → Word i ≡ judged n 0 (clauses_of ws) (clauses_of ds)
+    judging_stops e = (go (first_clause (drop i ds)) (sym f ∙ e) ∙ apart)
       where
         go : (c : Clause) → follows n (both_of ws (take i ds)) c ≡ false → Word i ≡ judged n i (both_of ws (take i ds)) (c ∷ clauses_of (rest_words (drop i ds)))
         go [] e = rw e
         go (m ∷ ms) e = rw e
 
-    module _ (goes : not r ≡ false) {ended : Bool} (word : ended ≡ is_end (get_or ds i (pos 0))) where
+    module _ (goes : r ≡ true) {ended : Bool} (word : ended ≡ is_end (get_or ds i (pos 0))) where
       holds : follows_at n ws ds i ≡ true
-      holds = sym f ∙ not-false r goes
-
-      pub judging_accepts : ended ≡ true → Accepted ≡ judged n 0 (clauses_of ws) (clauses_of ds)
-      judging_accepts e =
-          let c : first_clause (drop i ds) ≡ [] = (inside_end ds i (clause_at ds i h.read l).ends (sym word ∙ e)).1 in
-          (go (first_clause (drop i ds)) c holds ∙ apart)
-        where
-          go : (c : Clause) → c ≡ [] → follows n (both_of ws (take i ds)) c ≡ true → Accepted ≡ judged n i (both_of ws (take i ds)) (c ∷ clauses_of (rest_words (drop i ds)))
-          go [] q e = rw e
-          go (m ∷ ms) q e = absurd (let z : ◌≡◌ {A = ℕ} 0 1 = cc in omega arith)
+      holds = sym f ∙ goes
 
       pub judging_next : ended ≡ false → (j : ℕ) → Past ds i j → Judging n ws ds j
       judging_next e j p =
@@ -117,25 +97,21 @@ module _ {n : ℕ} {ws ds : List ℤ} {i : ℕ} (h : Judging n ws ds i) where
           go (m ∷ ms) q e = rw e
 
 -- a place of a word lies within the words
-pub word_low : (n : ℕ) (ws : List ℤ) {i : ℕ} → At i ≡ declared_spot (bad_word n 0 false ws) → i ≤ length ws
-word_low n ws {i} e = go (bad_word n 0 false ws) refl e
+pub word_low : (n : ℕ) (ws : List ℤ) {i : ℕ} → Some i ≡ bad_word n 0 false ws → i ≤ length ws
+word_low n ws {i} e = let h = low 0 false ws i (sym e) in omega arith
   where
-    low : (j : ℕ) (begun : Bool) (ws : List ℤ) (k : ℕ) → bad_word n j begun ws ≡ at k → k ≤ j + length ws
+    low : (j : ℕ) (begun : Bool) (ws : List ℤ) (k : ℕ) → bad_word n j begun ws ≡ Some k → k ≤ j + length ws
     low j true [] k e = let q : j ≡ k = cc in omega arith
     low j false [] k e = absurd (let z : ◌≡◌ {A = ℕ} 0 1 = cc in omega arith)
     low j begun (w ∷ ws) k e = pick (outside n w) e (low (suc j) (not (is_end w)) ws k)
       where
-        pick : (b : Bool) → cond b (at j) (bad_word n (suc j) (not (is_end w)) ws) ≡ at k → (bad_word n (suc j) (not (is_end w)) ws ≡ at k → k ≤ suc j + length ws) → k ≤ j + suc (length ws)
+        pick : (b : Bool) → cond b (Some j) (bad_word n (suc j) (not (is_end w)) ws) ≡ Some k → (bad_word n (suc j) (not (is_end w)) ws ≡ Some k → k ≤ suc j + length ws) → k ≤ j + suc (length ws)
         pick true e h = let q : j ≡ k = cc in omega arith
         pick false e h = let q = h e in omega arith
 
-    go : (p : Place) → bad_word n 0 false ws ≡ p → At i ≡ declared_spot p → i ≤ length ws
-    go none q e = absurd (let z : ◌≡◌ {A = ℕ} 0 1 = cc in omega arith)
-    go (at j) q e = let x : i ≡ j = cc in let h = low 0 false ws j q in omega arith
-
 -- REFUTE's cases. Past the refusals of n and of the words, and past those of n and of the list:
 abbrev rest : ℕ → List ℤ → List ℤ → List ℕ → AfterRefute
-rest n ws ds vs = cond (ltb (length vs) n) (refuses 16 0 vs) (record { reply = Done (judged n 0 (clauses_of ws) (clauses_of ds)); values = replicate n 0 ++ drop n vs })
+rest n ws ds vs = cond (ltb (length vs) n) (refuses 16 0 vs) (record { reply = answer (judged n 0 (clauses_of ws) (clauses_of ds)); values = replicate n 0 ++ drop n vs })
 
 abbrev listed : ℕ → List ℤ → List ℤ → List ℕ → AfterRefute
 listed n ws ds vs = at_place (bad_word n 0 false ds) (λ i. refuses 17 (length ws + i) vs) (rest n ws ds vs)
@@ -146,29 +122,21 @@ module _ (n : ℕ) (ws ds : List ℤ) (vs : List ℕ) where
   refute_large h = rw (lt-ltb 2147483647 n h)
 
   module _ (small : n ≤ 2147483647) where
-    pub refute_list : {i : ℕ} → At i ≡ declared_spot (bad_word n 0 false ws) → refuses 17 i vs ≡ refute n ws ds vs
+    pub refute_list : {i : ℕ} → Some i ≡ bad_word n 0 false ws → refuses 17 i vs ≡ refute n ws ds vs
     unfolding refute
-    refute_list {i} e = rw (le-ltb 2147483647 n small) (go (bad_word n 0 false ws) e)
-      where
-        go : (p : Place) → At i ≡ declared_spot p → refuses 17 i vs ≡ at_place p (λ i. refuses 17 i vs) (listed n ws ds vs)
-        go none e = absurd (let z : ◌≡◌ {A = ℕ} 0 1 = cc in omega arith)
-        go (at j) e = let q : i ≡ j = cc in ap (λ (x : ℕ). refuses 17 x vs) q
+    refute_list e = rw (le-ltb 2147483647 n small, ← e)
 
-    module _ (good : Nowhere ≡ declared_spot (bad_word n 0 false ws)) where
+    module _ (good : None ≡ bad_word n 0 false ws) where
       past_list : listed n ws ds vs ≡ refute n ws ds vs
       unfolding refute
-      past_list = rw (le-ltb 2147483647 n small, no_place (bad_word n 0 false ws) good)
+      past_list = rw (le-ltb 2147483647 n small, ← good)
 
-      pub refute_refutation : {i : ℕ} → At i ≡ declared_spot (bad_word n 0 false ds) → refuses 17 (length ws + i) vs ≡ refute n ws ds vs
-      refute_refutation {i} e = go (bad_word n 0 false ds) e ∙ past_list
-        where
-          go : (p : Place) → At i ≡ declared_spot p → refuses 17 (length ws + i) vs ≡ at_place p (λ i. refuses 17 (length ws + i) vs) (rest n ws ds vs)
-          go none e = absurd (let z : ◌≡◌ {A = ℕ} 0 1 = cc in omega arith)
-          go (at j) e = let q : i ≡ j = cc in ap (λ (x : ℕ). refuses 17 (length ws + x) vs) q
+      pub refute_refutation : {i : ℕ} → Some i ≡ bad_word n 0 false ds → refuses 17 (length ws + i) vs ≡ refute n ws ds vs
+      refute_refutation {i} e = (let g : refuses 17 (length ws + i) vs ≡ listed n ws ds vs = rw (← e) in g) ∙ past_list
 
-      module _ (good₂ : Nowhere ≡ declared_spot (bad_word n 0 false ds)) where
+      module _ (good₂ : None ≡ bad_word n 0 false ds) where
         past : rest n ws ds vs ≡ refute n ws ds vs
-        past = (let g : rest n ws ds vs ≡ listed n ws ds vs = rw (no_place (bad_word n 0 false ds) good₂) in g) ∙ past_list
+        past = (let g : rest n ws ds vs ≡ listed n ws ds vs = rw (← good₂) in g) ∙ past_list
 
         pub refute_values : length vs < n → refuses 16 0 vs ≡ refute n ws ds vs
         refute_values l = (let g : refuses 16 0 vs ≡ rest n ws ds vs = rw (lt-ltb (length vs) n l) in g) ∙ past
@@ -176,17 +144,17 @@ module _ (n : ℕ) (ws ds : List ℤ) (vs : List ℕ) where
         module _ (long : n ≤ length vs) where
           pub refute_two : Two (length (take n vs)) ws ds
           refute_two =
-              let g = good_words n 0 false ws (no_place (bad_word n 0 false ws) good) in
-              let h = good_words n 0 false ds (no_place (bad_word n 0 false ds) good₂) in
+              let g = good_words n 0 false ws (sym good) in
+              let h = good_words n 0 false ds (sym good₂) in
               rw (length-take-le n vs long) (record { inside = g.0; closes = g.1; inside₂ = h.0; closes₂ = h.1 })
 
           pub refute_done : {r : Judged} {vs₃ : List ℕ} → r ≡ judged (length (take n vs)) 0 (clauses_of ws) (clauses_of ds) → vs₃ ≡ replicate (length (take n vs)) 0
-              → record { reply = Done r; values = vs₃ ++ drop n vs } ≡ refute n ws ds vs
+              → record { reply = answer r; values = vs₃ ++ drop n vs } ≡ refute n ws ds vs
           refute_done {r} e z =
               let a : r ≡ judged n 0 (clauses_of ws) (clauses_of ds) = e ∙ ap (λ (k : ℕ). judged k 0 (clauses_of ws) (clauses_of ds)) (length-take-le n vs long) in
               let b = z ∙ ap (λ (k : ℕ). replicate k 0) (length-take-le n vs long) in
-              (λ i. record { reply = Done (a i); values = b i ++ drop n vs })
-              ∙ (let g : record { reply = Done (judged n 0 (clauses_of ws) (clauses_of ds)); values = replicate n 0 ++ drop n vs } ≡ rest n ws ds vs = rw (le-ltb (length vs) n long) in g) ∙ past
+              (λ i. record { reply = answer (a i); values = b i ++ drop n vs })
+              ∙ (let g : record { reply = answer (judged n 0 (clauses_of ws) (clauses_of ds)); values = replicate n 0 ++ drop n vs } ≡ rest n ws ds vs = rw (le-ltb (length vs) n long) in g) ∙ past
 
 -- what an answer tells of the call
 pub record Answers (n : ℕ) (ws ds : List ℤ) (j : Judged) : Type 0 where
@@ -194,16 +162,16 @@ pub record Answers (n : ℕ) (ws ds : List ℤ) (j : Judged) : Type 0 where
   pub refutation : Within n (clauses_of ds)
   pub judges : j ≡ judged n 0 (clauses_of ws) (clauses_of ds)
 
-pub answers : (n : ℕ) (ws ds : List ℤ) (vs : List ℕ) (j : Judged) → (refute n ws ds vs).reply ≡ Done j → Answers n ws ds j
+pub answers : (n : ℕ) (ws ds : List ℤ) (vs : List ℕ) (j : Judged) → (refute n ws ds vs).reply ≡ answer j → Answers n ws ds j
 unfolding refute
 answers n ws ds vs j e = large (ltb (2 ^ 31 - 1) n) e
   where
-    refused : {i k : ℕ} → Refused i k ≡ Done j → ⊥
-    refused e = let z : ◌≡◌ {A = ℕ} 0 1 = cc in omega arith
+    turned : {i k : ℕ} → refused i k ≡ answer j → ⊥
+    turned e = let z : ◌≡◌ {A = ℕ} 0 1 = cc in omega arith
 
-    short : bad_word n 0 false ws ≡ none → bad_word n 0 false ds ≡ none → (b : Bool)
-        → (cond b (refuses 16 0 vs) (record { reply = Done (judged n 0 (clauses_of ws) (clauses_of ds)); values = replicate n 0 ++ drop n vs })).reply ≡ Done j → Answers n ws ds j
-    short p q true e = absurd (refused e)
+    short : bad_word n 0 false ws ≡ None → bad_word n 0 false ds ≡ None → (b : Bool)
+        → (cond b (refuses 16 0 vs) (record { reply = answer (judged n 0 (clauses_of ws) (clauses_of ds)); values = replicate n 0 ++ drop n vs })).reply ≡ answer j → Answers n ws ds j
+    short p q true e = absurd (turned e)
     short p q false e =
         record {
           list = within_words n ws (good_words n 0 false ws p).0;
@@ -211,16 +179,16 @@ answers n ws ds vs j e = large (ltb (2 ^ 31 - 1) n) e
           judges = (let k : judged n 0 (clauses_of ws) (clauses_of ds) ≡ j = cc in sym k);
         }
 
-    second : bad_word n 0 false ws ≡ none → (p : Place) → bad_word n 0 false ds ≡ p → (at_place p (λ i. refuses 17 (length ws + i) vs) (rest n ws ds vs)).reply ≡ Done j → Answers n ws ds j
-    second p none q e = short p q (ltb (length vs) n) e
-    second p (at i) q e = absurd (refused e)
+    second : bad_word n 0 false ws ≡ None → (p : Option ℕ) → bad_word n 0 false ds ≡ p → (at_place p (λ i. refuses 17 (length ws + i) vs) (rest n ws ds vs)).reply ≡ answer j → Answers n ws ds j
+    second p None q e = short p q (ltb (length vs) n) e
+    second p (Some i) q e = absurd (turned e)
 
-    first : (p : Place) → bad_word n 0 false ws ≡ p → (at_place p (λ i. refuses 17 i vs) (listed n ws ds vs)).reply ≡ Done j → Answers n ws ds j
-    first none p e = second p (bad_word n 0 false ds) refl e
-    first (at i) p e = absurd (refused e)
+    first : (p : Option ℕ) → bad_word n 0 false ws ≡ p → (at_place p (λ i. refuses 17 i vs) (listed n ws ds vs)).reply ≡ answer j → Answers n ws ds j
+    first None p e = second p (bad_word n 0 false ds) refl e
+    first (Some i) p e = absurd (turned e)
 
-    large : (b : Bool) → (cond b (refuses 17 0 vs) (at_place (bad_word n 0 false ws) (λ i. refuses 17 i vs) (listed n ws ds vs))).reply ≡ Done j → Answers n ws ds j
-    large true e = absurd (refused e)
+    large : (b : Bool) → (cond b (refuses 17 0 vs) (at_place (bad_word n 0 false ws) (λ i. refuses 17 i vs) (listed n ws ds vs))).reply ≡ answer j → Answers n ws ds j
+    large true e = absurd (turned e)
     large false e = first (bad_word n 0 false ws) refl e
 
 -- R-7's sentences about the answer
@@ -233,7 +201,7 @@ refute_right n list refutation values =
       complete = λ j e r. let h = answers n list refutation values j e in h.judges ∙ refutes_accepted n 0 h.list h.refutation r;
     }
   where
-    meets : (refute n list refutation values).reply ≡ Done Accepted → Refutes (clauses_of list) (clauses_of refutation)
+    meets : (refute n list refutation values).reply ≡ answer Accepted → Refutes (clauses_of list) (clauses_of refutation)
     meets e =
         let h = answers n list refutation values Accepted e in
         accepted_refutes n 0 (clauses_of list) (clauses_of refutation) h.list h.refutation (sym h.judges)

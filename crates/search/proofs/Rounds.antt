@@ -13,10 +13,10 @@ use Rattle.clauses.specs.Meaning.{Within}
 use Rattle.clauses.specs.Words.{clauses_of}
 use Rattle.search.specs.Search.{Value, unset, Settings, Values, value_of, Scan, all_false, unit, some_true, several, scan, is_false, conflict, nothing, or_else, first_unit, forced, is_unset}
 use Rattle.search.specs.AnyOrder.{IsUnit, Quiet, Settles, done, more}
-use Rattle.search.specs.Memory.{Starts, value_of_byte, value_at, literal_from, bit, UnitFound, Finds, Agrees, Two, StartsAfter, StartsTwo, clauses_from, both_of, Reaches}
+use Rattle.search.specs.Memory.{Starts, value_of_byte, value_at, literal_from, bit, Finds, Agrees, Two, StartsAfter, StartsTwo, clauses_from, both_of, Reaches}
 use Rattle.search.proofs.Scans.{Free, unit_free}
 use Rattle.search.proofs.Reading.{starts_zero, within_words}
-use Rattle.search.proofs.Scanning.{Skipped, AllSkipped, skipped_quiet, conflict_after, unit_after, Some, found_after}
+use Rattle.search.proofs.Scanning.{Skipped, AllSkipped, skipped_quiet, conflict_after, unit_after, Finding, found_after}
 use Rattle.search.proofs.State.{byte_bit}
 use Rattle.search.proofs.Steps.{conflict_ext, is_unit_ext, quiet_ext, variable_is}
 use Rattle.search.proofs.Denying.{set_agrees}
@@ -52,18 +52,13 @@ unit_before σ (c ∷ cs) ds l (inl e) = inl e
 unit_before σ (c ∷ cs) ds l (inr u) = inr (unit_before σ cs ds l u)
 
 -- what a scan finds, told of other places and of more clauses
-pub after_unit : {base : ℕ} {ws : List ℤ} {σ : Values} {cs : List Clause} {v b next : ℕ} → UnitFound (Starts ws) σ cs v b next → UnitFound (StartsAfter base ws) σ cs v b (base + next)
-after_unit {base} {ws} {next = next} f =
-    let e : next ≡ base + next - base = omega arith in
-    record { unit = f.unit; bit = f.bit; starts = (omega arith, subst (Starts ws) e f.starts) }
-
 found_among : (P Q : ℕ → Type 0) (σ : Values) (cs ds : List Clause) → ((i : ℕ) → P i → Q i) → Quiet σ cs → (r : Found) → Finds P σ ds r → Finds Q σ (cs ++ ds) r
 found_among P Q σ cs ds h q Nothing f = quiet_both σ cs ds q f
 found_among P Q σ cs ds h q Conflict f = conflict_after σ cs ds f
 found_among P Q σ cs ds h q (UnitAt v b next) f = record { unit = unit_after σ cs ds (literal_from v b) f.unit; bit = f.bit; starts = h next f.starts }
 
-found_before : (P Q : ℕ → Type 0) (σ : Values) (cs ds : List Clause) → ((i : ℕ) → P i → Q i) → (r : Found) → Some r → Finds P σ cs r → Finds Q σ (cs ++ ds) r
-found_before P Q σ cs ds h Nothing s f = absurd s
+found_before : (P Q : ℕ → Type 0) (σ : Values) (cs ds : List Clause) → ((i : ℕ) → P i → Q i) → (r : Found) → Finding r → Finds P σ cs r → Finds Q σ (cs ++ ds) r
+found_before P Q σ cs ds h Nothing s f = absurd (s refl)
 found_before P Q σ cs ds h Conflict s f = conflict_before σ cs ds f
 found_before P Q σ cs ds h (UnitAt v b next) s f = record { unit = unit_before σ cs ds (literal_from v b) f.unit; bit = f.bit; starts = h next f.starts }
 
@@ -78,14 +73,9 @@ module _ {n : ℕ} {ws ds : List ℤ} (two : Two n ws ds) where
   of_second : (i : ℕ) → StartsAfter (length ws) ds i → StartsTwo ws ds i
   of_second i s = ((λ l. absurd (let h = s.0 in omega arith)), λ l. s.1)
 
-  -- the scan from a place of the second list on, from one of the first on that finds something, and from there into the second
+  -- the scan from a place of the first list on that finds something, and from there into the second
   module _ (σ : Values) (from : ℕ) (r : Found) where
-    pub two_second : length ws ≤ from → Finds (StartsAfter (length ws) ds) σ (clauses_of (drop (from - length ws) ds)) r → Finds (StartsTwo ws ds) σ (clauses_from ws ds from) r
-    two_second l f =
-        subst (λ (x : List ℤ). Finds (StartsTwo ws ds) σ (clauses_of x ++ clauses_of (drop (from - length ws) ds)) r) (sym (drop_of_length-le ws {i = from} l))
-        (found_among (StartsAfter (length ws) ds) (StartsTwo ws ds) σ [] (clauses_of (drop (from - length ws) ds)) of_second (record { calm = refl; closed = refl }) r f)
-
-    pub two_first : Some r → Finds (Starts ws) σ (clauses_of (drop from ws)) r → Finds (StartsTwo ws ds) σ (clauses_from ws ds from) r
+    pub two_first : Finding r → Finds (Starts ws) σ (clauses_of (drop from ws)) r → Finds (StartsTwo ws ds) σ (clauses_from ws ds from) r
     two_first s f = found_before (Starts ws) (StartsTwo ws ds) σ (clauses_of (drop from ws)) (clauses_of (drop (from - length ws) ds)) of_first r s f
 
     pub two_on : from < length ws → Quiet σ (clauses_of (drop from ws)) → Finds (StartsAfter (length ws) ds) σ (clauses_of (drop 0 ds)) r → Finds (StartsTwo ws ds) σ (clauses_from ws ds from) r
@@ -115,10 +105,7 @@ module _ {n : ℕ} {ws ds : List ℤ} (two : Two n ws ds) where
           )
 
   module _ (σ : Values) (from : ℕ) (r : Found) where
-    pub round_zero : from ≡ 0 → Finds (StartsTwo ws ds) σ (clauses_from ws ds from) r → Finds (StartsTwo ws ds) σ (both_of ws ds) r
-    round_zero e f = subst (λ (cs : List Clause). Finds (StartsTwo ws ds) σ cs r) (ap (clauses_from ws ds) e ∙ from_start) f
-
-    pub round_some : StartsTwo ws ds from → Some r → Finds (StartsTwo ws ds) σ (clauses_from ws ds from) r → Finds (StartsTwo ws ds) σ (both_of ws ds) r
+    pub round_some : StartsTwo ws ds from → Finding r → Finds (StartsTwo ws ds) σ (clauses_from ws ds from) r → Finds (StartsTwo ws ds) σ (both_of ws ds) r
     round_some s k f =
         let b = clauses_from_lem from s in
         subst (λ (cs : List Clause). Finds (StartsTwo ws ds) σ cs r) (sym b.1) (found_after (StartsTwo ws ds) σ b.0 (clauses_from ws ds from) r k f)

@@ -90,10 +90,6 @@ module _ {n : ℕ} {ws : List ℤ} {b : ℕ} {vs tr : List ℕ} {t from low u : 
     pub searching : Searching n ws b vs' tr' k next low' u'
     pub less : ahead n (settings_of vs' tr' k) < ahead n (settings_of vs tr t)
 
-  -- the values have n entries
-  pub ready_here : ReadyTrail (length vs) ws vs tr t from low
-  ready_here = subst (λ (k : ℕ). ReadyTrail k ws vs tr t from low) (sym h.ready.shaped.values) h.ready
-
   -- after a turn that came to r and left vs' and tr'
   module _ (r : Step) (vs' tr' : List ℕ) (s : AfterTurn (length vs) ws (settings_of vs tr t) r vs vs' tr') where
     stepped : {q : Step} → r ≡ q → AfterTurn n ws (settings_of vs tr t) q vs vs' tr'

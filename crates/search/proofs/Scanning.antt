@@ -1,81 +1,47 @@
 -- The nested scan: clause by clause, literal by literal.
 use mathlib.Core.Path.{◌≡◌, refl, sym, ap, ap₂, ◌∙◌, subst}
 use mathlib.Core.Logic.{inl, inr}
-use mathlib.Core.Bool.{Bool, true, false, not, ◌||◌, true≢false}
+use mathlib.Core.Bool.{Bool, true, false, ◌||◌, true≢false}
 use mathlib.Core.List.{List, [], ◌∷◌, ◌++◌, append_assoc}
-use Prim.Native.Nat.{ℕ, zero, suc, ◌+◌, ◌-◌, ◌<◌, ◌≤◌}
+use Prim.Native.Nat.{ℕ, zero, suc, ◌+◌, ◌<◌, ◌≤◌}
 use native.Mathlib.Omega.{arith}
 use native.Mathlib.Nat.{le_refl}
 use native.Mathlib.Numerals.{add-one}
 use lib.IntN.{ℤ, pos, negsuc, nat_abs}
 use lib.ListN.{length, get_or, drop, drop_of_length-le}
-use borrow.Author.Tests.{lt-ltb, not-true, not-false}
-use types.Run.{OneOf, miss}
-use denote.Enum.Declared.{tag_of}
+use Rattle.std.specs.Prelude.{Option, None, Some, is_some}
 use Rattle.clauses.specs.Literal.{Literal, Clause}
 use Rattle.clauses.specs.Words.{is_end, literal_of_word, clauses_of}
 use Rattle.search.specs.Search.{Value, unset, is, Values, literal_value, Scan, all_false, unit, some_true, several, scan_one, join, scan, is_false, conflict, nothing, or_else, first_unit}
 use Rattle.search.specs.AnyOrder.{IsUnit, Quiet}
-use Rattle.search.specs.Memory.{AllIn, first_clause, has_end, rest_words, Past, Starts, sign_of, Named, value_at, value_code, literal_from, UnitFound, Finds}
+use Rattle.search.specs.Memory.{AllIn, first_clause, has_end, rest_words, Past, Starts, sign_of, Named, value_at, known, literal_from, UnitFound, Finds}
 use Rattle.search.proofs.Reading.{inside_low, inside_next, inside_end, Passing, passing_start, passing_next_lem, Clause₁, a_clause, starts_past}
 use Rattle.search.specs.declared.scan.Found.{Found}
 use Rattle.search.specs.declared.scan.Found.TheVariants.{Nothing, Conflict, Unit as UnitAt}
-use Rattle.search.specs.contracts.scan.Found.{the_type}
 
--- a literal's value, by its variable's byte
-
+-- a literal's variable is not 0
 pub literal_low : (z : ℤ) (v : ℕ) → is_end z ≡ false → v ≡ nat_abs z → 0 < v
 literal_low (pos zero) v e q = absurd (true≢false e)
 literal_low (pos (suc n)) v e q = omega arith
 literal_low (negsuc n) v e q = omega arith
 
-module _ (vs : List ℕ) where
-  unset_is : (z : ℤ) → 1 < get_or vs (nat_abs z - 1) 0 → 2 ≡ value_code (literal_value (value_at vs) (literal_of_word z))
-  unset_is (pos v) h = rw (lt-ltb 1 (get_or vs (v - 1) 0) h)
-  unset_is (negsuc v) h = rw (lt-ltb 1 (get_or vs (suc v - 1) 0) h)
+is_known : (x : Value) (b : Bool) → Some b ≡ known x → x ≡ is b
+is_known unset b e = absurd (let z : ◌≡◌ {A = ℕ} 0 1 = cc in omega arith)
+is_known (is a) b e = let q : a ≡ b = cc in ap is q
 
-  true_is : (z : ℤ) → sign_of z ≡ get_or vs (nat_abs z - 1) 0 → 1 ≡ value_code (literal_value (value_at vs) (literal_of_word z))
-  true_is (pos v) e = rw (sym e)
-  true_is (negsuc v) e = rw (sym e)
-
-  false_is : (z : ℤ) → get_or vs (nat_abs z - 1) 0 ≤ 1 → (sign_of z ≡ get_or vs (nat_abs z - 1) 0 → ⊥) → 0 ≡ value_code (literal_value (value_at vs) (literal_of_word z))
-  false_is (pos v) h k = let e : get_or vs (v - 1) 0 ≡ 0 = omega arith in rw e
-  false_is (negsuc v) h k = let e : get_or vs (suc v - 1) 0 ≡ 1 = omega arith in rw e
-
-  pub literal_unset : (z : ℤ) (v : ℕ) → v ≡ nat_abs z → 1 < get_or vs (v - 1) 0 → 2 ≡ value_code (literal_value (value_at vs) (literal_of_word z))
-  literal_unset z v q h = unset_is z (subst (λ (k : ℕ). 1 < get_or vs (k - 1) 0) q h)
-
-  pub literal_true_lem : (z : ℤ) (v b : ℕ) → v ≡ nat_abs z → b ≡ sign_of z → b ≡ get_or vs (v - 1) 0 → 1 ≡ value_code (literal_value (value_at vs) (literal_of_word z))
-  literal_true_lem z v b q p e = true_is z (sym p ∙ e ∙ ap (λ (k : ℕ). get_or vs (k - 1) 0) q)
-
-  pub literal_false : (z : ℤ) (v b : ℕ) → v ≡ nat_abs z → b ≡ sign_of z → get_or vs (v - 1) 0 ≤ 1 → (b ≡ get_or vs (v - 1) 0 → ⊥) → 0 ≡ value_code (literal_value (value_at vs) (literal_of_word z))
-  literal_false z v b q p h k =
-      false_is z (subst (λ (j : ℕ). get_or vs (j - 1) 0 ≤ 1) q h) (λ e. k (p ∙ e ∙ ap (λ (j : ℕ). get_or vs (j - 1) 0) (sym q)))
-
-is_true : (x : Value) → 1 ≡ value_code x → x ≡ is true
-is_true unset e = absurd (omega arith)
-is_true (is true) e = refl
-is_true (is false) e = absurd (omega arith)
-
-is_unset_lem : (x : Value) → 2 ≡ value_code x → x ≡ unset
+is_unset_lem : (x : Value) → None ≡ known x → x ≡ unset
 is_unset_lem unset e = refl
-is_unset_lem (is true) e = absurd (omega arith)
-is_unset_lem (is false) e = absurd (omega arith)
+is_unset_lem (is b) e = absurd (let z : ◌≡◌ {A = ℕ} 0 1 = cc in omega arith)
 
-is_false_lem : (x : Value) (r : ℕ) → r ≡ value_code x → (r ≡ 1 → ⊥) → (r ≡ 2 → ⊥) → x ≡ is false
-is_false_lem unset r e h k = absurd (k e)
-is_false_lem (is true) r e h k = absurd (h e)
-is_false_lem (is false) r e h k = refl
-
--- what the literals up to an unset position come to; 0: there was none
-abbrev pub partly : List ℤ → ℕ → Scan
-partly ws zero = all_false
-partly ws (suc k) = unit (literal_of_word (get_or ws k (pos 0)))
+-- what the literals up to an unset position come to, where there was one
+abbrev pub partly : List ℤ → Option ℕ → Scan
+partly ws None = all_false
+partly ws (Some k) = unit (literal_of_word (get_or ws k (pos 0)))
 
 -- inside the clause that starts at i₀, at i
-pub record Inner (ws : List ℤ) (vs : List ℕ) (i₀ i spot : ℕ) : Type 0 where
+pub record Inner (ws : List ℤ) (vs : List ℕ) (i₀ i : ℕ) (spot : Option ℕ) : Type 0 where
   pub passing : Passing ws i₀ i
-  pub behind : spot ≤ i
+  pub behind : (k : ℕ) → spot ≡ Some k → k < i
   pub joined : join (partly ws spot) (scan (value_at vs) (first_clause (drop i ws))) ≡ scan (value_at vs) (first_clause (drop i₀ ws))
 
 -- neither all false nor a unit: the scan goes past it
@@ -85,18 +51,15 @@ Skipped (unit l) = ⊥
 Skipped some_true = Unit {0}
 Skipped several = Unit {0}
 
-pub inner_start : {ws : List ℤ} {vs : List ℕ} {i : ℕ} → has_end (drop i ws) ≡ true → Inner ws vs i i 0
-inner_start {ws} {vs} {i} e = record { passing = passing_start ws i e; behind = omega arith; joined = refl }
+pub inner_start : {ws : List ℤ} {vs : List ℕ} {i : ℕ} → has_end (drop i ws) ≡ true → Inner ws vs i i None
+inner_start {ws} {vs} {i} e = record { passing = passing_start ws i e; behind = λ k q. absurd (let z : ◌≡◌ {A = ℕ} 0 1 = cc in omega arith); joined = refl }
 
-module _ {ws : List ℤ} {vs : List ℕ} {i₀ i spot : ℕ} (h : Inner ws vs i₀ i spot) where
+module _ {ws : List ℤ} {vs : List ℕ} {i₀ i : ℕ} {spot : Option ℕ} (h : Inner ws vs i₀ i spot) where
   pub inner_low : i < length ws
   inner_low = inside_low ws i h.passing.ends
 
-  -- at a literal: `ended` says whether the word ends the clause, x what the literal's value is
-  module _ {ended : Bool} (word : ended ≡ is_end (get_or ws i (pos 0))) (goes : not ended ≡ true) {x : ℕ} (value : x ≡ value_code (literal_value (value_at vs) (literal_of_word (get_or ws i (pos 0))))) where
-    literal : is_end (get_or ws i (pos 0)) ≡ false
-    literal = sym word ∙ not-true ended goes
-
+  -- at a literal, whose value is x
+  module _ (literal : is_end (get_or ws i (pos 0)) ≡ false) {x : Option Bool} (value : x ≡ known (literal_value (value_at vs) (literal_of_word (get_or ws i (pos 0))))) where
     -- what the clause comes to, with this literal set apart
     apart : (y : Value) → literal_value (value_at vs) (literal_of_word (get_or ws i (pos 0))) ≡ y
         → join (partly ws spot) (join (scan_one (literal_of_word (get_or ws i (pos 0))) y) (scan (value_at vs) (first_clause (drop (suc i) ws)))) ≡ scan (value_at vs) (first_clause (drop i₀ ws))
@@ -105,56 +68,58 @@ module _ {ws : List ℤ} {vs : List ℕ} {i₀ i spot : ℕ} (h : Inner ws vs i�
         ∙ ap (λ (c : Clause). join (partly ws spot) (scan (value_at vs) c)) (sym (inside_next ws i h.passing.ends literal).2)
         ∙ h.joined
 
-    pub inner_false : (x ≡ 1 → ⊥) → (x ≡ 2 → ⊥) → Inner ws vs i₀ (i + 1) spot
-    inner_false k l =
+    is_set : (b : Bool) → x ≡ Some b → literal_value (value_at vs) (literal_of_word (get_or ws i (pos 0))) ≡ is b
+    is_set b q = is_known (literal_value (value_at vs) (literal_of_word (get_or ws i (pos 0)))) b (sym q ∙ value)
+
+    is_free : x ≡ None → literal_value (value_at vs) (literal_of_word (get_or ws i (pos 0))) ≡ unset
+    is_free q = is_unset_lem (literal_value (value_at vs) (literal_of_word (get_or ws i (pos 0)))) (sym q ∙ value)
+
+    pub inner_false : x ≡ Some false → Inner ws vs i₀ (i + 1) spot
+    inner_false q =
         record {
           passing = passing_next_lem ws i₀ i h.passing literal;
-          behind = omega (arith, h.behind);
-          joined = rw (add-one i) (apart (is false) (is_false_lem (literal_value (value_at vs) (literal_of_word (get_or ws i (pos 0)))) x value k l));
+          behind = λ k e. omega (arith, h.behind k e);
+          joined = rw (add-one i) (apart (is false) (is_set false q));
         }
 
-    pub inner_unset : x ≡ 2 → spot ≤ 0 → Inner ws vs i₀ (i + 1) (i + 1)
-    inner_unset q k =
-        let z : 0 ≡ spot = omega arith in
-        let p = passing_next_lem ws i₀ i h.passing literal in
-        rw (add-one i) (record {
-          passing = rw (add-one i) at p;
-          behind = le_refl (suc i);
+    pub inner_unset : x ≡ None → spot ≡ None → Inner ws vs i₀ (i + 1) (Some i)
+    inner_unset q n =
+        record {
+          passing = passing_next_lem ws i₀ i h.passing literal;
+          behind = λ k e. let s : k ≡ i = cc in omega arith;
           joined =
-              ap (λ (s : ℕ). join (partly ws s) (join (unit (literal_of_word (get_or ws i (pos 0)))) (scan (value_at vs) (first_clause (drop (suc i) ws))))) z
-              ∙ apart unset (is_unset_lem (literal_value (value_at vs) (literal_of_word (get_or ws i (pos 0)))) (sym q ∙ value));
-        })
+              rw (add-one i) (ap (λ (s : Option ℕ). join (partly ws s) (join (unit (literal_of_word (get_or ws i (pos 0)))) (scan (value_at vs) (first_clause (drop (suc i) ws))))) (sym n) ∙ apart unset (is_free q));
+        }
 
-    pub inner_true : x ≡ 1 → Skipped (scan (value_at vs) (first_clause (drop i₀ ws)))
-    inner_true q = subst Skipped (apart (is true) (is_true (literal_value (value_at vs) (literal_of_word (get_or ws i (pos 0)))) (sym q ∙ value))) (go spot)
+    pub inner_true : x ≡ Some true → Skipped (scan (value_at vs) (first_clause (drop i₀ ws)))
+    inner_true q = subst Skipped (apart (is true) (is_set true q)) (go spot)
       where
-        go : (k : ℕ) → Skipped (join (partly ws k) some_true)
-        go zero = tt
-        go (suc k) = tt
+        go : (k : Option ℕ) → Skipped (join (partly ws k) some_true)
+        go None = tt
+        go (Some k) = tt
 
-    pub inner_second : x ≡ 2 → 0 < spot → Skipped (scan (value_at vs) (first_clause (drop i₀ ws)))
-    inner_second q k =
-        subst Skipped (apart unset (is_unset_lem (literal_value (value_at vs) (literal_of_word (get_or ws i (pos 0)))) (sym q ∙ value)))
-        (go spot k (literal_of_word (get_or ws i (pos 0))) (scan (value_at vs) (first_clause (drop (suc i) ws))))
+    pub inner_second : x ≡ None → is_some spot ≡ true → Skipped (scan (value_at vs) (first_clause (drop i₀ ws)))
+    inner_second q e =
+        subst Skipped (apart unset (is_free q)) (go spot e (scan (value_at vs) (first_clause (drop (suc i) ws))))
       where
-        go : (k : ℕ) → 0 < k → (m : Literal) (s : Scan) → Skipped (join (partly ws k) (join (unit m) s))
-        go zero l m s = absurd (omega arith)
-        go (suc k) l m all_false = tt
-        go (suc k) l m (unit o) = tt
-        go (suc k) l m some_true = tt
-        go (suc k) l m several = tt
+        go : (k : Option ℕ) → is_some k ≡ true → (s : Scan) → Skipped (join (partly ws k) (join (unit (literal_of_word (get_or ws i (pos 0)))) s))
+        go None e s = absurd (true≢false (sym e))
+        go (Some k) e all_false = tt
+        go (Some k) e (unit o) = tt
+        go (Some k) e some_true = tt
+        go (Some k) e several = tt
 
-  pub inner_named : (n : ℕ) {ended : Bool} → AllIn n ws → ended ≡ is_end (get_or ws i (pos 0)) → not ended ≡ true → Named ws n i
-  inner_named n {ended} a word goes = record { here = inner_low; goes = sym word ∙ not-true ended goes; high = a i inner_low }
+  pub inner_named : (n : ℕ) → AllIn n ws → is_end (get_or ws i (pos 0)) ≡ false → Named ws n i
+  inner_named n a goes = record { here = inner_low; goes = goes; high = a i inner_low }
 
   -- at the clause's end
   inner_end : is_end (get_or ws i (pos 0)) ≡ true → scan (value_at vs) (first_clause (drop i₀ ws)) ≡ partly ws spot
   inner_end g =
       sym (sym (go spot) ∙ ap (λ (c : Clause). join (partly ws spot) (scan (value_at vs) c)) (sym (inside_end ws i h.passing.ends g).1) ∙ h.joined)
     where
-      go : (k : ℕ) → join (partly ws k) all_false ≡ partly ws k
-      go zero = refl
-      go (suc k) = refl
+      go : (k : Option ℕ) → join (partly ws k) all_false ≡ partly ws k
+      go None = refl
+      go (Some k) = refl
 
 -- clauses that are passed over
 abbrev pub AllSkipped : Values → List Clause → Type 0
@@ -190,15 +155,14 @@ unit_after σ [] cs l u = u
 unit_after σ (c ∷ ds) cs l u = inr (unit_after σ ds cs l u)
 
 -- the scan at i, from `from` on: nothing yet
-pub record Outer (ws : List ℤ) (vs : List ℕ) (from i : ℕ) (found : Found) : Type 0 where
+pub record Outer (ws : List ℤ) (vs : List ℕ) (from i : ℕ) : Type 0 where
   pub starts : Starts ws i
-  pub none : found ≡ Nothing
   pub passed : List Clause
   pub skipped : AllSkipped (value_at vs) passed
   pub split : clauses_of (drop from ws) ≡ passed ++ clauses_of (drop i ws)
 
-pub outer_start : {ws : List ℤ} {vs : List ℕ} {from : ℕ} → Starts ws from → Outer ws vs from from Nothing
-outer_start s = record { starts = s; none = refl; passed = []; skipped = tt; split = refl }
+pub outer_start : {ws : List ℤ} {vs : List ℕ} {from : ℕ} → Starts ws from → Outer ws vs from from
+outer_start s = record { starts = s; passed = []; skipped = tt; split = refl }
 
 literal_is : (z : ℤ) → literal_from (nat_abs z) (sign_of z) ≡ literal_of_word z
 literal_is (pos v) = refl
@@ -208,26 +172,24 @@ pub sign_bit : (z : ℤ) → sign_of z ≤ 1
 sign_bit (pos v) = le_refl 1
 sign_bit (negsuc v) = omega arith
 
-module _ {ws : List ℤ} {vs : List ℕ} {from i : ℕ} {found : Found} (h : Outer ws vs from i found) where
-  pub outer_end : length ws ≤ i → Finds (Starts ws) (value_at vs) (clauses_of (drop from ws)) found
+module _ {ws : List ℤ} {vs : List ℕ} {from i : ℕ} (h : Outer ws vs from i) where
+  pub outer_end : length ws ≤ i → Finds (Starts ws) (value_at vs) (clauses_of (drop from ws)) Nothing
   outer_end l =
       let q : clauses_of (drop from ws) ≡ h.passed ++ [] = h.split ∙ ap (λ (x : List ℤ). h.passed ++ clauses_of x) (drop_of_length-le ws {i = i} l) in
-      subst (Finds (Starts ws) (value_at vs) (clauses_of (drop from ws))) (sym h.none)
-      (subst (Quiet (value_at vs)) (sym q) (skipped_quiet (value_at vs) h.passed [] h.skipped (record { calm = refl; closed = refl })))
+      subst (Quiet (value_at vs)) (sym q) (skipped_quiet (value_at vs) h.passed [] h.skipped (record { calm = refl; closed = refl }))
 
   module _ (l : i < length ws) where
     here : Clause₁ ws i
     here = a_clause ws i h.starts.closes l
 
-    pub outer_clause : Inner ws vs i i 0
+    pub outer_clause : Inner ws vs i i None
     outer_clause = inner_start here.ends
 
-    pub outer_next : {k r spot : ℕ} → Skipped (scan (value_at vs) (first_clause (drop i ws))) → Inner ws vs i k spot → Past ws k r → Outer ws vs from r found
+    pub outer_next : {k r : ℕ} {spot : Option ℕ} → Skipped (scan (value_at vs) (first_clause (drop i ws))) → Inner ws vs i k spot → Past ws k r → Outer ws vs from r
     outer_next {k} {r} d n q =
         let e : drop r ws ≡ rest_words (drop i ws) = q.rest ∙ n.passing.rest in
         record {
           starts = starts_past ws i r h.starts l q.low e;
-          none = h.none;
           passed = h.passed ++ (first_clause (drop i ws) ∷ []);
           skipped = skipped_more (value_at vs) h.passed (first_clause (drop i ws)) h.skipped d;
           split =
@@ -238,51 +200,34 @@ module _ {ws : List ℤ} {vs : List ℕ} {from i : ℕ} {found : Found} (h : Out
     whole : clauses_of (drop from ws) ≡ h.passed ++ (first_clause (drop i ws) ∷ clauses_of (rest_words (drop i ws)))
     whole = h.split ∙ ap (λ (ds : List Clause). h.passed ++ ds) here.split
 
-    module _ {k spot : ℕ} (n : Inner ws vs i k spot) {ended : Bool} (word : ended ≡ is_end (get_or ws k (pos 0))) (stops : not ended ≡ false) where
-      g : is_end (get_or ws k (pos 0)) ≡ true
-      g = sym word ∙ not-false ended stops
-
-      pub outer_conflict : spot ≡ 0 → Finds (Starts ws) (value_at vs) (clauses_of (drop from ws)) Conflict
+    module _ {k : ℕ} {spot : Option ℕ} (n : Inner ws vs i k spot) (g : is_end (get_or ws k (pos 0)) ≡ true) where
+      pub outer_conflict : spot ≡ None → Finds (Starts ws) (value_at vs) (clauses_of (drop from ws)) Conflict
       outer_conflict z =
           subst (λ (cs : List Clause). conflict (value_at vs) cs ≡ true) (sym whole)
           (conflict_after (value_at vs) h.passed (first_clause (drop i ws) ∷ clauses_of (rest_words (drop i ws)))
           (ap (λ (s : Scan). is_false s || conflict (value_at vs) (clauses_of (rest_words (drop i ws)))) (inner_end n g ∙ ap (partly ws) z)))
 
-      pub outer_unit : {v b : ℕ} → (spot ≡ 0 → ⊥) → v ≡ nat_abs (get_or ws (spot - 1) (pos 0)) → b ≡ sign_of (get_or ws (spot - 1) (pos 0)) → UnitFound (Starts ws) (value_at vs) (clauses_of (drop from ws)) v b (k + 1)
-      outer_unit {v} {b} z p q =
-          let w = get_or ws (spot - 1) (pos 0) in
+      pub outer_unit : {u v b : ℕ} → spot ≡ Some u → v ≡ nat_abs (get_or ws u (pos 0)) → b ≡ sign_of (get_or ws u (pos 0)) → UnitFound (Starts ws) (value_at vs) (clauses_of (drop from ws)) v b (k + 1)
+      outer_unit {u} {v} {b} z p q =
+          let w = get_or ws u (pos 0) in
           record {
             unit =
                 subst (λ (cs : List Clause). IsUnit (value_at vs) cs (literal_from v b)) (sym whole)
                 (unit_after (value_at vs) h.passed (first_clause (drop i ws) ∷ clauses_of (rest_words (drop i ws))) (literal_from v b)
-                (inl (inner_end n g ∙ was spot z ∙ ap unit (sym (literal_is w)) ∙ ap₂ (λ (x y : ℕ). unit (literal_from x y)) (sym p) (sym q))));
+                (inl (inner_end n g ∙ ap (partly ws) z ∙ ap unit (sym (literal_is w)) ∙ ap₂ (λ (x y : ℕ). unit (literal_from x y)) (sym p) (sym q))));
             bit = subst (λ (x : ℕ). x ≤ 1) (sym q) (sign_bit w);
             starts = rw (add-one k) (starts_past ws i (suc k) h.starts l (inner_low n) ((inside_end ws k n.passing.ends g).0 ∙ n.passing.rest));
           }
-        where
-          was : (s : ℕ) → (s ≡ 0 → ⊥) → partly ws s ≡ unit (literal_of_word (get_or ws (s - 1) (pos 0)))
-          was zero z = absurd (z refl)
-          was (suc s) z = ap (λ (x : ℕ). unit (literal_of_word (get_or ws x (pos 0)))) (let e : s ≡ suc s - 1 = omega arith in e)
 
 -- what is found from a place on is found in the whole list
-abbrev pub Some : Found → Type 0
-Some Nothing = ⊥
-Some Conflict = Unit {0}
-Some (UnitAt v b next) = Unit {0}
+abbrev pub Finding : Found → Type 0
+Finding r = r ≡ Nothing → ⊥
 
-pub some_found : (r : Found) → OneOf (1 ∷ 2 ∷ []) (tag_of the_type r) → Some r
-some_found Nothing o = miss (1 ∷ 2 ∷ []) 0 tt o
-some_found Conflict o = tt
-some_found (UnitAt v b next) o = tt
-
-pub found_after : (P : ℕ → Type 0) (σ : Values) (cs ds : List Clause) (r : Found) → Some r → Finds P σ ds r → Finds P σ (cs ++ ds) r
-found_after P σ cs ds Nothing s f = absurd s
+pub found_after : (P : ℕ → Type 0) (σ : Values) (cs ds : List Clause) (r : Found) → Finding r → Finds P σ ds r → Finds P σ (cs ++ ds) r
+found_after P σ cs ds Nothing s f = absurd (s refl)
 found_after P σ cs ds Conflict s f = conflict_after σ cs ds f
 found_after P σ cs ds (UnitAt v b next) s f = record { unit = unit_after σ cs ds (literal_from v b) f.unit; bit = f.bit; starts = f.starts }
 
 module _ (ws : List ℤ) (vs : List ℕ) (from : ℕ) (r : Found) where
-  pub finds_zero : from ≡ 0 → Finds (Starts ws) (value_at vs) (clauses_of (drop from ws)) r → Finds (Starts ws) (value_at vs) (clauses_of ws) r
-  finds_zero e f = subst (λ (k : ℕ). Finds (Starts ws) (value_at vs) (clauses_of (drop k ws)) r) e f
-
-  pub finds_whole : Starts ws from → Some r → Finds (Starts ws) (value_at vs) (clauses_of (drop from ws)) r → Finds (Starts ws) (value_at vs) (clauses_of ws) r
+  pub finds_whole : Starts ws from → Finding r → Finds (Starts ws) (value_at vs) (clauses_of (drop from ws)) r → Finds (Starts ws) (value_at vs) (clauses_of ws) r
   finds_whole s k f = subst (λ (cs : List Clause). Finds (Starts ws) (value_at vs) cs r) (sym s.split) (found_after (Starts ws) (value_at vs) s.before (clauses_of (drop from ws)) r k f)

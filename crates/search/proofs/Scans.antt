@@ -8,9 +8,10 @@ use native.Mathlib.Omega.{arith}
 use native.Mathlib.Nat.{le_refl}
 use lib.Dec.{eqb}
 use borrow.Author.Tests.{eqb-true, eqb-false}
+use Rattle.std.specs.Prelude.{Option, None, Some}
 use Rattle.clauses.specs.Literal.{Literal, positive, negative, variable_of, Clause}
 use Rattle.clauses.specs.Meaning.{Assignment, literal_true, clause_true, satisfies, ClauseWithin, Within}
-use Rattle.search.specs.Search.{Value, unset, is, Setting, Settings, Values, value_of, opposite, literal_value, Scan, all_false, unit, some_true, several, scan_one, join, scan, is_false, conflict, Place, none, at, is_unset, lowest_unset}
+use Rattle.search.specs.Search.{Value, unset, is, Setting, Settings, Values, value_of, opposite, literal_value, Scan, all_false, unit, some_true, several, scan_one, join, scan, is_false, conflict, is_unset, lowest_unset}
 use Rattle.search.specs.AnyOrder.{IsUnit}
 
 -- an assignment follows settings: it has their values
@@ -211,9 +212,9 @@ pub record LowestAt (ss : Settings) (v k u : ℕ) : Type 0 where
   pub unset! : value_of ss u ≡ unset
   pub before : (x : ℕ) → v ≤ x → x < u → is_unset (value_of ss x) ≡ false
 
-abbrev pub LowestRight : Settings → ℕ → ℕ → Place → Type 0
-LowestRight ss v k none = (u : ℕ) → v ≤ u → u < v + k → is_unset (value_of ss u) ≡ false
-LowestRight ss v k (at u) = LowestAt ss v k u
+abbrev pub LowestRight : Settings → ℕ → ℕ → Option ℕ → Type 0
+LowestRight ss v k None = (u : ℕ) → v ≤ u → u < v + k → is_unset (value_of ss u) ≡ false
+LowestRight ss v k (Some u) = LowestAt ss v k u
 
 was_unset : (x : Value) → is_unset x ≡ true → x ≡ unset
 was_unset unset e = refl
@@ -231,10 +232,10 @@ lowest_right ss v (suc k) = go (is_unset (value_of ss v)) refl (lowest_unset (va
         pick true q = rw (eqb-true u v q) e
         pick false q = let ne = eqb-false u v q in h (omega arith)
 
-    go : (t : Bool) → is_unset (value_of ss v) ≡ t → (p : Place) → LowestRight ss (suc v) k p → LowestRight ss v (suc k) (cond t (at v) p)
+    go : (t : Bool) → is_unset (value_of ss v) ≡ t → (p : Option ℕ) → LowestRight ss (suc v) k p → LowestRight ss v (suc k) (cond t (Some v) p)
     go true e p h = record { low = le_refl v; high = omega arith; unset! = was_unset (value_of ss v) e; before = λ x a b. absurd (omega arith) }
-    go false e none h = λ u a b. from e u a (λ l. h u l (omega arith))
-    go false e (at u) h = record {
+    go false e None h = λ u a b. from e u a (λ l. h u l (omega arith))
+    go false e (Some u) h = record {
       low = omega (arith, h.low);
       high = omega (arith, h.high);
       unset! = h.unset!;

@@ -6,11 +6,10 @@ use Prim.Native.Nat.{ℕ, zero, suc, ◌+◌, ◌-◌, ◌<◌, ◌≤◌}
 use native.Mathlib.Omega.{arith}
 use native.Mathlib.Numerals.{add-one}
 use lib.ListN.{length, get_or}
-use borrow.Author.Tests.{lt-ltb, le-ltb}
-use Rattle.search.specs.Search.{Value, at, is_unset, lowest_unset}
-use Rattle.search.specs.Answers.{declared_spot}
+use borrow.Author.Tests.{le-ltb}
+use Rattle.std.specs.Prelude.{Some}
+use Rattle.search.specs.Search.{Value, is_unset, lowest_unset}
 use Rattle.search.specs.Memory.{value_of_byte, value_at, SetTo}
-use Rattle.search.specs.declared.words.Spot.TheVariants.{Nowhere, At}
 
 -- the lowest unset, from i on
 pub record Seeks (vs : List ℕ) (i : ℕ) : Type 0 where
@@ -20,10 +19,10 @@ pub record Seeks (vs : List ℕ) (i : ℕ) : Type 0 where
 value_at_lem : (vs : List ℕ) (i : ℕ) → value_at vs (suc i) ≡ value_of_byte (get_or vs i 0)
 value_at_lem vs i = ap (λ (k : ℕ). value_of_byte (get_or vs k 0)) (let e : suc i - 1 ≡ i = omega arith in e)
 
-seeks_one : (vs : List ℕ) (i : ℕ) → i < length vs → lowest_unset (value_at vs) (suc i) (length vs - i) ≡ cond (is_unset (value_of_byte (get_or vs i 0))) (at (suc i)) (lowest_unset (value_at vs) (suc (suc i)) (length vs - suc i))
+seeks_one : (vs : List ℕ) (i : ℕ) → i < length vs → lowest_unset (value_at vs) (suc i) (length vs - i) ≡ cond (is_unset (value_of_byte (get_or vs i 0))) (Some (suc i)) (lowest_unset (value_at vs) (suc (suc i)) (length vs - suc i))
 seeks_one vs i l =
     ap (lowest_unset (value_at vs) (suc i)) (let e : length vs - i ≡ suc (length vs - suc i) = omega arith in e)
-    ∙ ap (λ (x : Value). cond (is_unset x) (at (suc i)) (lowest_unset (value_at vs) (suc (suc i)) (length vs - suc i))) (value_at_lem vs i)
+    ∙ ap (λ (x : Value). cond (is_unset x) (Some (suc i)) (lowest_unset (value_at vs) (suc (suc i)) (length vs - suc i))) (value_at_lem vs i)
 
 seeks_zero : (vs : List ℕ) → Seeks vs 0
 seeks_zero vs = record { low = omega arith; same = ap (lowest_unset (value_at vs) 1) (let e : length vs - 0 ≡ length vs = omega arith in e) }
@@ -31,7 +30,7 @@ seeks_zero vs = record { low = omega arith; same = ap (lowest_unset (value_at vs
 seeks_suc : (vs : List ℕ) (i : ℕ) → Seeks vs i → i < length vs → get_or vs i 0 ≤ 1 → Seeks vs (suc i)
 seeks_suc vs i s l h =
     let past = lowest_unset (value_at vs) (suc (suc i)) (length vs - suc i) in
-    let e : cond (is_unset (value_of_byte (get_or vs i 0))) (at (suc i)) past ≡ past = rw (le-ltb 1 (get_or vs i 0) h) in
+    let e : cond (is_unset (value_of_byte (get_or vs i 0))) (Some (suc i)) past ≡ past = rw (le-ltb 1 (get_or vs i 0) h) in
     record { low = l; same = sym (seeks_one vs i l ∙ e) ∙ s.same }
 
 pub seeks_next : (vs : List ℕ) (i : ℕ) → Seeks vs i → i < length vs → get_or vs i 0 ≤ 1 → Seeks vs (i + 1)
@@ -42,11 +41,3 @@ pub seeks_start : (vs : List ℕ) (low : ℕ) → SetTo low vs → Seeks vs low
 seeks_start vs zero h = seeks_zero vs
 seeks_start vs (suc i) h =
     seeks_suc vs i (seeks_start vs i (record { within = omega (arith, h.within); bits = λ j l. h.bits j (omega arith) })) h.within (h.bits i (omega arith))
-
-pub seeks_here : (vs : List ℕ) (i : ℕ) → Seeks vs i → i < length vs → 1 < get_or vs i 0 → At (i + 1) ≡ declared_spot (lowest_unset (value_at vs) 1 (length vs))
-seeks_here vs i s l h =
-    ap At (add-one i) ∙ ap declared_spot (sym (seeks_one vs i l ∙ (let e : cond (is_unset (value_of_byte (get_or vs i 0))) (at (suc i)) (lowest_unset (value_at vs) (suc (suc i)) (length vs - suc i)) ≡ at (suc i) = rw (lt-ltb 1 (get_or vs i 0) h) in e)) ∙ s.same)
-
-pub seeks_none : (vs : List ℕ) (i : ℕ) → Seeks vs i → length vs ≤ i → Nowhere ≡ declared_spot (lowest_unset (value_at vs) 1 (length vs))
-seeks_none vs i s l =
-    ap declared_spot ((let e : lowest_unset (value_at vs) (suc i) 0 ≡ lowest_unset (value_at vs) (suc i) (length vs - i) = ap (lowest_unset (value_at vs) (suc i)) (let q : 0 ≡ length vs - i = omega arith in q) in e) ∙ s.same)

@@ -5,9 +5,10 @@ use mathlib.Core.Bool.{Bool, true, false, not, cond, true≢false}
 use mathlib.Core.List.{List, [], ◌∷◌}
 use Prim.Native.Nat.{ℕ, suc, ◌+◌, ◌-◌, ◌^◌, ◌<◌, ◌≤◌}
 use native.Mathlib.Omega.{arith}
+use Rattle.std.specs.Prelude.{Option, None, Some}
 use Rattle.clauses.specs.Literal.{Literal, positive, negative, variable_of, Clause}
 use Rattle.clauses.specs.Meaning.{Assignment, literal_true, satisfies, Within}
-use Rattle.search.specs.Search.{unset, Setting, Settings, Values, value_of, Scan, all_false, unit, some_true, several, scan, conflict, FirstUnit, nothing, found, or_else, first_unit, Place, none, at, lowest_unset, Turn, sets, takes, satisfied, refuted, forced, branch_false, branch_true, undo, set_unit, branch, turn}
+use Rattle.search.specs.Search.{unset, Setting, Settings, Values, value_of, Scan, all_false, unit, some_true, several, scan, conflict, FirstUnit, nothing, found, or_else, first_unit, lowest_unset, Turn, sets, takes, satisfied, refuted, forced, branch_false, branch_true, undo, set_unit, branch, turn}
 use Rattle.search.specs.AnyOrder.{IsUnit, Move, by_conflict, by_unit, by_branch}
 use Rattle.search.specs.Memory.{unset_count}
 use Rattle.search.proofs.Scans.{Follows, follows_none, follows_more, AllSet, conflict_no, Forced, unit_forced, settled, made, made_follows, LowestRight, lowest_right}
@@ -105,11 +106,11 @@ forced_good n cs ss l h =
 
 -- a move leaves good settings, or is right to end
 module _ (n : ℕ) (cs : List Clause) (ss : Settings) (w : Within n cs) (g : Good n cs ss) where
-  branch_ok : conflict (value_of ss) cs ≡ false → (p : Place) → LowestRight ss 1 n p → Ok n cs (ahead n ss) (branch ss p)
-  branch_ok e none h =
+  branch_ok : conflict (value_of ss) cs ≡ false → (p : Option ℕ) → LowestRight ss 1 n p → Ok n cs (ahead n ss) (branch ss p)
+  branch_ok e None h =
       let a : AllSet n ss = λ v x y. h v x (omega arith) in
       (a, settled n (made ss) ss (made_follows ss) a cs w e)
-  branch_ok e (at v) h =
+  branch_ok e (Some v) h =
       let l : suc (unset_count (branch_false v ∷ ss) 1 n) ≡ unset_count ss 1 n = count_set (branch_false v) ss 1 n h.unset! h.low h.high in (
         (
           record {

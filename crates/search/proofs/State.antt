@@ -4,12 +4,13 @@ use mathlib.Core.Bool.{Bool, true, false, cond}
 use mathlib.Core.List.{List, ◌∷◌}
 use Prim.Native.Nat.{ℕ, zero, suc, ◌+◌, ◌*◌, ◌-◌, ◌/◌, ◌%◌, ◌<◌, ◌≤◌}
 use native.Mathlib.Omega.{arith}
+use native.Mathlib.Numerals.{add-one}
 use native.Mathlib.Nat.{le_refl}
 use lib.Dec.{eqb}
 use lib.ListN.{length, get_or, set, length-set}
 use lib.Seq.{get_or-set_same, get_or-set_other, set-set}
 use borrow.Author.Tests.{eqb-true, eqb-false, eq-eqb, ne_eqb}
-use Rattle.search.specs.Search.{unset, is, Setting, Settings, value_of, takes, refuted, undo}
+use Rattle.search.specs.Search.{unset, is, Setting, Settings, value_of, takes, undo}
 use Rattle.search.specs.Memory.{value_of_byte, value_at, setting_at, settings_of, Proper₁, Proper, unset_count, TrailAgrees, Assigned, Undone}
 use Rattle.search.proofs.Counting.{value_of_other, value_of_same, count_set}
 
@@ -164,13 +165,6 @@ pub record Undoing (n : ℕ) (ss : Settings) (vs tr : List ℕ) (k : ℕ) : Type
   pub shaped : TrailAgrees n vs tr k
   pub same : undo ss ≡ undo (settings_of vs tr k)
 
-pub undo_start : (n : ℕ) (vs tr : List ℕ) (t : ℕ) → TrailAgrees n vs tr t → Undoing n (settings_of vs tr t) vs tr t
-undo_start n vs tr t h = record { shaped = h; same = refl }
-
-pub undo_none : (n : ℕ) (ss : Settings) (vs tr : List ℕ) (k : ℕ) → Undoing n ss vs tr k → k ≤ 0 → undo ss ≡ refuted
-undo_none n ss vs tr zero u l = u.same
-undo_none n ss vs tr (suc k) u l = absurd (omega arith)
-
 pub undo_pop : (n : ℕ) (ss : Settings) (vs tr : List ℕ) (k : ℕ) → Undoing n ss vs tr (suc k) → (get_or tr k 0 % 2 ≡ 1 → ⊥) → Undoing n ss (set vs (get_or tr k 0 / 2 - 1) 2) tr k
 undo_pop n ss vs tr k u h =
     let g = shrink n vs tr k u.shaped in
@@ -207,11 +201,11 @@ undo_pop' n ss vs tr zero l u = absurd (omega arith)
 undo_pop' n ss vs tr (suc k) l u = rw (less_one k) (undo_pop n ss vs tr k u)
 
 pub undo_flip' : (n : ℕ) (ss : Settings) (vs tr : List ℕ) (k : ℕ) → 0 < k → Undoing n ss vs tr k → get_or tr (k - 1) 0 % 2 ≡ 1
-    → Undone n ss k (set vs (get_or tr (k - 1) 0 / 2 - 1) 1) (set tr (k - 1) (get_or tr (k - 1) 0 - 1))
+    → Undone n ss (k - 1 + 1) (set vs (get_or tr (k - 1) 0 / 2 - 1) 1) (set tr (k - 1) (get_or tr (k - 1) 0 - 1))
 undo_flip' n ss vs tr zero l u = absurd (omega arith)
 undo_flip' n ss vs tr (suc k) l u =
-    subst (λ (j : ℕ). get_or tr j 0 % 2 ≡ 1 → Undone n ss (suc k) (set vs (get_or tr j 0 / 2 - 1) 1) (set tr j (get_or tr j 0 - 1)))
-    (sym (less_one k)) (undo_flip n ss vs tr k u)
+    subst (λ (j : ℕ). get_or tr j 0 % 2 ≡ 1 → Undone n ss (j + 1) (set vs (get_or tr j 0 / 2 - 1) 1) (set tr j (get_or tr j 0 - 1)))
+    (sym (less_one k)) (rw (add-one k) (undo_flip n ss vs tr k u))
 
 pub record Named (n : ℕ) (vs tr : List ℕ) (k : ℕ) : Type 0 where
   pub low : 0 < get_or tr (k - 1) 0 / 2

@@ -10,18 +10,17 @@ use native.Mathlib.Numerals.{add-one}
 use lib.Dec.{eqb}
 use lib.IntN.{ℤ}
 use lib.ListN.{length}
+use Rattle.std.specs.Prelude.{Option, None, Some}
 use Rattle.clauses.specs.Literal.{Literal, positive, negative, variable_of, Clause}
 use Rattle.clauses.specs.Meaning.{ClauseWithin, Within}
 use Rattle.clauses.specs.Words.{clauses_of}
-use Rattle.search.specs.Search.{Value, unset, Setting, Values, value_of, opposite, literal_value, Scan, scan_one, join, scan, is_false, conflict, or_else, first_unit, Place, none, at, is_unset, lowest_unset, sets, takes, forced, branch_true, undo, branch}
-use Rattle.search.specs.Answers.{declared_spot}
+use Rattle.search.specs.Search.{Value, unset, Setting, Values, value_of, opposite, literal_value, Scan, scan_one, join, scan, is_false, conflict, or_else, first_unit, is_unset, lowest_unset, sets, takes, forced, branch_true, undo, branch}
 use Rattle.search.specs.AnyOrder.{IsUnit, Quiet, Move, by_conflict, by_unit, by_branch}
 use Rattle.search.specs.Memory.{value_at, Agree, Starts, literal_from, Finds, settings_of, Settable, Assigned, Undone, ReadyTrail, AfterTurn}
 use Rattle.search.proofs.Scans.{Free, unit_forced, LowestAt, LowestRight, lowest_right}
 use Rattle.search.proofs.Counting.{count_set}
 use Rattle.search.proofs.Reading.{within_words}
 use Rattle.search.proofs.State.{grown}
-use Rattle.search.specs.declared.words.Spot.TheVariants.{Nowhere, At}
 use Rattle.search.specs.declared.scan.Found.{Found}
 use Rattle.search.specs.declared.scan.Found.TheVariants.{Nothing, Conflict, Unit as UnitAt}
 use Rattle.search.specs.declared.run.Step.TheVariants.{Goes, Tries, Sat as AllSat, Unsat as NoneLeft}
@@ -45,7 +44,7 @@ unit_ext n σ τ h (c ∷ cs) w = ap₂ or_else (scan_ext n σ τ h c w.0) (unit
 lowest_ext : (σ τ : Values) (v k : ℕ) → ((u : ℕ) → v ≤ u → u < v + k → σ u ≡ τ u) → lowest_unset σ v k ≡ lowest_unset τ v k
 lowest_ext σ τ v zero h = refl
 lowest_ext σ τ v (suc k) h =
-    ap₂ (λ (x : Value) (y : Place). cond (is_unset x) (at v) y) (h v (le_refl v) (omega arith)) (lowest_ext σ τ (suc v) k (λ u a b. h u (omega arith) (omega arith)))
+    ap₂ (λ (x : Value) (y : Option ℕ). cond (is_unset x) (Some v) y) (h v (le_refl v) (omega arith)) (lowest_ext σ τ (suc v) k (λ u a b. h u (omega arith) (omega arith)))
 
 pub is_unit_ext : (n : ℕ) (σ τ : Values) → Agree n σ τ → (cs : List Clause) → Within n cs → (l : Literal) → IsUnit τ cs l → IsUnit σ cs l
 is_unit_ext n σ τ h [] w l u = u
@@ -139,16 +138,12 @@ module _ {n : ℕ} {ws : List ℤ} {vs tr : List ℕ} {t from low : ℕ} (h : Re
     module _ (e : r ≡ Nothing) where
       branches : Move n (clauses_of ws) (settings_of vs tr t) (branch (settings_of vs tr t) (lowest_unset (value_at vs) 1 n))
       branches =
-          subst (λ (p : Place). Move n (clauses_of ws) (settings_of vs tr t) (branch (settings_of vs tr t) p)) lowest_same
+          subst (λ (p : Option ℕ). Move n (clauses_of ws) (settings_of vs tr t) (branch (settings_of vs tr t) p)) lowest_same
           (by_branch (quiet_ext n (value_of (settings_of vs tr t)) (value_at vs) agree (clauses_of ws) w (finds e)))
 
-      module _ {v : ℕ} (s : At v ≡ declared_spot (lowest_unset (value_at vs) 1 n)) where
-        is_lowest : (p : Place) → At v ≡ declared_spot p → p ≡ at v
-        is_lowest none s = absurd (let z : ◌≡◌ {A = ℕ} 0 1 = cc in omega arith)
-        is_lowest (at u) s = let p : u ≡ v = cc in ap at p
-
+      module _ {v : ℕ} (s : Some v ≡ lowest_unset (value_at vs) 1 n) where
         lowest : LowestAt (settings_of vs tr t) 1 n v
-        lowest = subst (LowestRight (settings_of vs tr t) 1 n) (lowest_same ∙ is_lowest (lowest_unset (value_at vs) 1 n) s) (lowest_right (settings_of vs tr t) 1 n)
+        lowest = subst (LowestRight (settings_of vs tr t) 1 n) (lowest_same ∙ sym s) (lowest_right (settings_of vs tr t) 1 n)
 
         pub branch_settable : Settable n (length tr) t v
         branch_settable = room_left v lowest.low (omega (arith, lowest.high)) lowest.unset!
@@ -157,13 +152,9 @@ module _ {n : ℕ} {ws : List ℤ} {vs tr : List ℕ} {t from low : ℕ} (h : Re
         step_branch {vs'} {tr'} a =
             let g = grown a h.shaped lowest.low (omega (arith, lowest.high)) lowest.unset! (omega arith) (le_refl 1) in
             rw (add-one t) (
-              subst (Move n (clauses_of ws) (settings_of vs tr t)) (ap (branch (settings_of vs tr t)) (is_lowest (lowest_unset (value_at vs) 1 n) s) ∙ ap takes (sym g.is)) branches,
+              subst (Move n (clauses_of ws) (settings_of vs tr t)) (ap (branch (settings_of vs tr t)) (sym s) ∙ ap takes (sym g.is)) branches,
               g.shaped,
             )
 
-      pub step_sat : Nowhere ≡ declared_spot (lowest_unset (value_at vs) 1 n) → AfterTurn n ws (settings_of vs tr t) AllSat vs vs tr
-      step_sat s = go (lowest_unset (value_at vs) 1 n) s branches
-        where
-          go : (p : Place) → Nowhere ≡ declared_spot p → Move n (clauses_of ws) (settings_of vs tr t) (branch (settings_of vs tr t) p) → AfterTurn n ws (settings_of vs tr t) AllSat vs vs tr
-          go none s m = (m, refl)
-          go (at u) s m = absurd (let z : ◌≡◌ {A = ℕ} 0 1 = cc in omega arith)
+      pub step_sat : None ≡ lowest_unset (value_at vs) 1 n → AfterTurn n ws (settings_of vs tr t) AllSat vs vs tr
+      step_sat s = (subst (λ (p : Option ℕ). Move n (clauses_of ws) (settings_of vs tr t) (branch (settings_of vs tr t) p)) (sym s) branches, refl)

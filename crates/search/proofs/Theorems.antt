@@ -9,10 +9,11 @@ use native.Mathlib.Omega.{arith}
 use native.Mathlib.Numerals.{add-one}
 use native.Mathlib.Decide.{dec_le}
 use lib.IntN.{ℤ}
+use Rattle.std.specs.Prelude.{None}
 use Rattle.clauses.specs.Literal.{Clause}
 use Rattle.clauses.specs.Meaning.{satisfies, Satisfiable, Within}
 use Rattle.clauses.specs.Words.{clauses_of}
-use Rattle.search.specs.Search.{none, turn, Budget, no_budget, up_to, Answer, SAT, UNSAT, SPENT, Outcome, solved, Ends}
+use Rattle.search.specs.Search.{turn, Budget, no_budget, up_to, Answer, SAT, UNSAT, SPENT, Outcome, solved, Ends}
 use Rattle.search.specs.Answers.{declared_answer}
 use Rattle.search.specs.Solve.{bad_word, values_left, assigned}
 use Rattle.search.proofs.Scans.{made}
@@ -113,5 +114,5 @@ module _ (n : ℕ) (cs : List Clause) (w : Within n cs) where
       (alike_code a (solved n cs no_budget).answer o.answers, alike_values n a (solved n cs no_budget).answer o.answers, o.tries)
 
 -- Words that SOLVE does not refuse are clauses over 1..n.
-pub accepted_within : (n : ℕ) (words : List ℤ) → bad_word n 0 false words ≡ none → Within n (clauses_of words)
+pub accepted_within : (n : ℕ) (words : List ℤ) → bad_word n 0 false words ≡ None → Within n (clauses_of words)
 accepted_within n words e = within_words n words (good_words n 0 false words e).0

@@ -1,7 +1,5 @@
 -- The code's answers, of what the definitions say.
-use Rattle.search.specs.Search.{Place, none, at, Answer, SAT, UNSAT, SPENT, Outcome}
-use Rattle.search.specs.declared.words.Spot.{Spot}
-use Rattle.search.specs.declared.words.Spot.TheVariants.{Nowhere, At}
+use Rattle.search.specs.Search.{Answer, SAT, UNSAT, SPENT, Outcome}
 use Rattle.search.specs.declared.Answered.{Answered}
 use Rattle.search.specs.declared.Answered.TheVariants.{Sat, Unsat, Spent}
 use Rattle.search.specs.declared.Solved.{Solved}
@@ -14,7 +12,3 @@ declared_answer SPENT = Spent
 
 abbrev pub declared_solved : Outcome → Solved
 declared_solved o = record { answer = declared_answer o.answer; tries = o.tries }
-
-abbrev pub declared_spot : Place → Spot
-declared_spot none = Nowhere
-declared_spot (at i) = At i

@@ -1,5 +1,5 @@
 -- What the inner functions promise: word lists from a place on, and lent memory as the search's settings.
-use Rattle.std.specs.Prelude.{◌≡◌, Bool, true, false, not, ◌||◌, cond, List, [], ◌∷◌, ◌++◌, ℕ, zero, suc, ◌+◌, ◌*◌, ◌-◌, ◌^◌, ◌/◌, ◌%◌, ◌<◌, ◌≤◌, ltb, eqb, ℤ, pos, negsuc, nat_abs, length, get_or, drop, take, set, replicate}
+use Rattle.std.specs.Prelude.{◌≡◌, Bool, true, false, not, ◌||◌, cond, List, [], ◌∷◌, ◌++◌, ℕ, zero, suc, ◌+◌, ◌*◌, ◌-◌, ◌^◌, ◌/◌, ◌%◌, ◌<◌, ◌≤◌, ltb, eqb, ℤ, pos, negsuc, nat_abs, length, get_or, drop, take, set, replicate, Option, None, Some}
 use Rattle.clauses.specs.Literal.{Literal, positive, negative, Clause}
 use Rattle.clauses.specs.Words.{is_end, literal_of_word, clauses_of}
 use Rattle.search.specs.Search.{Value, unset, is, Setting, Settings, Values, value_of, conflict, is_unset, sets, takes, satisfied, refuted, undo, up_to, Answer, SAT, UNSAT, SPENT, Outcome, solved}
@@ -73,11 +73,10 @@ value_at vs v = value_of_byte (get_or vs (v - 1) 0)
 abbrev pub Agree : ℕ → Values → Values → Type 0
 Agree n σ τ = (v : ℕ) → 0 < v → v ≤ n → σ v ≡ τ v
 
--- a value as a number: 2 for unset
-abbrev pub value_code : Value → ℕ
-value_code unset = 2
-value_code (is true) = 1
-value_code (is false) = 0
+-- a value, where there is one
+abbrev pub known : Value → Option Bool
+known unset = None
+known (is b) = Some b
 
 -- the literal of a variable that the value b makes true
 abbrev pub literal_from : ℕ → ℕ → Literal

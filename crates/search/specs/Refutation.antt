@@ -1,6 +1,7 @@
 -- Refutations from outside solvers (document 02, R-7): when a clause follows, what a refutation comes to, and REFUTE's call.
 -- In the field's terms: a clause follows by reverse unit propagation (RUP), or because it is a tautology.
 use Rattle.std.specs.Prelude.{◌≡◌, ◌↔◌, Bool, true, false, ◌||◌, cond, List, [], ◌∷◌, ◌++◌, ℕ, zero, suc, ◌+◌, ◌-◌, ◌^◌, ltb, eqb, ℤ, length, drop, replicate}
+use Rattle.design.specs.Answer.{Answer, refused, answer}
 use Rattle.clauses.specs.Literal.{Literal, positive, negative, negate, Clause}
 use Rattle.clauses.specs.Meaning.{Satisfiable, Within}
 use Rattle.clauses.specs.Words.{clauses_of}
@@ -9,8 +10,6 @@ use Rattle.search.specs.Solve.{bad_word, at_place}
 use Rattle.search.specs.AnyOrder.{Settles}
 use Rattle.search.specs.declared.refute.Judged.{Judged}
 use Rattle.search.specs.declared.refute.Judged.TheVariants.{Accepted, Word, Ended}
-use Rattle.search.specs.declared.refute.Reply.{Reply}
-use Rattle.search.specs.declared.refute.Reply.TheVariants.{Refused, Done}
 
 -- "with all its literals set false": settings to which each literal's negation is added, one after the other
 abbrev pub set_false : Settings → Clause → Settings
@@ -51,12 +50,12 @@ judged n i cs ((l ∷ ls) ∷ ds) = cond (follows n cs (l ∷ ls)) (judged n (i 
 
 -- the reply, and the lent values after the call
 pub record AfterRefute : Type 0 where
-  pub reply : Reply
+  pub reply : Answer Judged
   pub values : List ℕ
 
 -- "Each refusal is a number and a place and leaves all lent memory unchanged" (document 01)
 abbrev pub refuses : ℕ → ℕ → List ℕ → AfterRefute
-refuses number place values = record { reply = Refused number place; values = values }
+refuses number place values = record { reply = refused number place; values = values }
 
 -- "Read a clause list and a refutation in the same form." "17 tests the list, then the refutation (places counting on from the list's length), then 16 the n lent values, which are zero after every answer."
 -- 17 and its places are SOLVE's.
@@ -66,7 +65,7 @@ refute n list refutation values =
     (at_place (bad_word n 0 false list) (λ i. refuses 17 i values)
     (at_place (bad_word n 0 false refutation) (λ i. refuses 17 (length list + i) values)
     (cond (ltb (length values) n) (refuses 16 0 values)
-    (record { reply = Done (judged n 0 (clauses_of list) (clauses_of refutation)); values = replicate n 0 ++ drop n values }))))
+    (record { reply = answer (judged n 0 (clauses_of list) (clauses_of refutation)); values = replicate n 0 ++ drop n values }))))
 
 -- The rule with no order of settings: some unit settings reach a clause all false.
 pub data FollowsFrom (cs : List Clause) (c : Clause) : Type 0 where
@@ -83,8 +82,8 @@ pub record Right (n : ℕ) (list refutation : List ℤ) (values : List ℕ) : Ty
   -- whether a clause follows, and so every answer, does not depend on the order in which units are set
   pub order : (cs : List Clause) (c : Clause) → Within n cs → (follows n cs c ≡ true) ↔ FollowsFrom cs c
   -- "What is accepted has no satisfying assignment"
-  pub sound : (refute n list refutation values).reply ≡ Done Accepted → Satisfiable (clauses_of list) → ⊥
+  pub sound : (refute n list refutation values).reply ≡ answer Accepted → Satisfiable (clauses_of list) → ⊥
   -- what is accepted meets the rule,
-  pub meets : (refute n list refutation values).reply ≡ Done Accepted → Refutes (clauses_of list) (clauses_of refutation)
+  pub meets : (refute n list refutation values).reply ≡ answer Accepted → Refutes (clauses_of list) (clauses_of refutation)
   -- "and every refutation that meets the rule is accepted", where the call is not refused
-  pub complete : (j : Judged) → (refute n list refutation values).reply ≡ Done j → Refutes (clauses_of list) (clauses_of refutation) → j ≡ Accepted
+  pub complete : (j : Judged) → (refute n list refutation values).reply ≡ answer j → Refutes (clauses_of list) (clauses_of refutation) → j ≡ Accepted

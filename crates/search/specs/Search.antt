@@ -1,5 +1,5 @@
 -- The search (document 01, "The search"), turn by turn. It knows clauses by their meaning alone.
-use Rattle.std.specs.Prelude.{◌≡◌, Bool, true, false, not, ◌||◌, cond, List, [], ◌∷◌, ℕ, zero, suc, ◌^◌, ltb, eqb}
+use Rattle.std.specs.Prelude.{◌≡◌, Bool, true, false, not, ◌||◌, cond, List, [], ◌∷◌, ℕ, zero, suc, ◌^◌, ltb, eqb, Option, None, Some}
 use Rattle.clauses.specs.Literal.{Literal, positive, negative, Clause}
 
 -- "All n variables start unset.": a variable is unset, or is true or false
@@ -88,19 +88,14 @@ abbrev pub first_unit : Values → List Clause → FirstUnit
 first_unit σ [] = nothing
 first_unit σ (c ∷ cs) = or_else (scan σ c) (first_unit σ cs)
 
--- a number, or none
-pub data Place : Type 0 where
-  none : Place
-  at : ℕ → Place
-
 abbrev pub is_unset : Value → Bool
 is_unset unset = true
 is_unset (is b) = false
 
 -- "the lowest unset variable", of v, v + 1, .., v + k - 1
-abbrev pub lowest_unset : Values → ℕ → ℕ → Place
-lowest_unset σ v zero = none
-lowest_unset σ v (suc k) = cond (is_unset (σ v)) (at v) (lowest_unset σ (suc v) k)
+abbrev pub lowest_unset : Values → ℕ → ℕ → Option ℕ
+lowest_unset σ v zero = None
+lowest_unset σ v (suc k) = cond (is_unset (σ v)) (Some v) (lowest_unset σ (suc v) k)
 
 -- What a turn comes to: settings with a unit more, settings by a try, all set, or no branch left.
 pub data Turn : Type 0 where
@@ -131,9 +126,9 @@ set_unit ss nothing otherwise = otherwise
 set_unit ss (found l) otherwise = sets (forced l ∷ ss)
 
 -- "Else the lowest unset variable branches, false first. All set: SAT."
-abbrev pub branch : Settings → Place → Turn
-branch ss none = satisfied ss
-branch ss (at v) = takes (branch_false v ∷ ss)
+abbrev pub branch : Settings → Option ℕ → Turn
+branch ss None = satisfied ss
+branch ss (Some v) = takes (branch_false v ∷ ss)
 
 unfoldable pub turn : ℕ → List Clause → Settings → Turn
 turn n cs ss = cond (conflict (value_of ss) cs) (undo ss) (set_unit ss (first_unit (value_of ss) cs) (branch ss (lowest_unset (value_of ss) 1 n)))

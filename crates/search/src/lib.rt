@@ -2,6 +2,7 @@
 #![tactic(auto)]
 
 ghost use Rattle.std.specs.Prelude.{◌≡◌, length};
+ghost use Rattle.design.specs.Answer.{told};
 ghost use Rattle.search.specs.Solve.{solve as solve_of};
 ghost use Rattle.search.specs.Memory.{Fresh, outcome, Leaves};
 
@@ -10,18 +11,17 @@ mod reader; // a clause list read forward
 mod scan; // the scan for units and conflicts
 mod trail; // setting a variable, the lowest unset one, undoing
 mod run; // the turns
-pub mod fill; // filling lent memory
 pub mod refute; // REFUTE
 
-use fill::{fill8, fill32};
+use design::refusal::Refused;
 use run::run as run_turns;
-use words::{Spot, bad_word};
+use words::bad_word;
 
 // A word names a variable by an i32.
-const MAX_VARIABLE: u64 = 2147483647;
+const MAX_VARIABLE: u64 = i32::MAX as u64;
 
 // The search's answer.
-#[derive(Clone, Copy)]
+#[derive(Clone, Copy, PartialEq, Eq)]
 pub enum Answered {
     Sat,
     Unsat,
@@ -34,57 +34,39 @@ pub struct Solved {
     pub tries: u64,
 }
 
-// What SOLVE answers: a refusal's number and place, or the search's answer and tries.
-#[derive(Clone, Copy)]
-pub enum Reply {
-    Refused { number: u8, place: usize },
-    Done(Solved),
-}
-
 // The search on values and a trail of just n entries, and what it leaves there.
 pub fn search(words: &[i32], values: &mut [u8], trail: &mut [u32], budget: u64) -> Solved
     requires { Fresh words.now values.old trail.old }
     ensures { Leaves (outcome values.old words.now budget) (length values.old) result values.new trail.new }
 {
-    fill8(values, 2);
+    values.fill(2);
     let r = run_turns(words, values, trail, budget);
-    fill32(trail, 0);
-    let a = r.answer;
-    if let Answered::Sat = a {
-        return r;
+    trail.fill(0);
+    if r.answer != Answered::Sat {
+        values.fill(0);
     }
-    fill8(values, 0);
     r
 }
 
 // SOLVE: n variables, the clauses as words, memory for values and the trail, and the budget.
-pub fn solve(n: u64, words: &[i32], values: &mut [u8], trail: &mut [u32], budget: u64) -> Reply
-    ensures { record { reply = result; values = values.new; trail = trail.new } ≡ solve_of n words.now values.old trail.old budget }
+pub fn solve(
+    n: u64,
+    words: &[i32],
+    values: &mut [u8],
+    trail: &mut [u32],
+    budget: u64,
+) -> Result<Solved, Refused>
+    ensures { record { reply = told result; values = values.new; trail = trail.new } ≡ solve_of n words.now values.old trail.old budget }
 {
     if n > MAX_VARIABLE {
-        return Reply::Refused {
-            number: 17,
-            place: 0,
-        };
+        return Err(Refused::Clauses(0));
     }
-    if let Spot::At(i) = bad_word(n, words) {
-        return Reply::Refused {
-            number: 17,
-            place: i,
-        };
+    if let Some(i) = bad_word(n, words) {
+        return Err(Refused::Clauses(i));
     }
     let k = n as usize;
-    if values.len() < k {
-        return Reply::Refused {
-            number: 16,
-            place: 0,
-        };
+    if values.len() < k || trail.len() < k {
+        return Err(Refused::Memory);
     }
-    if trail.len() < k {
-        return Reply::Refused {
-            number: 16,
-            place: 0,
-        };
-    }
-    Reply::Done(search(words, &mut values[..k], &mut trail[..k], budget))
+    Ok(search(words, &mut values[..k], &mut trail[..k], budget))
 }

@@ -7,15 +7,43 @@ use super::words::ends;
 // The words, and the place of the next one to read.
 #[derive(Clone, Copy)]
 pub struct Reader<'a> {
-    pub words: &'a [i32],
-    pub at: usize,
+    words: &'a [i32],
+    at: usize,
+}
+
+impl<'a> Reader<'a> {
+    // A reader at a place.
+    pub fn new(words: &'a [i32], at: usize) -> Self
+        ensures { (result.words ≡ words.entry) × (result.at ≡ at) }
+    {
+        Reader { words, at }
+    }
+
+    // Past the clause that it stands in.
+    pub fn next_clause(self) -> Self
+        requires { has_end (drop self.at self.words.now) ≡ true }
+        ensures { (result.words ≡ self.entry.words) × Past self.entry.words.now self.entry.at result.at }
+    {
+        Reader {
+            words: self.words,
+            at: past_clause(self.words, self.at),
+        }
+    }
+
+    // Where it stands.
+    pub fn place(self) -> usize
+        ensures { result ≡ self.entry.at }
+    {
+        self.at
+    }
 }
 
 // The place past the clause that holds `from`.
-pub fn past_clause(words: &[i32], from: usize) -> usize
+fn past_clause(words: &[i32], from: usize) -> usize
     requires { has_end (drop from words.now) ≡ true }
     ensures { Past words.now from result }
 {
+    // Kept: a word ends the clause, not a count; with a `for` the search was slower.
     let mut i = from;
     while !ends(words, i) {
         i += 1;
@@ -23,35 +51,10 @@ pub fn past_clause(words: &[i32], from: usize) -> usize
     i + 1
 }
 
-// A reader at a place.
-pub fn new<'a>(words: &'a [i32], at: usize) -> Reader<'a>
-    ensures { (result.words ≡ words.entry) × (result.at ≡ at) }
-{
-    Reader { words, at }
-}
-
-// Past the clause that it stands in.
-pub fn next_clause<'a>(r: Reader<'a>) -> Reader<'a>
-    requires { has_end (drop r.at r.words.now) ≡ true }
-    ensures { (result.words ≡ r.entry.words) × Past r.entry.words.now r.entry.at result.at }
-{
-    Reader {
-        words: r.words,
-        at: past_clause(r.words, r.at),
-    }
-}
-
-// Where it stands.
-pub fn place<'a>(r: Reader<'a>) -> usize
-    ensures { result ≡ r.entry.at }
-{
-    r.at
-}
-
 // The place past the clause that holds `from`, by a reader; its callers name no reader.
 pub fn after_clause(words: &[i32], from: usize) -> usize
     requires { has_end (drop from words.now) ≡ true }
     ensures { Past words.now from result }
 {
-    place(next_clause(new(words, from)))
+    Reader::new(words, from).next_clause().place()
 }

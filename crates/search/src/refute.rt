@@ -1,14 +1,15 @@
 // REFUTE: whether every clause of a refutation follows from a clause list and the clauses before it, up to an empty one.
 ghost use Rattle.std.specs.Prelude.{◌≡◌, true, ◌+◌, ◌^◌, ◌<◌, length, drop, replicate};
+ghost use Rattle.design.specs.Answer.{told};
 ghost use Rattle.clauses.specs.Words.{clauses_of};
 ghost use Rattle.search.specs.Refutation.{judged, refute as refute_of};
 ghost use Rattle.search.specs.Memory.{AllIn, has_end, first_clause, Starts, value_at, AllUnset, Finds, Denied, Two, StartsAfter, StartsTwo, clauses_from, both_of, ReadTo, Reaches, follows_at};
 
 use super::MAX_VARIABLE;
-use super::fill::fill8;
 use super::reader::after_clause;
 use super::scan::{Found, scan_from};
-use super::words::{Spot, bad_word, ends, sign, variable};
+use super::words::{bad_word, ends, sign, variable};
+use design::refusal::Refused;
 
 // Every clause follows up to an empty one; the word at which the first clause begins that does not; or no empty clause.
 #[derive(Clone, Copy)]
@@ -18,28 +19,22 @@ pub enum Judged {
     Ended,
 }
 
-// What REFUTE answers: a refusal's number and place, or what it found.
-#[derive(Clone, Copy)]
-pub enum Reply {
-    Refused { number: u8, place: usize },
-    Done(Judged),
-}
-
 // Sets the literals of the clause at `from` false, where all values are unset. It is left with true at a literal that an
 // earlier one has made true: the clause holds a literal and its negation.
 pub fn deny(words: &[i32], values: &mut [u8], from: usize) -> bool
     requires { AllIn (length values.old) words.now × AllUnset values.old × (has_end (drop from words.now) ≡ true) }
     ensures { Denied (first_clause (drop from words.now)) result values.new }
 {
-    let mut i = from;
-    while !ends(words, i) {
+    for i in from..words.len() {
+        if ends(words, i) {
+            break;
+        }
         let v = variable(words, i);
         let x = sign(words, i);
         if values[v - 1] == x {
             return true;
         }
         values[v - 1] = 1 - x;
-        i += 1;
     }
     false
 }
@@ -50,13 +45,12 @@ pub fn scan_after(words: &[i32], values: &[u8], from: usize, base: usize) -> Fou
     ensures { Finds (StartsAfter base words.now) (value_at values.now) (clauses_of (drop from words.now)) result }
 {
     match scan_from(words, values, from) {
-        Found::Nothing => Found::Nothing,
-        Found::Conflict => Found::Conflict,
         Found::Unit { var, value, next } => Found::Unit {
             var,
             value,
             next: base + next,
         },
+        found => found,
     }
 }
 
@@ -69,11 +63,10 @@ pub fn scan_two(list: &[i32], earlier: &[i32], values: &[u8], from: usize) -> Fo
     if from >= here {
         return scan_after(earlier, values, from - here, here);
     }
-    let found = scan_from(list, values, from);
-    if let Found::Nothing = found {
-        return scan_after(earlier, values, 0, here);
+    match scan_from(list, values, from) {
+        Found::Nothing => scan_after(earlier, values, 0, here),
+        found => found,
     }
-    found
 }
 
 // The same among all clauses of both, those from `from` on first: as in the search, a scan goes on where the last unit
@@ -82,14 +75,10 @@ pub fn scan_round(list: &[i32], earlier: &[i32], values: &[u8], from: usize) -> 
     requires { Two (length values.now) list.now earlier.now × StartsTwo list.now earlier.now from }
     ensures { Finds (StartsTwo list.now earlier.now) (value_at values.now) (both_of list.now earlier.now) result }
 {
-    let found = scan_two(list, earlier, values, from);
-    if from == 0 {
-        return found;
+    match scan_two(list, earlier, values, from) {
+        Found::Nothing if from > 0 => scan_two(list, earlier, values, 0),
+        found => found,
     }
-    if let Found::Nothing = found {
-        return scan_two(list, earlier, values, 0);
-    }
-    found
 }
 
 // Whether unit setting over both lists, from the values given, reaches a clause that is all false.
@@ -100,12 +89,8 @@ pub fn reaches(list: &[i32], earlier: &[i32], values: &mut [u8]) -> bool
     let mut from: usize = 0;
     loop {
         match scan_round(list, earlier, values, from) {
-            Found::Nothing => {
-                return false;
-            }
-            Found::Conflict => {
-                return true;
-            }
+            Found::Nothing => return false,
+            Found::Conflict => return true,
             Found::Unit { var, value, next } => {
                 values[var - 1] = value;
                 from = next;
@@ -119,7 +104,7 @@ pub fn follows(list: &[i32], refutation: &[i32], at: usize, values: &mut [u8]) -
     requires { Two (length values.old) list.now refutation.now × ReadTo refutation.now at × (at < length refutation.now) }
     ensures { result ≡ follows_at (length values.old) list.now refutation.now at }
 {
-    fill8(values, 2);
+    values.fill(2);
     if deny(refutation, values, at) {
         return true;
     }
@@ -151,38 +136,31 @@ pub fn judge(list: &[i32], refutation: &[i32], values: &mut [u8]) -> Judged
         × (values.new ≡ replicate (length values.old) 0) }
 {
     let found = read(list, refutation, values);
-    fill8(values, 0);
+    values.fill(0);
     found
 }
 
 // REFUTE: n variables, the clauses and the refutation as words, and memory for values.
-pub fn refute(n: u64, list: &[i32], refutation: &[i32], values: &mut [u8]) -> Reply
-    ensures { record { reply = result; values = values.new } ≡ refute_of n list.now refutation.now values.old }
+pub fn refute(
+    n: u64,
+    list: &[i32],
+    refutation: &[i32],
+    values: &mut [u8],
+) -> Result<Judged, Refused>
+    ensures { record { reply = told result; values = values.new } ≡ refute_of n list.now refutation.now values.old }
 {
     if n > MAX_VARIABLE {
-        return Reply::Refused {
-            number: 17,
-            place: 0,
-        };
+        return Err(Refused::Clauses(0));
     }
-    if let Spot::At(i) = bad_word(n, list) {
-        return Reply::Refused {
-            number: 17,
-            place: i,
-        };
+    if let Some(i) = bad_word(n, list) {
+        return Err(Refused::Clauses(i));
     }
-    if let Spot::At(i) = bad_word(n, refutation) {
-        return Reply::Refused {
-            number: 17,
-            place: list.len() + i,
-        };
+    if let Some(i) = bad_word(n, refutation) {
+        return Err(Refused::Clauses(list.len() + i));
     }
     let k = n as usize;
     if values.len() < k {
-        return Reply::Refused {
-            number: 16,
-            place: 0,
-        };
+        return Err(Refused::Memory);
     }
-    Reply::Done(judge(list, refutation, &mut values[..k]))
+    Ok(judge(list, refutation, &mut values[..k]))
 }

@@ -4,7 +4,6 @@ ghost use Rattle.search.specs.Memory.{settings_of, ReadyTrail, AfterTurn, Fresh,
 
 use super::scan::{Found, scan};
 use super::trail::{assign, latest, lowest, undo};
-use super::words::Spot;
 use super::{Answered, Solved};
 
 // What a turn comes to: a unit set, with how many settings stand and the place at which the next scan starts; a branch
@@ -43,11 +42,11 @@ pub fn turn(
             Step::Goes { set: t + 1, next }
         }
         Found::Nothing => match lowest(values, low) {
-            Spot::At(v) => {
+            Some(v) => {
                 assign(values, trail, t, v, 0, 1);
                 Step::Tries(t + 1)
             }
-            Spot::Nowhere => Step::Sat,
+            None => Step::Sat,
         },
     }
 }
@@ -70,8 +69,10 @@ pub fn run(words: &[i32], values: &mut [u8], trail: &mut [u32], budget: u64) -> 
             }
             Step::Tries(k) => {
                 if tries >= budget {
-                    let answer = Answered::Spent;
-                    return Solved { answer, tries };
+                    return Solved {
+                        answer: Answered::Spent,
+                        tries,
+                    };
                 }
                 tries += 1;
                 t = k;
@@ -79,12 +80,16 @@ pub fn run(words: &[i32], values: &mut [u8], trail: &mut [u32], budget: u64) -> 
                 low = latest(trail, k);
             }
             Step::Sat => {
-                let answer = Answered::Sat;
-                return Solved { answer, tries };
+                return Solved {
+                    answer: Answered::Sat,
+                    tries,
+                };
             }
             Step::Unsat => {
-                let answer = Answered::Unsat;
-                return Solved { answer, tries };
+                return Solved {
+                    answer: Answered::Unsat,
+                    tries,
+                };
             }
         }
     }

@@ -2,7 +2,7 @@
 ghost use Rattle.std.specs.Prelude.{◌≡◌, true, pos, length, get_or, drop};
 ghost use Rattle.clauses.specs.Words.{literal_of_word, clauses_of};
 ghost use Rattle.search.specs.Search.{literal_value};
-ghost use Rattle.search.specs.Memory.{AllIn, closed, Starts, value_at, value_code, Finds, Named};
+ghost use Rattle.search.specs.Memory.{AllIn, closed, Starts, value_at, known, Finds, Named};
 
 use super::reader::after_clause;
 use super::words::{ends, sign, variable};
@@ -16,19 +16,17 @@ pub enum Found {
     Unit { var: usize, value: u8, next: usize },
 }
 
-// The value of the literal at a place: 0 false, 1 true, 2 unset.
-pub fn literal(words: &[i32], values: &[u8], at: usize) -> u8
+// The value of the literal at a place: none where it is unset.
+pub fn literal(words: &[i32], values: &[u8], at: usize) -> Option<bool>
     requires { Named words.now (length values.now) at }
-    ensures { result ≡ value_code (literal_value (value_at values.now) (literal_of_word (get_or words.now at (pos 0)))) }
+    ensures { result ≡ known (literal_value (value_at values.now) (literal_of_word (get_or words.now at (pos 0)))) }
 {
     let v = variable(words, at);
     let x = values[v - 1];
     if x > 1 {
-        2
-    } else if sign(words, at) == x {
-        1
+        None
     } else {
-        0
+        Some(sign(words, at) == x)
     }
 }
 
@@ -38,38 +36,30 @@ pub fn scan_from(words: &[i32], values: &[u8], from: usize) -> Found
     requires { AllIn (length values.now) words.now × Starts words.now from }
     ensures { Finds (Starts words.now) (value_at values.now) (clauses_of (drop from words.now)) result }
 {
-    let mut found = Found::Nothing;
     let mut i = from;
     'clauses: while i < words.len() {
-        // The place past the unset position, 0 while there is none.
-        let mut spot: usize = 0;
+        let mut unset = None;
         while !ends(words, i) {
-            let x = literal(words, values, i);
-            if x == 1 {
-                i = after_clause(words, i);
-                continue 'clauses;
-            }
-            if x == 2 {
-                if spot > 0 {
+            match literal(words, values, i) {
+                Some(false) => {}
+                None if unset.is_none() => unset = Some(i),
+                _ => {
                     i = after_clause(words, i);
                     continue 'clauses;
                 }
-                spot = i + 1;
             }
             i += 1;
         }
-        if spot == 0 {
-            found = Found::Conflict;
-            break 'clauses;
-        }
-        found = Found::Unit {
-            var: variable(words, spot - 1),
-            value: sign(words, spot - 1),
-            next: i + 1,
+        return match unset {
+            None => Found::Conflict,
+            Some(at) => Found::Unit {
+                var: variable(words, at),
+                value: sign(words, at),
+                next: i + 1,
+            },
         };
-        break 'clauses;
     }
-    found
+    Found::Nothing
 }
 
 // The same among all clauses, those from `from` on first: units may be set in any order (specs/AnyOrder.antt), so a scan
@@ -78,12 +68,8 @@ pub fn scan(words: &[i32], values: &[u8], from: usize) -> Found
     requires { AllIn (length values.now) words.now × Starts words.now from × (closed words.now ≡ true) }
     ensures { Finds (Starts words.now) (value_at values.now) (clauses_of words.now) result }
 {
-    let found = scan_from(words, values, from);
-    if from == 0 {
-        return found;
+    match scan_from(words, values, from) {
+        Found::Nothing if from > 0 => scan_from(words, values, 0),
+        found => found,
     }
-    if let Found::Nothing = found {
-        return scan_from(words, values, 0);
-    }
-    found
 }

@@ -1,10 +1,7 @@
 // The trail: setting a variable, the lowest unset variable, undoing.
 ghost use Rattle.std.specs.Prelude.{◌≡◌, ◌-◌, ◌/◌, ◌<◌, ◌≤◌, length, get_or};
 ghost use Rattle.search.specs.Search.{lowest_unset};
-ghost use Rattle.search.specs.Answers.{declared_spot};
 ghost use Rattle.search.specs.Memory.{value_at, SetTo, settings_of, TrailAgrees, Settable, Assigned, Undone};
-
-use super::words::Spot;
 
 // Gives a variable its value, and the trail its word: `first` is 1 for a branch at its first value, else 0.
 pub fn assign(values: &mut [u8], trail: &mut [u32], t: usize, v: usize, value: u8, first: u32)
@@ -24,18 +21,16 @@ pub fn latest(trail: &[u32], k: usize) -> usize
 }
 
 // The lowest unset variable, where 1, 2, .., low are set.
-pub fn lowest(values: &[u8], low: usize) -> Spot
+pub fn lowest(values: &[u8], low: usize) -> Option<usize>
     requires { SetTo low values.now }
-    ensures { result ≡ declared_spot (lowest_unset (value_at values.now) 1 (length values.now)) }
+    ensures { result ≡ lowest_unset (value_at values.now) 1 (length values.now) }
 {
-    let mut i = low;
-    while i < values.len() {
+    for i in low..values.len() {
         if values[i] > 1 {
-            return Spot::At(i + 1);
+            return Some(i + 1);
         }
-        i += 1;
     }
-    Spot::Nowhere
+    None
 }
 
 // Back to the latest branch still at its first value, which takes true. It answers how many settings are left, or 0 where
@@ -44,17 +39,15 @@ pub fn undo(values: &mut [u8], trail: &mut [u32], t: usize) -> usize
     requires { TrailAgrees (length values.old) values.old trail.old t }
     ensures { Undone (length values.old) (settings_of values.old trail.old t) result values.new trail.new }
 {
-    let mut k = t;
-    while k > 0 {
-        let e = trail[k - 1];
+    for k in (0..t).rev() {
+        let e = trail[k];
         let v = (e / 2) as usize;
         if e % 2 == 1 {
             values[v - 1] = 1;
-            trail[k - 1] = e - 1;
-            return k;
+            trail[k] = e - 1;
+            return k + 1;
         }
         values[v - 1] = 2;
-        k -= 1;
     }
     0
 }

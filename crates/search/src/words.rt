@@ -2,23 +2,14 @@
 ghost use Rattle.std.specs.Prelude.{◌≡◌, false, ◌<◌, nat_abs, pos, length, get_or};
 ghost use Rattle.clauses.specs.Words.{is_end};
 ghost use Rattle.search.specs.Solve.{bad_word};
-ghost use Rattle.search.specs.Answers.{declared_spot};
 ghost use Rattle.search.specs.Memory.{sign_of};
-
-// A number, or none.
-#[derive(Clone, Copy)]
-pub enum Spot {
-    Nowhere,
-    At(usize),
-}
 
 // Whether a word ends its clause.
 pub fn ends(words: &[i32], at: usize) -> bool
     requires { at < length words.now }
     ensures { result ≡ is_end (get_or words.now at (pos 0)) }
 {
-    let w = words[at];
-    w == 0
+    words[at] == 0
 }
 
 // The variable that a word names.
@@ -26,12 +17,7 @@ pub fn variable(words: &[i32], at: usize) -> usize
     requires { at < length words.now }
     ensures { result ≡ nat_abs (get_or words.now at (pos 0)) }
 {
-    let w = words[at];
-    if w < 0 {
-        (-(w as i64)) as usize
-    } else {
-        w as usize
-    }
+    words[at].unsigned_abs() as usize
 }
 
 // The value that makes a word's literal true.
@@ -39,22 +25,19 @@ pub fn sign(words: &[i32], at: usize) -> u8
     requires { at < length words.now }
     ensures { result ≡ sign_of (get_or words.now at (pos 0)) }
 {
-    let w = words[at];
-    if w < 0 { 0 } else { 1 }
+    if words[at] < 0 { 0 } else { 1 }
 }
 
 // Where a word list is refused: the first word outside -n..n, or the length if the last clause does not end.
-pub fn bad_word(n: u64, words: &[i32]) -> Spot
-    ensures { result ≡ declared_spot (bad_word n 0 false words.now) }
+pub fn bad_word(n: u64, words: &[i32]) -> Option<usize>
+    ensures { result ≡ bad_word n 0 false words.now }
 {
     let mut begun = false;
-    let mut i = 0;
-    while i < words.len() {
+    for i in 0..words.len() {
         if variable(words, i) as u64 > n {
-            return Spot::At(i);
+            return Some(i);
         }
         begun = !ends(words, i);
-        i += 1;
     }
-    if begun { Spot::At(i) } else { Spot::Nowhere }
+    begun.then_some(words.len())
 }

@@ -12,11 +12,9 @@ pub fn put_values(out: &mut [u8], at: usize, n: usize, slots: &[u16]) -> usize
     ensures { TextWritten (spaced (take n (map signed slots.now))) out.old out.new at result × (result ≤ at + 22 * n) }
 {
     let mut p = at;
-    let mut i = 0;
-    while i < n {
-        let m = put_byte(out, p, 32);
+    for i in 0..n {
+        let m = put_byte(out, p, b' ');
         p = put_pattern(out, m, slots[i]);
-        i = i + 1;
     }
     p
 }
@@ -27,11 +25,9 @@ pub fn put_statuses(out: &mut [u8], at: usize, n: usize, k: usize, slots: &[u16]
     ensures { TextWritten (spaced (map pos (take k (drop n slots.now)))) out.old out.new at result × (result ≤ at + 22 * k) }
 {
     let mut p = at;
-    let mut i = 0;
-    while i < k {
-        let m = put_byte(out, p, 32);
+    for i in 0..k {
+        let m = put_byte(out, p, b' ');
         p = put_decimal(out, m, slots[n + i] as usize);
-        i = i + 1;
     }
     p
 }
@@ -42,7 +38,7 @@ fn put_mover(out: &mut [u8], at: usize, step: usize, mover: usize) -> usize
     ensures { TextWritten (mover_text step mover) out.old out.new at result × (result ≤ at + 20) }
 {
     if step == 0 {
-        put_byte(out, at, 45)
+        put_byte(out, at, b'-')
     } else {
         put_decimal(out, at, mover)
     }
@@ -53,11 +49,11 @@ fn put_flag(out: &mut [u8], at: usize, flag: bool) -> usize
     requires { at + 2 ≤ length out.old }
     ensures { TextWritten (flag_text flag) out.old out.new at result × (result ≤ at + 2) }
 {
-    let m = put_byte(out, at, 32);
+    let m = put_byte(out, at, b' ');
     if flag {
-        put_byte(out, m, 49)
+        put_byte(out, m, b'1')
     } else {
-        put_byte(out, m, 48)
+        put_byte(out, m, b'0')
     }
 }
 
@@ -74,7 +70,7 @@ pub fn put_head(
     ensures { TextWritten (head step mover idle holds) out.old out.new at result × (result ≤ at + 45) }
 {
     let a = put_decimal(out, at, step);
-    let b = put_byte(out, a, 32);
+    let b = put_byte(out, a, b' ');
     let c = put_mover(out, b, step, mover);
     let d = put_flag(out, c, idle);
     put_flag(out, d, holds)
@@ -86,8 +82,8 @@ pub fn put_tail(out: &mut [u8], at: usize, n: usize, k: usize, slots: &[u16]) ->
     ensures { TextWritten (slots_text n k slots.now) out.old out.new at result × (result ≤ at + 22 * n + 22 * k + 3) }
 {
     let b = put_values(out, at, n, slots);
-    let c = put_byte(out, b, 32);
-    let d = put_byte(out, c, 124);
+    let c = put_byte(out, b, b' ');
+    let d = put_byte(out, c, b'|');
     let e = put_statuses(out, d, n, k, slots);
-    put_byte(out, e, 10)
+    put_byte(out, e, b'\n')
 }

@@ -10,19 +10,13 @@ use super::number::{put_byte, put_signed};
 use super::trace::put_refusal;
 use clauses::encode::{EncodeReply, encode};
 use search::words::ends;
+use std::ops::Range;
 
 // The longest part that is printed, in words.
 pub const MAX_WORDS: usize = 16384;
 
 // Its text: 22 bytes for a word.
 pub const MAX_TEXT: usize = 22 * MAX_WORDS;
-
-// The parts that are printed: from first up to end.
-#[derive(Clone, Copy)]
-pub struct PartRange {
-    pub first: u64,
-    pub end: u64,
-}
 
 // A word, and a newline after a 0, a space after any other.
 fn put_word(out: &mut [u8], at: usize, words: &[i32], i: usize) -> usize
@@ -31,9 +25,9 @@ fn put_word(out: &mut [u8], at: usize, words: &[i32], i: usize) -> usize
 {
     let m = put_signed(out, at, words, i);
     if ends(words, i) {
-        return put_byte(out, m, 10);
+        return put_byte(out, m, b'\n');
     }
-    put_byte(out, m, 32)
+    put_byte(out, m, b' ')
 }
 
 // The text of words, at the front.
@@ -42,10 +36,8 @@ fn put_words(words: &[i32], out: &mut [u8]) -> usize
     ensures { TextWritten (words_text words.now) out.old out.new 0 result × (result ≤ 22 * length words.now) }
 {
     let mut p = 0;
-    let mut i = 0;
-    while i < words.len() {
+    for i in 0..words.len() {
         p = put_word(out, p, words, i);
-        i = i + 1;
     }
     p
 }
@@ -85,31 +77,26 @@ fn refuses(file: &[u8], property: u8, bound: u8, part: u64, words: &mut [i32]) -
 }
 
 // All parts, or the first that is refused.
-fn printed_parts(file: &[u8], property: u8, bound: u8, words: &mut [i32]) -> PartRange
+fn printed_parts(file: &[u8], property: u8, bound: u8, words: &mut [i32]) -> Range<u64>
     requires { length words.old ≡ max_words }
-    ensures { printed (words_to_print file.now property bound) ≡ joined (part_text file.now property bound) (result.end - result.first) result.first }
+    ensures { printed (words_to_print file.now property bound) ≡ joined (part_text file.now property bound) (result.end - result.start) result.start }
 {
     let end = (bound as u64) + 3;
-    let mut i = 0;
-    while i < end {
+    for i in 0..end {
         if refuses(file, property, bound, i, words) {
-            return PartRange {
-                first: i,
-                end: i + 1,
-            };
+            return i..i + 1;
         }
-        i = i + 1;
     }
-    PartRange { first: 0, end: end }
+    0..end
 }
 
 // The parts whose texts, one after the other, are all that is printed for the input.
-pub fn parts_of(input: &[u8], words: &mut [i32]) -> PartRange
+pub fn parts_of(input: &[u8], words: &mut [i32]) -> Range<u64>
     requires { length words.old ≡ max_words }
-    ensures { clauses_text input.now ≡ joined (part_of_input input.now) (result.end - result.first) result.first }
+    ensures { clauses_text input.now ≡ joined (part_of_input input.now) (result.end - result.start) result.start }
 {
     if input.len() < 2 {
-        return PartRange { first: 0, end: 1 };
+        return 0..1;
     }
     let end = design_end(input, 2);
     printed_parts(&input[2..end], input[0], input[1], words)

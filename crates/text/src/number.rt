@@ -20,10 +20,8 @@ pub fn put_bytes(out: &mut [u8], at: usize, bytes: &[u8]) -> usize
     ensures { TextWritten bytes.now out.old out.new at result }
 {
     let mut p = at;
-    let mut i = 0;
-    while i < bytes.len() {
-        p = put_byte(out, p, bytes[i]);
-        i = i + 1;
+    for b in bytes {
+        p = put_byte(out, p, *b);
     }
     p
 }
@@ -37,10 +35,10 @@ pub fn put_digits(out: &mut [u8], at: usize, n: usize, left: usize) -> usize
         return at;
     }
     if n < 10 {
-        return put_byte(out, at, (48 + n) as u8);
+        return put_byte(out, at, b'0' + n as u8);
     }
     let m = put_digits(out, at, n / 10, left - 1);
-    put_byte(out, m, (48 + n % 10) as u8)
+    put_byte(out, m, b'0' + (n % 10) as u8)
 }
 
 // A number: 20 digits are enough for any usize.
@@ -61,7 +59,7 @@ pub fn put_signed(out: &mut [u8], at: usize, words: &[i32], i: usize) -> usize
     if s == 1 {
         return put_decimal(out, at, n);
     }
-    let m = put_byte(out, at, 45);
+    let m = put_byte(out, at, b'-');
     put_decimal(out, m, n)
 }
 
@@ -73,6 +71,6 @@ pub fn put_pattern(out: &mut [u8], at: usize, p: u16) -> usize
     if p < 32768 {
         return put_decimal(out, at, p as usize);
     }
-    let past = put_byte(out, at, 45);
+    let past = put_byte(out, at, b'-');
     put_decimal(out, past, 65536 - (p as usize))
 }

@@ -33,7 +33,7 @@ pub fn put_refusal(out: &mut [u8], number: u8, place: usize) -> usize
     let b = put_decimal(out, a, wide(number));
     let c = put_bytes(out, b, b" at ");
     let d = put_decimal(out, c, place);
-    put_byte(out, d, 10)
+    put_byte(out, d, b'\n')
 }
 
 // `broken at N`, or `holds`.
@@ -44,7 +44,7 @@ pub fn put_result(out: &mut [u8], at: usize, broken: bool, step: usize) -> usize
     if broken {
         let a = put_bytes(out, at, b"broken at ");
         let b = put_decimal(out, a, step);
-        return put_byte(out, b, 10);
+        return put_byte(out, b, b'\n');
     }
     put_bytes(out, at, b"holds\n")
 }

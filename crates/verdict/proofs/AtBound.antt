@@ -23,11 +23,11 @@ use Rattle.verdict.specs.Answers.{exit}
 use Rattle.clauses.specs.Ready.{Written}
 use Rattle.verdict.specs.Loop.{ReadyMemory, Tried, AtBound}
 use Rattle.verdict.specs.declared.answer.Verdict.TheVariants.{Violated, Clean, Spent as SpentAt}
-use Rattle.verdict.specs.declared.answer.Reply.TheVariants.{Done}
 use Rattle.verdict.proofs.Calls.{Room, room_for_lem}
 use Rattle.clauses.proofs.Within.{n_up}
 use Rattle.verdict.proofs.Searching.{fresh_bound, tried}
 use Rattle.verdict.proofs.Loop.{judging_start, words_fit, values_fit, trail_fit, tries_fit, judging_next, lengths_kept, ends_sat, ends_spent, ends_clean}
+use Rattle.design.specs.Answer.{answer}
 
 module _ {file piece : List ℕ} {p k : ℕ} {lent : Memory} (r : ReadyMemory file piece p k lent) where
   abbrev d : Design
@@ -93,21 +93,21 @@ module _
 
         -- what the call answers and leaves
         pub standing_sat : {choices' : List ℕ} → r.answer ≡ Sat → choices' ≡ (decode file piece p i (vs₂ ++ drop v values) choices).choices
-            → record { reply = Done (record { verdict = Violated i; tries = t + r.tries }); memory = record { clauses = clauses'; values = vs₂ ++ drop v values; trail = tr₂ ++ drop v trail; choices = choices' } }
+            → record { reply = answer (record { verdict = Violated i; tries = t + r.tries }); memory = record { clauses = clauses'; values = vs₂ ++ drop v values; trail = tr₂ ++ drop v trail; choices = choices' } }
             ≡ exit (verdict file piece p k budget lent)
         standing_sat q c =
             ends_sat file piece s.ready.design (wf s.ready) p k budget lent (room s.ready) s.judging x s.ready.accepted s.ready.property s.ready.right s.ready.bound s.ready.numbers q
             (c ∙ ap (λ (y : List ℕ). (decode file piece p i (vs₂ ++ drop v values) y).choices) s.choices_kept)
 
         pub standing_spent : r.answer ≡ Spent
-            → record { reply = Done (record { verdict = SpentAt i; tries = t + r.tries }); memory = record { clauses = clauses'; values = vs₂ ++ drop v values; trail = tr₂ ++ drop v trail; choices = choices } }
+            → record { reply = answer (record { verdict = SpentAt i; tries = t + r.tries }); memory = record { clauses = clauses'; values = vs₂ ++ drop v values; trail = tr₂ ++ drop v trail; choices = choices } }
             ≡ exit (verdict file piece p k budget lent)
         standing_spent q =
             rw s.choices_kept
             (ends_spent file piece s.ready.design (wf s.ready) p k budget lent (room s.ready) s.judging x s.ready.accepted s.ready.property s.ready.right s.ready.bound s.ready.numbers q)
 
         pub standing_clean : r.answer ≡ Unsat → i ≡ k
-            → record { reply = Done (record { verdict = Clean; tries = t + r.tries }); memory = record { clauses = clauses'; values = vs₂ ++ drop v values; trail = tr₂ ++ drop v trail; choices = choices } }
+            → record { reply = answer (record { verdict = Clean; tries = t + r.tries }); memory = record { clauses = clauses'; values = vs₂ ++ drop v values; trail = tr₂ ++ drop v trail; choices = choices } }
             ≡ exit (verdict file piece p k budget lent)
         standing_clean q e =
             rw s.choices_kept

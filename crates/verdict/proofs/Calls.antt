@@ -23,7 +23,6 @@ use Rattle.clauses.specs.Size.{Sizes, sizes_of, size}
 use Rattle.verdict.specs.Verdict.{Told, judge, Memory, After, memory_left, room_for, after_call, verdict}
 use Rattle.verdict.specs.Answers.{exit}
 use Rattle.verdict.specs.Loop.{ReadyMemory}
-use Rattle.verdict.specs.declared.answer.Reply.TheVariants.{Refused}
 
 -- A call that answers passed each test.
 pub and_true : (a b : Bool) → a && b ≡ true → (a ≡ true) × (b ≡ true)
@@ -154,19 +153,19 @@ module _ {file piece : List ℕ} {p k : ℕ} {s : Sizes} (z : Sized file piece p
   unfolding sizes_of
   variables_are = ap (λ (x : Sizes). x.variables) (same_answer _ s z.same)
 
-  refuses : (Room z.design (property_of file piece z.design p) k lent → ⊥) → record { reply = Refused 16 0; memory = lent } ≡ exit (verdict file piece p k budget lent)
+  refuses : (Room z.design (property_of file piece z.design p) k lent → ⊥) → record { reply = refused 16 0; memory = lent } ≡ exit (verdict file piece p k budget lent)
   refuses h = ap exit (sym (short file piece z.design z.accepted p k budget lent z.property z.right z.bound z.numbers h))
 
-  pub short_clauses : length lent.clauses < s.words → record { reply = Refused 16 0; memory = lent } ≡ exit (verdict file piece p k budget lent)
+  pub short_clauses : length lent.clauses < s.words → record { reply = refused 16 0; memory = lent } ≡ exit (verdict file piece p k budget lent)
   short_clauses h = refuses λ r. omega (arith, r.clauses, words_are)
 
-  pub short_values : length lent.values < s.variables → record { reply = Refused 16 0; memory = lent } ≡ exit (verdict file piece p k budget lent)
+  pub short_values : length lent.values < s.variables → record { reply = refused 16 0; memory = lent } ≡ exit (verdict file piece p k budget lent)
   short_values h = refuses λ r. omega (arith, r.values, variables_are)
 
-  pub short_trail : length lent.trail < s.variables → record { reply = Refused 16 0; memory = lent } ≡ exit (verdict file piece p k budget lent)
+  pub short_trail : length lent.trail < s.variables → record { reply = refused 16 0; memory = lent } ≡ exit (verdict file piece p k budget lent)
   short_trail h = refuses λ r. omega (arith, r.trail, variables_are)
 
-  pub short_choices : length lent.choices < k → record { reply = Refused 16 0; memory = lent } ≡ exit (verdict file piece p k budget lent)
+  pub short_choices : length lent.choices < k → record { reply = refused 16 0; memory = lent } ≡ exit (verdict file piece p k budget lent)
   short_choices h = refuses λ r. omega (arith, r.choices)
 
   pub ready : ((i : ℕ) → get_or file i 0 < 256) → ((i : ℕ) → get_or piece i 0 < 256) → s.words ≤ length lent.clauses → s.variables ≤ length lent.values → s.variables ≤ length lent.trail → k ≤ length lent.choices

@@ -28,11 +28,11 @@ use Rattle.verdict.specs.Verdict.{Verdict, VIOLATED, CLEAN, SPENT-AT, Judged, ju
 use Rattle.verdict.specs.Answers.{declared_verdict, declared_told, Exit, exit}
 use Rattle.verdict.specs.Loop.{Judging, Tried}
 use Rattle.verdict.specs.declared.answer.Verdict.TheVariants.{Violated, Clean, Spent as SpentAt}
-use Rattle.verdict.specs.declared.answer.Reply.TheVariants.{Done}
 use Rattle.clauses.proofs.Within.{n_up}
 use Rattle.verdict.proofs.Growing.{words_grow}
 use Rattle.verdict.proofs.Calls.{Room, answers}
 use Rattle.verdict.proofs.Judging.{tries_most}
+use Rattle.design.specs.Answer.{answer}
 
 -- a front of a entries written over a list
 module _ {A : Type 0} (ws xs : List A) (a : ℕ) (e : length ws ≡ a) where
@@ -193,24 +193,24 @@ module _ (file piece : List ℕ) (d : Design) (wf : WellFormed d) (number k budg
       -- what the call comes to, where the verdict is v
       module _ (e : check file ≡ Checked.accepted d) (low : number ≤ last_property file) (right : piece_right file piece number ≡ true) (few : k ≤ max_bound) (numbers : n d p k ≤ last_variable) where
         ends : (v : Verdict) (choices' : List ℕ) → judge d p k budget ≡ judged v (t + r.tries) i o → choices' ≡ choices_left file piece d number v values' lent.choices
-            → record { reply = Done (record { verdict = declared_verdict v; tries = t + r.tries }); memory = record { clauses = clauses'; values = values'; trail = trail'; choices = choices' } }
+            → record { reply = answer (record { verdict = declared_verdict v; tries = t + r.tries }); memory = record { clauses = clauses'; values = values'; trail = trail'; choices = choices' } }
             ≡ exit (verdict file piece number k budget lent)
         ends v choices' q cs =
-            ap {B = Exit} (λ (m : Memory). record { reply = Done (record { verdict = declared_verdict v; tries = t + r.tries }); memory = m }) (memory_is v choices' cs)
-            ∙ ap {B = Exit} (λ (y : Judged). record { reply = Done (declared_told y.told); memory = memory_left file piece d number y lent }) (sym q)
+            ap {B = Exit} (λ (m : Memory). record { reply = answer (record { verdict = declared_verdict v; tries = t + r.tries }); memory = m }) (memory_is v choices' cs)
+            ∙ ap {B = Exit} (λ (y : Judged). record { reply = answer (declared_told y.told); memory = memory_left file piece d number y lent }) (sym q)
             ∙ ap exit (sym (answers file piece d e number k budget lent low right few numbers room))
 
         pub ends_sat : {choices' : List ℕ} → r.answer ≡ Sat → choices' ≡ (decode file piece number i values' lent.choices).choices
-            → record { reply = Done (record { verdict = Violated i; tries = t + r.tries }); memory = record { clauses = clauses'; values = values'; trail = trail'; choices = choices' } }
+            → record { reply = answer (record { verdict = Violated i; tries = t + r.tries }); memory = record { clauses = clauses'; values = values'; trail = trail'; choices = choices' } }
             ≡ exit (verdict file piece number k budget lent)
         ends_sat {choices'} q cs = ends (VIOLATED i) choices' (on_sat q) cs
 
         pub ends_spent : r.answer ≡ Spent
-            → record { reply = Done (record { verdict = SpentAt i; tries = t + r.tries }); memory = record { clauses = clauses'; values = values'; trail = trail'; choices = lent.choices } }
+            → record { reply = answer (record { verdict = SpentAt i; tries = t + r.tries }); memory = record { clauses = clauses'; values = values'; trail = trail'; choices = lent.choices } }
             ≡ exit (verdict file piece number k budget lent)
         ends_spent q = ends (SPENT-AT i) lent.choices (on_spent q) refl
 
         pub ends_clean : r.answer ≡ Unsat → i ≡ k
-            → record { reply = Done (record { verdict = Clean; tries = t + r.tries }); memory = record { clauses = clauses'; values = values'; trail = trail'; choices = lent.choices } }
+            → record { reply = answer (record { verdict = Clean; tries = t + r.tries }); memory = record { clauses = clauses'; values = values'; trail = trail'; choices = lent.choices } }
             ≡ exit (verdict file piece number k budget lent)
         ends_clean q x = ends CLEAN lent.choices (on_last q x) refl

@@ -22,7 +22,6 @@ use Rattle.clauses.specs.Admission.{admit}
 use Rattle.clauses.specs.Size.{Sizes, sizes_of, size}
 use Rattle.clauses.specs.Replies.{seven_of, size_reply}
 use Rattle.clauses.specs.declared.frame.FormulaSizes.{FormulaSizes}
-use Rattle.clauses.specs.declared.size.SizeReply.TheVariants.{Refused as SizeRefused, Sized}
 use Rattle.clauses.proofs.Admissions.{admit_in}
 use Rattle.clauses.proofs.Within.{n_up}
 use Rattle.search.specs.Search.{up_to, SAT, UNSAT, SPENT, Outcome}
@@ -33,23 +32,21 @@ use Rattle.verdict.specs.Owners.{Owner, Buffers, with_choices, alone, last_tried
 use Rattle.verdict.specs.Answers.{declared_verdict, declared_told, declared_reply, Exit, exit, verdict_number, verdict_step, owner_words}
 use Rattle.verdict.specs.OwnersLoop.{last_bound, Clearable, Cleared, one_owner}
 use Rattle.verdict.specs.declared.answer.Told as declared-told
-use Rattle.verdict.specs.declared.answer.Reply.{Reply}
-use Rattle.verdict.specs.declared.answer.Reply.TheVariants.{Refused, Done}
 use Rattle.verdict.proofs.Growing.{words_grow}
 use Rattle.verdict.proofs.Calls.{Answered, answered}
 use Rattle.verdict.proofs.Loop.{front_long, left_long}
 use Rattle.verdict.proofs.Unread.{last_tried_lem}
 
 -- the words of an owner that is not refused
-pub owner_done : (t : declared-told.Told) {number step : ℕ} → number ≡ verdict_number t.verdict → step ≡ verdict_step t.verdict → 0 ∷ 0 ∷ number ∷ step ∷ t.tries ∷ [] ≡ owner_words (Done t)
+pub owner_done : (t : declared-told.Told) {number step : ℕ} → number ≡ verdict_number t.verdict → step ≡ verdict_step t.verdict → 0 ∷ 0 ∷ number ∷ step ∷ t.tries ∷ [] ≡ owner_words (answer t)
 owner_done t e q = ap₂ (λ (x y : ℕ). 0 ∷ 0 ∷ x ∷ y ∷ t.tries ∷ []) e q
 
 -- Clearing: SIZE's reply is what `Clearable` says.
 module _ {file piece : List ℕ} {i : ℕ} {clauses : List ℤ} {values : List ℕ} (h : Clearable file piece i clauses values) where
-  pub never_refused : (number place : ℕ) → SizeRefused number place ≡ size_reply (size file piece 0 i) → ⊥
+  pub never_refused : (number place : ℕ) → refused number place ≡ size_reply (size file piece 0 i) → ⊥
   never_refused number place e = let z : ◌≡◌ {A = ℕ} 0 1 = cc (e ∙ ap size_reply h.sized) in omega arith
 
-  module _ (s : FormulaSizes) (e : Sized s ≡ size_reply (size file piece 0 i)) where
+  module _ (s : FormulaSizes) (e : answer s ≡ size_reply (size file piece 0 i)) where
     told_sizes : (t : Sizes) → size file piece 0 i ≡ answer t → s ≡ seven_of t
     told_sizes t q = cc (e ∙ ap size_reply q)
 
@@ -97,7 +94,7 @@ module _ (d : Design) (q : Property) (k budget : ℕ) where
   bound_low = low_from k 0 0 (omega arith)
 
 -- what a reply tells of an answer
-reply_refused : (a : Answer Told) (number place : ℕ) → Refused number place ≡ declared_reply a → a ≡ refused number place
+reply_refused : (a : Answer Told) (number place : ℕ) → refused number place ≡ declared_reply a → a ≡ refused number place
 reply_refused (refused x y) number place e = let p : number ≡ x = cc in let q : place ≡ y = cc in cc
 reply_refused (answer t) number place e = absurd (let z : ◌≡◌ {A = ℕ} 0 1 = cc in omega arith)
 
@@ -106,7 +103,7 @@ record Tells (a : Answer Told) (t : declared-told.Told) : Type 0 where
   pub is : a ≡ answer told
   pub same : declared_told told ≡ t
 
-reply_done : (a : Answer Told) (t : declared-told.Told) → Done t ≡ declared_reply a → Tells a t
+reply_done : (a : Answer Told) (t : declared-told.Told) → answer t ≡ declared_reply a → Tells a t
 reply_done (refused x y) t e = absurd (let z : ◌≡◌ {A = ℕ} 0 1 = cc in omega arith)
 reply_done (answer told) t e = record { told = told; is = refl; same = let p : t ≡ declared_told told = cc in sym p }
 
@@ -130,9 +127,9 @@ module _ (file : List ℕ) (k : ℕ) (lent : Buffers) (o : Owner) where
       go (refused x y) q = refl
       go (answer x) q = absurd (let z : ◌≡◌ {A = ℕ} 0 1 = cc in omega arith)
 
-  module _ (r : Reply) (m : Memory) (e : record { reply = r; memory = m } ≡ exit after) where
+  module _ (r : Answer declared-told.Told) (m : Memory) (e : record { reply = r; memory = m } ≡ exit after) where
     -- a refused owner
-    pub owner_refused : (number place : ℕ) → r ≡ Refused number place → (d : Design) → record { reply = r; memory = m } ≡ exit (one_owner file d k lent o)
+    pub owner_refused : (number place : ℕ) → r ≡ refused number place → (d : Design) → record { reply = r; memory = m } ≡ exit (one_owner file d k lent o)
     unfolding alone
     owner_refused number place q d =
         let a : after.answer ≡ refused number place = reply_refused after.answer number place (sym q ∙ ap (λ (x : Exit). x.reply) e) in
@@ -214,7 +211,7 @@ module _ (file : List ℕ) (k : ℕ) (lent : Buffers) (o : Owner) where
         h.variables (sizes_of d q b) sized ∙ ap (zeroed 0 (n d q b)) values_left_lem ∙ zeroed_over 0 (n d q b) (values_left (n d q b) (judge d q k o.budget).outcome.answer) lent.values (left_long (n d q b) (judge d q k o.budget).outcome.answer) in
         λ j. record { clauses = cs j; values = vs j; trail = trail_left j; choices = left.choices }
 
-  module _ (r : Reply) (m : Memory) (e : record { reply = r; memory = m } ≡ exit after) (t : declared-told.Told) (x : r ≡ Done t) (bytes : (i : ℕ) → get_or file i 0 < 256) where
+  module _ (r : Answer declared-told.Told) (m : Memory) (e : record { reply = r; memory = m } ≡ exit after) (t : declared-told.Told) (x : r ≡ answer t) (bytes : (i : ℕ) → get_or file i 0 < 256) where
     tells : Tells after.answer t
     tells = reply_done after.answer t (sym x ∙ ap (λ (y : Exit). y.reply) e)
 
@@ -241,7 +238,7 @@ module _ (file : List ℕ) (k : ℕ) (lent : Buffers) (o : Owner) where
     -- an owner that is not refused: what is left
     pub owner_done_left : {last : ℕ} {c : List ℤ} {v : List ℕ} → last ≡ last_bound k t.verdict → Cleared file o.piece last m.clauses c m.values v
         → (d : Design) → check file ≡ Checked.accepted d
-        → record { reply = Done t; memory = record { clauses = c; values = v; trail = m.trail; choices = m.choices } } ≡ exit (one_owner file d k lent o)
+        → record { reply = answer t; memory = record { clauses = c; values = v; trail = m.trail; choices = m.choices } } ≡ exit (one_owner file d k lent o)
     unfolding alone
     owner_done_left {last} {c} {v} l h d acc =
         let w = left d acc bytes tells.told (met d acc) in
@@ -252,5 +249,5 @@ module _ (file : List ℕ) (k : ℕ) (lent : Buffers) (o : Owner) where
         ap (λ (z : Memory). record { clauses = c; values = v; trail = z.trail; choices = z.choices }) (left_is d acc)
         ∙ owner_memory d acc bytes tells.told (met d acc) c v h₂
         ∙ ap₂ (λ (y : Answer Told) (z : Memory). with_choices (buffers_left (used_for file d k o y) lent) z.choices) (sym tells.is) (sym (left_is d acc) ∙ ap (λ (y : Exit). y.memory) e) in
-        let rep : Done t ≡ declared_reply after.answer = sym x ∙ ap (λ (y : Exit). y.reply) e in
+        let rep : answer t ≡ declared_reply after.answer = sym x ∙ ap (λ (y : Exit). y.reply) e in
         λ j. record { reply = rep j; memory = mem j }

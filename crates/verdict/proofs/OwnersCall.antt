@@ -9,7 +9,7 @@ use borrow.Author.Tests.{le-leb, lt-ltb, ltb-true, leb-true}
 use Rattle.design.specs.Tree.{Design}
 use Rattle.design.specs.Check.{Checked, check, refusal}
 use Rattle.design.specs.Answer.{answer, need, of_checked, on_design}
-use Rattle.design.specs.declared.Refusal.{Refusal}
+use Rattle.design.specs.Refusal.{Refusal}
 use Rattle.design.proofs.Places.{read}
 use Rattle.step.proofs.Gates.{accepted_zero}
 use Rattle.verdict.specs.Owners.{Buffers, most_owners, owners_of, after_owners, each_owner, owners}

@@ -18,9 +18,9 @@ use Rattle.verdict.specs.Owners.{Owner, Buffers, alone, Used, none, longer, used
 use Rattle.verdict.specs.Isolation.{SameLengths}
 use Rattle.verdict.specs.Answers.{declared_reply, Exit, exit, owner_words, OwnersExit, owners_exit}
 use Rattle.verdict.specs.OwnersLoop.{one_owner, Counted}
-use Rattle.verdict.specs.declared.answer.Reply.{Reply}
 use Rattle.clauses.proofs.Actions.{map_set}
 use Rattle.verdict.proofs.Unread.{Alike, verdict_alike}
+use Rattle.verdict.specs.declared.answer.Told as declared-told
 
 -- zeros twice are zeros up to the longer
 zeroed_twice : {A : Type 0} (z : A) (m a : ℕ) (xs : List A) → zeroed z a (zeroed z m xs) ≡ zeroed z (max m a) xs
@@ -184,7 +184,7 @@ module _
         abbrev spoken : Answer Told → List ℕ
         spoken a = owner_words (declared_reply a)
 
-        module _ {r : Reply} {m : Memory} (came : record { reply = r; memory = m } ≡ exit (one_owner file d k buffers here)) where
+        module _ {r : Answer declared-told.Told} {m : Memory} (came : record { reply = r; memory = m } ≡ exit (one_owner file d k buffers here)) where
           buffers_next : record { clauses = m.clauses; values = m.values; trail = m.trail } ≡ buffers_left (used_by_any file d k lent (take (suc i) os)) lent
           unfolding each_owner
           buffers_next =
@@ -223,7 +223,7 @@ module _
               ∙ ap (λ (j : ℕ). map spoken (map told (take (suc i) os)) ++ drop j answers₀) (sym n₁)
 
       -- one owner more was asked
-      pub so_far_next : {r : Reply} {m : Memory} → ((d : Design) → check file ≡ Checked.accepted d → record { reply = r; memory = m } ≡ exit (one_owner file d k buffers here))
+      pub so_far_next : {r : Answer declared-told.Told} {m : Memory} → ((d : Design) → check file ≡ Checked.accepted d → record { reply = r; memory = m } ≡ exit (one_owner file d k buffers here))
           → (x : MutBor (List ℕ)) → x.ref_ptr ≡ (get_or choices i y).ref_ptr → x.now ≡ m.choices → (w : List ℕ) → w ≡ owner_words r
           → SameLengths (record { clauses = m.clauses; values = m.values; trail = m.trail }) buffers
           → SoFar (i + 1) (record { clauses = m.clauses; values = m.values; trail = m.trail }) (set choices i x) (set answers i w)

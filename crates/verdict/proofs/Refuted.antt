@@ -29,7 +29,7 @@ use Rattle.clauses.proofs.Admissions.{admit_in, admit_answers}
 use Rattle.clauses.proofs.EmitWords.{words_append}
 use Rattle.search.specs.Refutation.{refute}
 use Rattle.search.specs.declared.refute.Judged.TheVariants.{Accepted}
-use Rattle.search.specs.declared.refute.Reply.TheVariants.{Done}
+use Rattle.design.specs.Answer.{answer}
 use Rattle.search.proofs.Refuting.{refute_right}
 use Rattle.verdict.specs.Claim.{Wrote, Joined}
 
@@ -88,7 +88,7 @@ module _ (file piece : List ℕ) (d : Design) (e : check file ≡ Checked.accept
     joined list = (parts_joined (k + 3) 0 list, λ same. subst (Joined file piece p k (k + 3) 0) (sym same) (joins (k + 3) 0 (omega arith)))
 
   pub refuted : Theorem d q k → (list : List ℤ) → Joined file piece p k (k + 3) 0 list → (variables : ℕ) (refutation : List ℤ) (values : List ℕ)
-      → (refute variables list refutation values).reply ≡ Done Accepted → Breakable d q k → ⊥
+      → (refute variables list refutation values).reply ≡ answer Accepted → Breakable d q k → ⊥
   unfolding formula
   refuted th list h variables refutation values a b =
       let says : clauses_of list ≡ formula d q k = ap clauses_of (parts_joined (k + 3) 0 list h) ∙ th.words in

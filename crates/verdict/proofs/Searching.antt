@@ -15,7 +15,8 @@ use Rattle.clauses.specs.Meaning.{ClauseWithin, Within}
 use Rattle.clauses.specs.Words.{word_of, clause_words, words, is_end, clauses_of}
 use Rattle.clauses.specs.Formula.{n, formula}
 use Rattle.clauses.specs.Theorem.{Theorem}
-use Rattle.search.specs.Search.{none, up_to, solved}
+use Rattle.std.specs.Prelude.{None}
+use Rattle.search.specs.Search.{up_to, solved}
 use Rattle.search.specs.Solve.{bad_word}
 use Rattle.search.specs.Memory.{Fresh, outcome, Leaves}
 use Rattle.search.specs.declared.Solved.{Solved}
@@ -29,13 +30,13 @@ word_size (positive v) = refl
 word_size (negative zero) = refl
 word_size (negative (suc v)) = refl
 
-clause_good : (m : ℕ) (c : Clause) (rest : List ℤ) → ClauseWithin m c → ((j : ℕ) → bad_word m j false rest ≡ none) → (i : ℕ) (begun : Bool) → bad_word m i begun (clause_words c ++ rest) ≡ none
+clause_good : (m : ℕ) (c : Clause) (rest : List ℤ) → ClauseWithin m c → ((j : ℕ) → bad_word m j false rest ≡ None) → (i : ℕ) (begun : Bool) → bad_word m i begun (clause_words c ++ rest) ≡ None
 clause_good m [] rest w f i begun = rw (le-ltb m 0 (omega arith)) (f (suc i))
 clause_good m (l ∷ ls) rest w f i begun =
     let h : nat_abs (word_of l) ≤ m = omega (arith, word_size l, w.0.1) in
     rw (le-ltb m (nat_abs (word_of l)) h) (clause_good m ls rest w.1 f (suc i) (not (is_end (word_of l))))
 
-words_good : (m : ℕ) (cs : List Clause) → Within m cs → (i : ℕ) → bad_word m i false (words cs) ≡ none
+words_good : (m : ℕ) (cs : List Clause) → Within m cs → (i : ℕ) → bad_word m i false (words cs) ≡ None
 words_good m [] w i = refl
 words_good m (c ∷ cs) w i = clause_good m c (words cs) w.0 (words_good m cs w.1) i false
 

@@ -9,15 +9,13 @@ use Rattle.verdict.specs.Verdict.{Memory, verdict}
 use Rattle.verdict.specs.Answers.{exit}
 use Rattle.clauses.specs.Replies.{seven_of, size_reply}
 use Rattle.clauses.specs.declared.frame.FormulaSizes.{FormulaSizes}
-use Rattle.clauses.specs.declared.size.SizeReply.TheVariants.{Refused, Sized}
-use Rattle.verdict.specs.declared.answer.Reply.TheVariants.{Refused as ReplyRefused}
 use Rattle.verdict.proofs.Calls.{size_refused, size_answers, Sized as IsSized}
 
-pub sized_refusal : (file piece : List ℕ) (p k budget : ℕ) (lent : Memory) (number place : ℕ) → Refused number place ≡ size_reply (size file piece p k)
-    → record { reply = ReplyRefused number place; memory = lent } ≡ exit (verdict file piece p k budget lent)
+pub sized_refusal : (file piece : List ℕ) (p k budget : ℕ) (lent : Memory) (number place : ℕ) → refused number place ≡ size_reply (size file piece p k)
+    → record { reply = refused number place; memory = lent } ≡ exit (verdict file piece p k budget lent)
 sized_refusal file piece p k budget lent number place e = ap exit (sym (size_refused file piece p k budget lent number place (go (size file piece p k) e)))
   where
-    go : (a : Answer Sizes) → Refused number place ≡ size_reply a → a ≡ refused number place
+    go : (a : Answer Sizes) → refused number place ≡ size_reply a → a ≡ refused number place
     go (refused m q) e = let x : number ≡ m = cc in let y : place ≡ q = cc in cc
     go (answer s) e = absurd (let z : ◌≡◌ {A = ℕ} 0 1 = cc in omega arith)
 
@@ -27,9 +25,9 @@ pub record FullSize (file piece : List ℕ) (p k : ℕ) (s : FormulaSizes) : Typ
   pub words : sizes.words ≡ s.words
   pub variables : sizes.variables ≡ s.variables
 
-pub full_size : (file piece : List ℕ) (p k : ℕ) (s : FormulaSizes) → Sized s ≡ size_reply (size file piece p k) → FullSize file piece p k s
+pub full_size : (file piece : List ℕ) (p k : ℕ) (s : FormulaSizes) → answer s ≡ size_reply (size file piece p k) → FullSize file piece p k s
 full_size file piece p k s e = go (size file piece p k) refl e
   where
-    go : (a : Answer Sizes) → size file piece p k ≡ a → Sized s ≡ size_reply a → FullSize file piece p k s
+    go : (a : Answer Sizes) → size file piece p k ≡ a → answer s ≡ size_reply a → FullSize file piece p k s
     go (refused m q) h e = absurd (let z : ◌≡◌ {A = ℕ} 0 1 = cc in omega arith)
     go (answer t) h e = let x : s ≡ seven_of t = cc in record { sizes = t; sized = size_answers file piece p k t h; words = ap (λ (y : FormulaSizes). y.words) (sym x); variables = ap (λ (y : FormulaSizes). y.variables) (sym x) }

@@ -3,13 +3,11 @@ use Rattle.std.specs.Prelude.{List, [], ◌∷◌, ◌++◌, map, ℕ, length, d
 use Rattle.design.specs.Answer.{Answer, refused, answer}
 use Rattle.verdict.specs.Verdict.{Verdict, VIOLATED, CLEAN, SPENT-AT, Told, Memory, After}
 use Rattle.verdict.specs.Owners.{Buffers, AfterOwners}
-use Rattle.design.specs.declared.Refusal.{Refusal}
+use Rattle.design.specs.Refusal.{Refusal}
 use Rattle.step.specs.Gate.{refusal_of}
 use Rattle.verdict.specs.declared.answer.Verdict as declared
 use Rattle.verdict.specs.declared.answer.Verdict.TheVariants.{Violated, Clean, Spent}
 use Rattle.verdict.specs.declared.answer.Told as declared-told
-use Rattle.verdict.specs.declared.answer.Reply.{Reply}
-use Rattle.verdict.specs.declared.answer.Reply.TheVariants.{Refused, Done}
 
 -- document 01's VIOLATED with its step, CLEAN, and SPENT with its bound
 abbrev pub declared_verdict : Verdict → declared.Verdict
@@ -21,13 +19,13 @@ abbrev pub declared_told : Told → declared-told.Told
 declared_told t = record { verdict = declared_verdict t.verdict; tries = t.tries }
 
 -- a refusal's number and place, or the verdict and the tries
-abbrev pub declared_reply : Answer Told → Reply
-declared_reply (refused number place) = Refused number place
-declared_reply (answer t) = Done (declared_told t)
+abbrev pub declared_reply : Answer Told → Answer declared-told.Told
+declared_reply (refused number place) = refused number place
+declared_reply (answer t) = answer (declared_told t)
 
 -- the reply, and lent memory after the call
 pub record Exit : Type 0 where
-  pub reply : Reply
+  pub reply : Answer declared-told.Told
   pub memory : Memory
 
 abbrev pub exit : After → Exit
@@ -46,9 +44,9 @@ verdict_step Clean = 0
 verdict_step (Spent i) = i
 
 -- An owner's answer in five words: its refusal's number, 0 for none, and place; the verdict, its step or bound, and the tries. "every other field of a refused answer is 0 or false".
-abbrev pub owner_words : Reply → List ℕ
-owner_words (Refused number place) = number ∷ place ∷ 0 ∷ 0 ∷ 0 ∷ []
-owner_words (Done t) = 0 ∷ 0 ∷ verdict_number t.verdict ∷ verdict_step t.verdict ∷ t.tries ∷ []
+abbrev pub owner_words : Answer declared-told.Told → List ℕ
+owner_words (refused number place) = number ∷ place ∷ 0 ∷ 0 ∷ 0 ∷ []
+owner_words (answer t) = 0 ∷ 0 ∷ verdict_number t.verdict ∷ verdict_step t.verdict ∷ t.tries ∷ []
 
 -- each owner's words; those of the places past the count as they were, and all of them where the call is refused
 abbrev pub answers_left : Answer (List (Answer Told)) → List (List ℕ) → List (List ℕ)

@@ -26,11 +26,10 @@ use Rattle.clauses.specs.Words.{words}
 use Rattle.clauses.specs.Theorem.{Model, Exactly}
 use Rattle.search.specs.Solve.{solve}
 use Rattle.search.specs.declared.Answered.{Answered}
-use Rattle.search.specs.declared.Reply.TheVariants.{Done}
 use Rattle.search.specs.Refutation.{refute}
 use Rattle.search.specs.declared.refute.Judged.{Judged}
 use Rattle.search.specs.declared.refute.Judged.TheVariants.{Accepted}
-use Rattle.search.specs.declared.refute.Reply.TheVariants as refuted
+use Rattle.design.specs.Answer as call
 use Rattle.verdict.specs.Owners.{Buffers, owners}
 use Rattle.verdict.specs.Answers.{owners_exit}
 
@@ -238,14 +237,14 @@ Holds (entries d statuses mark i) = first_wrong (entries_right d (replicate max_
 Holds (operands c l h) = (least_operand (signed (wrap c)) ≡ l) × (largest_operand (signed (wrap c)) ≡ h)
 Holds (solves variables words budget answer tries values) =
     solve variables words (replicate variables 7) (replicate variables 7) budget
-    ≡ record { reply = Done (record { answer = answer; tries = tries }); values = values; trail = replicate variables 0 }
+    ≡ record { reply = call.answer (record { answer = answer; tries = tries }); values = values; trail = replicate variables 0 }
 Holds (judges variables list refutation answer) =
-    refute variables list refutation (replicate (suc variables) 7) ≡ record { reply = refuted.Done answer; values = replicate variables 0 ++ 7 ∷ [] }
+    refute variables list refutation (replicate (suc variables) 7) ≡ record { reply = call.answer answer; values = replicate variables 0 ++ 7 ∷ [] }
 Holds (turns_back values variables list refutation number place) =
-    refute variables list refutation (replicate values 7) ≡ record { reply = refuted.Refused number place; values = replicate values 7 }
+    refute variables list refutation (replicate values 7) ≡ record { reply = call.refused number place; values = replicate values 7 }
 Holds (certified s k refutation) =
     refute (n s.design s.property k) (words (formula s.design s.property k)) refutation (replicate (n s.design s.property k) 7)
-    ≡ record { reply = refuted.Done Accepted; values = replicate (n s.design s.property k) 0 }
+    ≡ record { reply = call.answer Accepted; values = replicate (n s.design s.property k) 0 }
 Holds (owned c answers choices zero_words zero_values) =
     owners_exit (owners two_externals c.bound (sevens c.words 0 c.variables 0) c.count c.pieces c.budgets c.choices) [] (replicate 4 kept)
     ≡ record { refusal = record { number = 0; place = 0 }; buffers = sevens c.words zero_words c.variables zero_values; choices = choices; pointers = []; answers = answers }

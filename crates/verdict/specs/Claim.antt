@@ -24,7 +24,6 @@ use Rattle.clauses.specs.Theorem.{Stored}
 use Rattle.search.specs.Search.{turn, Budget, no_budget, Ends}
 use Rattle.search.specs.Refutation.{refute}
 use Rattle.search.specs.declared.refute.Judged.TheVariants.{Accepted}
-use Rattle.search.specs.declared.refute.Reply.TheVariants.{Done}
 use Rattle.verdict.specs.Verdict.{Verdict, VIOLATED, CLEAN, SPENT-AT, Told, Memory, searched, verdict}
 use Rattle.verdict.specs.Owners.{Owner, Buffers, owners}
 use Rattle.verdict.specs.Isolation.{Owns, result_of}
@@ -159,7 +158,7 @@ pub record Demand3 (file piece : List ℕ) (d : Design) : Type 0 where
   -- Document 02, R-7: "Over ENCODE's joined parts, acceptance means that no run within the bound breaks the property." What R-7 says of REFUTE on any clause list
   -- is `Right` (search/specs/Refutation).
   pub refuted : (p k : ℕ) (list : List ℤ) → Joined file piece p k (k + 3) 0 list → (variables : ℕ) (refutation : List ℤ) (values : List ℕ)
-      → (refute variables list refutation values).reply ≡ Done Accepted → Breakable d (property_of file piece d p) k → ⊥
+      → (refute variables list refutation values).reply ≡ answer Accepted → Breakable d (property_of file piece d p) k → ⊥
   -- Document 02, R-8, for property 0 or 1: both readings of an idle step agree on what is broken, and at which step first (step/specs/Strict). Property 2 is left out, as R-8 leaves it out: of it
   -- this is not so (the table has the smallest design that shows it).
   pub readings : (p : ℕ) → p ≤ last_state_property → ReadingsAgree d (property_of file piece d p)

@@ -1,6 +1,9 @@
 // What VERDICT answers, and the same in numbers.
 ghost use Rattle.std.specs.Prelude.{◌≡◌};
 ghost use Rattle.verdict.specs.Answers.{verdict_number, verdict_step, owner_words};
+ghost use Rattle.design.specs.Answer.{told};
+
+use design::refusal::Refused;
 
 // "VIOLATED with its step, CLEAN, or SPENT with the bound it stood at"
 #[derive(Clone, Copy)]
@@ -15,13 +18,6 @@ pub enum Verdict {
 pub struct Told {
     pub verdict: Verdict,
     pub tries: u64,
-}
-
-// What VERDICT answers: a refusal's number and place, or the verdict and the tries.
-#[derive(Clone, Copy)]
-pub enum Reply {
-    Refused { number: u8, place: usize },
-    Done(Told),
 }
 
 // CLEAN is 0, VIOLATED 1, SPENT 2.
@@ -50,14 +46,17 @@ pub fn verdict_step(v: Verdict) -> u64
 pub const ANSWER_WORDS: usize = 5;
 
 // An owner's answer: a refusal's number and place, then the verdict, its step or bound, and the tries.
-pub fn owner_words(r: Reply) -> [u64; ANSWER_WORDS]
-    ensures { result ≡ owner_words r }
+pub fn owner_words(reply: Result<Told, Refused>) -> [u64; ANSWER_WORDS]
+    ensures { result ≡ owner_words (told reply) }
 {
-    match r {
-        Reply::Refused { number, place } => [number as u64, place as u64, 0, 0, 0],
-        Reply::Done(t) => {
-            let v = t.verdict;
-            [0, 0, verdict_number(v), verdict_step(v), t.tries]
-        }
+    match reply {
+        Err(r) => [r.number() as u64, r.place() as u64, 0, 0, 0],
+        Ok(t) => [
+            0,
+            0,
+            verdict_number(t.verdict),
+            verdict_step(t.verdict),
+            t.tries,
+        ],
     }
 }

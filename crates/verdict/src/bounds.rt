@@ -2,9 +2,10 @@
 ghost use Rattle.std.specs.Prelude.{◌≡◌};
 ghost use Rattle.verdict.specs.Verdict.{verdict as verdict_of};
 ghost use Rattle.verdict.specs.Answers.{exit};
+ghost use Rattle.design.specs.Answer.{answer};
 ghost use Rattle.verdict.specs.Loop.{ReadyMemory};
 
-use super::answer::{Reply, Told, Verdict};
+use super::answer::{Told, Verdict};
 use clauses::decode::decode;
 use clauses::encode::write_formula;
 use search::{Answered, search};
@@ -23,15 +24,14 @@ pub fn judge<'a>(
 ) -> Told
     requires { ReadyMemory file.now piece.now property bound (record { clauses = clauses.old; values = values.old; trail = trail.old; choices = choices.old }) }
     ensures { record {
-      reply = Reply.Done result;
+      reply = answer result;
       memory = record { clauses = clauses.new; values = values.new; trail = trail.new; choices = choices.new };
     }
         ≡ exit (verdict_of file.now piece.now property bound budget
         (record { clauses = clauses.old; values = values.old; trail = trail.old; choices = choices.old })) }
 {
-    let mut i: u64 = 0;
     let mut tries: u64 = 0;
-    loop {
+    for i in 0..=bound {
         let f = write_formula(file, piece, property, i, clauses);
         let m = f.words;
         let n = f.variables;
@@ -42,10 +42,10 @@ pub fn judge<'a>(
             budget - tries,
         );
         tries += r.tries;
-        let a = r.answer;
-        match a {
+        match r.answer {
             Answered::Sat => {
-                decode(file, piece, property, i, values, choices);
+                // What VERDICT was admitted for, DECODE does not refuse.
+                let _ = decode(file, piece, property, i, values, choices);
                 return Told {
                     verdict: Verdict::Violated(i),
                     tries,
@@ -57,15 +57,11 @@ pub fn judge<'a>(
                     tries,
                 };
             }
-            Answered::Unsat => {
-                if i == bound {
-                    return Told {
-                        verdict: Verdict::Clean,
-                        tries,
-                    };
-                }
-            }
+            Answered::Unsat => {}
         }
-        i += 1;
+    }
+    Told {
+        verdict: Verdict::Clean,
+        tries,
     }
 }

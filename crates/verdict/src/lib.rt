@@ -8,15 +8,12 @@ pub mod owners;
 ghost use Rattle.std.specs.Prelude.{◌≡◌};
 ghost use Rattle.verdict.specs.Verdict.{verdict as verdict_of};
 ghost use Rattle.verdict.specs.Answers.{exit};
+ghost use Rattle.design.specs.Answer.{told};
 
-use answer::Reply;
+use answer::Told;
 use bounds::judge;
-use clauses::size::{SizeReply, size};
-
-const SHORT: Reply = Reply::Refused {
-    number: 16,
-    place: 0,
-};
+use clauses::size::size;
+use design::refusal::Refused;
 
 // VERDICT: a design, a piece, a property, a bound, a budget of tries, and memory for the clauses, the values, the trail and the choices.
 pub fn verdict<'a>(
@@ -29,31 +26,25 @@ pub fn verdict<'a>(
     values: &mut [u8],
     trail: &mut [u32],
     choices: &mut [u8],
-) -> Reply
-    ensures { record { reply = result; memory = record { clauses = clauses.new; values = values.new; trail = trail.new; choices = choices.new } }
+) -> Result<Told, Refused>
+    ensures { record { reply = told result; memory = record { clauses = clauses.new; values = values.new; trail = trail.new; choices = choices.new } }
         ≡ exit (verdict_of file.now piece.now property bound budget
         (record { clauses = clauses.old; values = values.old; trail = trail.old; choices = choices.old })) }
 {
-    match size(file, piece, property, bound) {
-        SizeReply::Refused { number, place } => Reply::Refused { number, place },
-        SizeReply::Sized(s) => {
-            let m = s.words;
-            let n = s.variables;
-            if (clauses.len() as u64) < m {
-                return SHORT;
-            }
-            if (values.len() as u64) < n {
-                return SHORT;
-            }
-            if (trail.len() as u64) < n {
-                return SHORT;
-            }
-            if (choices.len() as u64) < bound {
-                return SHORT;
-            }
-            Reply::Done(judge(
-                file, piece, property, bound, budget, clauses, values, trail, choices,
-            ))
-        }
+    let s = size(file, piece, property, bound)?;
+    if (clauses.len() as u64) < s.words {
+        return Err(Refused::Memory);
     }
+    if (values.len() as u64) < s.variables {
+        return Err(Refused::Memory);
+    }
+    if (trail.len() as u64) < s.variables {
+        return Err(Refused::Memory);
+    }
+    if (choices.len() as u64) < bound {
+        return Err(Refused::Memory);
+    }
+    Ok(judge(
+        file, piece, property, bound, budget, clauses, values, trail, choices,
+    ))
 }

@@ -2,23 +2,19 @@
 ghost use Rattle.std.specs.Prelude.{◌≡◌, map, take};
 ghost use Rattle.design.specs.Check.{Checked, check};
 ghost use Rattle.design.specs.Tree.{Design};
+ghost use Rattle.design.specs.Answer.{told};
+ghost use Rattle.design.specs.Refusal.{turned};
 ghost use Rattle.verdict.specs.Answers.{exit, owners_exit};
 ghost use Rattle.verdict.specs.Owners.{owners_of, each_owner, owners as all_owners};
 ghost use Rattle.verdict.specs.OwnersLoop.{last_bound, Clearable, Cleared, one_owner, Counted};
 
-use super::answer::{ANSWER_WORDS, Reply, Verdict, owner_words};
+use super::answer::{ANSWER_WORDS, Told, Verdict, owner_words};
 use super::verdict;
-use clauses::size::{SizeReply, size};
-use design::Refusal;
-use search::fill::{fill8, zero_words};
+use clauses::size::size;
+use design::refusal::Refused;
 
 // "Up to four"
 pub const MOST_OWNERS: usize = 4;
-
-const BAD_COUNT: Refusal = Refusal {
-    number: 20,
-    place: 0,
-};
 
 // The bound of the last formula tried.
 fn last_bound(v: Verdict, bound: u64) -> u64
@@ -36,11 +32,11 @@ fn clear<'a>(file: &'a [u8], piece: &'a [u8], bound: u64, clauses: &mut [i32], v
     requires { Clearable file.now piece.now bound clauses.old values.old }
     ensures { Cleared file.now piece.now bound clauses.old clauses.new values.old values.new }
 {
-    if let SizeReply::Sized(s) = size(file, piece, 0, bound) {
+    if let Ok(s) = size(file, piece, 0, bound) {
         let m = s.words as usize;
         let n = s.variables as usize;
-        zero_words(&mut clauses[..m]);
-        fill8(&mut values[..n], 0);
+        clauses[..m].fill(0);
+        values[..n].fill(0);
     }
 }
 
@@ -54,9 +50,9 @@ fn one_owner<'a>(
     values: &mut [u8],
     trail: &mut [u32],
     choices: &mut [u8],
-) -> Reply
+) -> Result<Told, Refused>
     ensures { (d : Design) → check file.now ≡ Checked.accepted d
-        → record { reply = result; memory = record { clauses = clauses.new; values = values.new; trail = trail.new; choices = choices.new } }
+        → record { reply = told result; memory = record { clauses = clauses.new; values = values.new; trail = trail.new; choices = choices.new } }
         ≡ exit (one_owner file.now d bound
         (record { clauses = clauses.old; values = values.old; trail = trail.old })
         (record { piece = piece.now; budget = budget; choices = choices.old })) }
@@ -64,7 +60,7 @@ fn one_owner<'a>(
     let r = verdict(
         file, piece, 0, bound, budget, clauses, values, trail, choices,
     );
-    if let Reply::Done(t) = r {
+    if let Ok(t) = r {
         let v = t.verdict;
         clear(file, piece, last_bound(v, bound), clauses, values);
     }
@@ -97,13 +93,11 @@ fn each_owner<'a>(
         (take count (owners_of (map (λ x. x.now) pieces.now) budgets.now (map (λ x. x.now) choices.old))) (map (λ x. x.now) choices.old))
         (map (λ x. x.ref_ptr) choices.old) answers.old }
 {
-    let mut i = 0;
-    while i < count {
+    for i in 0..count {
         let r = one_owner(
             file, pieces[i], bound, budgets[i], clauses, values, trail, choices[i],
         );
         answers[i] = owner_words(r);
-        i += 1;
     }
 }
 
@@ -119,9 +113,9 @@ pub fn owners<'a>(
     trail: &mut [u32],
     choices: &mut [&mut [u8]; MOST_OWNERS],
     answers: &mut [[u64; ANSWER_WORDS]; MOST_OWNERS],
-) -> Refusal
+) -> Result<(), Refused>
     ensures { record {
-      refusal = result;
+      refusal = turned result;
       buffers = record { clauses = clauses.new; values = values.new; trail = trail.new };
       choices = map (λ x. x.now) choices.new;
       pointers = map (λ x. x.ref_ptr) choices.new;
@@ -130,15 +124,12 @@ pub fn owners<'a>(
         ≡ owners_exit (all_owners file.now bound (record { clauses = clauses.old; values = values.old; trail = trail.old })
         count (map (λ x. x.now) pieces.now) budgets.now (map (λ x. x.now) choices.old)) (map (λ x. x.ref_ptr) choices.old) answers.old }
 {
-    let checked = design::check(file);
-    if checked.number != 0 {
-        return checked;
-    }
+    design::check(file)?;
     if count == 0 {
-        return BAD_COUNT;
+        return Err(Refused::Owners);
     }
     if count > MOST_OWNERS as u64 {
-        return BAD_COUNT;
+        return Err(Refused::Owners);
     }
     each_owner(
         file,
@@ -152,5 +143,5 @@ pub fn owners<'a>(
         choices,
         answers,
     );
-    checked
+    Ok(())
 }

@@ -1,31 +1,22 @@
 use mathlib.Core.Path.{sym, ◌∙◌}
-use lib.Seq.{length-take-le}
 use Rattle.search.proofs.Solving.{solve_large, solve_word, solve_values, solve_trail, solve_fresh, solve_done}
 use Rattle.search.proofs.solve.Goals as goal
+use Rattle.search.proofs.solve.Goals.{then-values-k-via-then-values-k, then-values-k-via-else-values-k+then-trail-k}
 
 pub returns-then-n-gt-MAX_VARIABLE : goal.returns-then-n-gt-MAX_VARIABLE
 returns-then-n-gt-MAX_VARIABLE c =
     solve_large c.args.n c.args.words.now c.args.values.now c.args.trail.now c.args.budget c.if-n-gt-MAX_VARIABLE.true
 
-pub returns-in-At : goal.returns-in-At
-returns-in-At c =
-    solve_word c.args.n c.args.words.now c.args.values.now c.args.trail.now c.args.budget c.if-n-gt-MAX_VARIABLE.false (sym c.in-At.is ∙ c.bad_word.ensures)
+pub returns-in-Some : goal.returns-in-Some
+returns-in-Some c =
+    solve_word c.args.n c.args.words.now c.args.values.now c.args.trail.now c.args.budget c.if-n-gt-MAX_VARIABLE.false (sym c.in-Some.is ∙ c.bad_word.ensures)
 
 pub returns-then-values-k : goal.returns-then-values-k
 returns-then-values-k c =
-    solve_values c.args.n c.args.words.now c.args.values.now c.args.trail.now c.args.budget c.if-n-gt-MAX_VARIABLE.false (sym c.in_default.is ∙ c.bad_word.ensures) c.if-values-k.true
-
-pub returns-then-trail-k : goal.returns-then-trail-k
-returns-then-trail-k c =
-    solve_trail c.args.n c.args.words.now c.args.values.now c.args.trail.now c.args.budget c.if-n-gt-MAX_VARIABLE.false (sym c.in_default.is ∙ c.bad_word.ensures) c.if-values-k.false c.if-trail-k.true
-
-pub slice_bounds-search-end-2 : goal.slice_bounds-search-end-2
-slice_bounds-search-end-2 c =
-    sym (length-take-le c.args.n c.args.values.now c.if-values-k.false)
-
-pub slice_bounds-search-end-4 : goal.slice_bounds-search-end-4
-slice_bounds-search-end-4 c =
-    sym (length-take-le c.args.n c.args.trail.now c.if-trail-k.false)
+    elim c.then-values-k.branch [
+      | then-values-k-via-then-values-k w ↦ solve_values c.args.n c.args.words.now c.args.values.now c.args.trail.now c.args.budget c.if-n-gt-MAX_VARIABLE.false (sym c.in_default.is ∙ c.bad_word.ensures) w.if-values-k.true
+      | then-values-k-via-else-values-k+then-trail-k w ↦ solve_trail c.args.n c.args.words.now c.args.values.now c.args.trail.now c.args.budget c.if-n-gt-MAX_VARIABLE.false (sym c.in_default.is ∙ c.bad_word.ensures) w.if-values-k.false w.if-trail-k.true
+    ]
 
 pub search-requires : goal.search-requires
 search-requires c =

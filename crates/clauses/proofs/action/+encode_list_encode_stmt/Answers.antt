@@ -1,50 +1,43 @@
 use Rattle.std.proofs.Common.{◌-◌, false, get_or, set, sym, refl, ◌∙◌, arith, length-set}
 use Rattle.clauses.proofs.EmitSlots.{bits_some, mark_read}
 use Rattle.clauses.proofs.EmitStates.{slotted_again, mark_over}
-use Rattle.clauses.proofs.EmitActions.{list_here, listing_start, listing_here, listing_on, listing_end, stmt_here, stmt_assign_here, stmt_assign_node, if_test_here, if_first_here, if_first_on, if_second_here, if_second_on, if_node}
+use Rattle.clauses.proofs.EmitActions.{list_here, listing_start, listing_here, listing_next, listing_end, stmt_here, stmt_assign_here, stmt_assign_node, if_test_here, if_first_here, if_first_on, if_second_here, if_second_on, if_node}
 use Rattle.clauses.proofs.action.+encode_list_encode_stmt.Goals as goal
 
 pub encode_list-bounds-file-at : goal.encode_list-bounds-file-at
 encode_list-bounds-file-at t c =
     omega (arith, list_here c.args.file.now c.args.shape c.requires.2)
 
-pub encode_list-overflow_add-p : goal.encode_list-overflow_add-p
-encode_list-overflow_add-p t c =
+pub encode_list-overflow_add-done : goal.encode_list-overflow_add-done
+encode_list-overflow_add-done t c =
     omega (arith, list_here c.args.file.now c.args.shape c.requires.2)
 
-pub encode_list-loop-left-init : goal.encode_list-loop-left-init
-encode_list-loop-left-init t c =
-    (listing_start c.args.file.now c.args.shape _ _ _ _ _ _ c.wide-left.ensures.0 c.requires.1 c.requires.2, refl)
+pub encode_list-loop-init : goal.encode_list-loop-init
+encode_list-loop-init t c =
+    (listing_start c.args.file.now c.args.shape _ _ _ _ _ _ (omega arith) c.requires.1 c.requires.2, refl)
 
-pub encode_list-encode_stmt-r-requires : goal.encode_list-encode_stmt-r-requires
-encode_list-encode_stmt-r-requires t c = (
-  omega (arith, c.requires.0, c.loop-left.invariant.0.ahead, list_here c.args.file.now c.args.shape c.requires.2),
+pub encode_list-encode_stmt-done-requires : goal.encode_list-encode_stmt-done-requires
+encode_list-encode_stmt-done-requires t c = (
+  omega (arith, c.requires.0, c.loop.invariant.0.ahead, list_here c.args.file.now c.args.shape c.requires.2),
   (
-    slotted_again c.requires.0 (c.requires.1 ∙ sym c.loop-left.invariant.0.size),
-    c.loop-left.invariant.0.size,
-    listing_here c.args.file.now c.args.shape c.loop-left.invariant.0 c.loop-left-test.true,
+    slotted_again c.requires.0 (c.requires.1 ∙ sym c.loop.invariant.0.size),
+    c.loop.invariant.0.size,
+    listing_here c.args.file.now c.args.shape c.loop.invariant.0 (omega arith),
   ),
 )
 
-pub encode_list-loop-left-preserved : goal.encode_list-loop-left-preserved
-encode_list-loop-left-preserved t c = (
-  listing_on c.args.file.now c.args.shape c.loop-left.invariant.0 c.loop-left-test.true _ c.encode_stmt-r.ensures,
+pub encode_list-loop-preserved : goal.encode_list-loop-preserved
+encode_list-loop-preserved t c = (
+  listing_next c.args.file.now c.args.shape c.loop.invariant.0 (omega arith) (omega arith) _ c.encode_stmt-done.ensures,
   omega arith,
 )
 
-pub encode_list-shape_of-buf : goal.encode_list-shape_of-buf
-encode_list-shape_of-buf t c = c.loop-left.invariant.1
-
 pub encode_list-returns : goal.encode_list-returns
 encode_list-returns t c =
-    listing_end c.args.file.now c.args.shape c.loop-left.invariant.0 c.loop-left-test.false
+    listing_end c.args.file.now c.args.shape c.loop.invariant.0 (omega arith)
 
 pub encode_stmt-bounds-file-at : goal.encode_stmt-bounds-file-at
 encode_stmt-bounds-file-at t c =
-    omega (arith, stmt_here c.args.file.now c.args.shape c.requires.2)
-
-pub encode_stmt-overflow_add-at : goal.encode_stmt-overflow_add-at
-encode_stmt-overflow_add-at t c =
     omega (arith, stmt_here c.args.file.now c.args.shape c.requires.2)
 
 pub encode_stmt-encode_assign-requires : goal.encode_stmt-encode_assign-requires
@@ -63,9 +56,6 @@ encode_stmt-returns-then-op-eq32 t c = (
 pub encode_stmt-overflow_sub-last : goal.encode_stmt-overflow_sub-last
 encode_stmt-overflow_sub-last t c = omega (arith, bits_some c.requires.0)
 
-pub encode_stmt-bounds-state-last : goal.encode_stmt-bounds-state-last
-encode_stmt-bounds-state-last t c = omega (arith, c.requires.0.few, c.requires.1)
-
 pub encode_stmt-overflow_add-at-2 : goal.encode_stmt-overflow_add-at-2
 encode_stmt-overflow_add-at-2 t c =
     omega (arith, stmt_here c.args.file.now c.args.shape c.requires.2)
@@ -73,10 +63,6 @@ encode_stmt-overflow_add-at-2 t c =
 pub encode_stmt-encode_bool-c-requires : goal.encode_stmt-encode_bool-c-requires
 encode_stmt-encode_bool-c-requires t c =
     (false, c.requires.0, if_test_here c.args.file.now c.args.shape c.requires.2 c.if-op-eq32.false)
-
-pub encode_stmt-bounds-state-last-2 : goal.encode_stmt-bounds-state-last-2
-encode_stmt-bounds-state-last-2 t c =
-    omega (arith, c.requires.0.few, c.requires.1)
 
 pub encode_stmt-encode_list-a-requires : goal.encode_stmt-encode_list-a-requires
 encode_stmt-encode_list-a-requires t c =
@@ -113,7 +99,7 @@ encode_stmt-returns t c =
     let x = c.encode_bool-c in
     let size = length-set state (shape.bits - 1) x.result.pen.mark in
     let marked = set state (shape.bits - 1) x.result.pen.mark in (
-      if_node file shape state marked _ _ _ x.result.lit c.args.pen (get_or state (shape.bits - 1) 0) x.result.pen c.if-op-eq32.false (mark_read false c.requires.0 (omega arith) false refl).1
+      if_node file shape state marked _ _ _ x.result.value c.args.pen (get_or state (shape.bits - 1) 0) x.result.pen c.if-op-eq32.false (mark_read false c.requires.0 (omega arith) false refl).1
           (mark_over file shape c.requires.0 c.requires.0.bits x.result.pen.mark) (x.ensures false) c.encode_list-a.ensures.0 c.encode_list-b.ensures.0
           (c.muxes-m.ensures.0 file c.requires.0.sum),
       c.muxes-m.ensures.1,

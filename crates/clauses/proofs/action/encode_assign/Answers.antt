@@ -57,7 +57,7 @@ bounds-state-o c =
 
 pub returns-then-k-eq1 : goal.returns-then-k-eq1
 returns-then-k-eq1 c =
-    let size : length c.encode_int-x.result.lits ≡ 16 = search rules in
+    let size : length c.encode_int-x.result.value ≡ 16 = search rules in
     let pre = c.requires in
     let file = c.args.file.now in
     let shape = c.args.shape in
@@ -65,8 +65,8 @@ returns-then-k-eq1 c =
     let wide = c.wide-v in
     let x = c.encode_int-x in
     let kind = subst (λ (v : ℕ). get_or file (3 * v) 0 ≡ 1) wide.ensures.0 c.if-k-eq1.true in (
-      assign_int_node file shape state _ c.args.pen (get_or state (shape.bits - 1) 0) (mark_read false pre.0 (omega arith) false refl).1 x.result.pen x.result.lits kind (x.ensures false)
-          (integer_marked file shape (get_or file c.args.at 0) wide.result c.offset-o.result wide.ensures.0 (assign_here file shape pre.2).1 c.offset-o.ensures pre.0 x.result.pen.mark x.result.lits _ kind
+      assign_int_node file shape state _ c.args.pen (get_or state (shape.bits - 1) 0) (mark_read false pre.0 (omega arith) false refl).1 x.result.pen x.result.value kind (x.ensures false)
+          (integer_marked file shape (get_or file c.args.at 0) wide.result c.offset-o.result wide.ensures.0 (assign_here file shape pre.2).1 c.offset-o.ensures pre.0 x.result.pen.mark x.result.value _ kind
           size c.store_word.ensures.0),
       c.store_word.ensures.1,
     )
@@ -80,7 +80,7 @@ returns-else-k-eq1 c =
     let wide = c.wide-v in
     let x = c.encode_bool-x in
     let kind = subst (λ (v : ℕ). get_or file (3 * v) 0 ≡ 1 → ⊥) wide.ensures.0 c.if-k-eq1.false in (
-      assign_flag_node file shape state _ c.args.pen (get_or state (shape.bits - 1) 0) (mark_read false pre.0 (omega arith) false refl).1 x.result.pen x.result.lit kind (x.ensures false)
-          (boolean_marked file shape (get_or file c.args.at 0) wide.result c.offset-o.result wide.ensures.0 (assign_here file shape pre.2).1 c.offset-o.ensures pre.0 x.result.pen.mark x.result.lit _ kind refl),
-      length-set (set state (shape.bits - 1) x.result.pen.mark) c.offset-o.result x.result.lit ∙ length-set state (shape.bits - 1) x.result.pen.mark ∙ pre.1,
+      assign_flag_node file shape state _ c.args.pen (get_or state (shape.bits - 1) 0) (mark_read false pre.0 (omega arith) false refl).1 x.result.pen x.result.value kind (x.ensures false)
+          (boolean_marked file shape (get_or file c.args.at 0) wide.result c.offset-o.result wide.ensures.0 (assign_here file shape pre.2).1 c.offset-o.ensures pre.0 x.result.pen.mark x.result.value _ kind refl),
+      length-set (set state (shape.bits - 1) x.result.pen.mark) c.offset-o.result x.result.value ∙ length-set state (shape.bits - 1) x.result.pen.mark ∙ pre.1,
     )

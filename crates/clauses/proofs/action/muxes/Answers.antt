@@ -12,30 +12,6 @@ loop-i-init c = (
   refl,
 )
 
-pub offset_bounds-state-i : goal.offset_bounds-state-i
-offset_bounds-state-i c = omega (arith, c.requires.0, c.loop-i-test.true)
-
-pub bounds-state-i : goal.bounds-state-i
-bounds-state-i c = omega (arith, c.requires.0, c.loop-i-test.true)
-
-pub offset_bounds-other-i : goal.offset_bounds-other-i
-offset_bounds-other-i c = omega (arith, c.requires.0, c.loop-i-test.true)
-
-pub bounds-other-i : goal.bounds-other-i
-bounds-other-i c = omega (arith, c.requires.0, c.loop-i-test.true)
-
-pub offset_bounds-state-i-in-loop-i : goal.offset_bounds-state-i-in-loop-i
-offset_bounds-state-i-in-loop-i c =
-    omega (arith, c.requires.0, c.loop-i-test.true)
-
-pub bounds-state-i-in-loop-i : goal.bounds-state-i-in-loop-i
-bounds-state-i-in-loop-i c =
-    omega (arith, c.requires.0, c.loop-i-test.true)
-
-pub overflow_add-i : goal.overflow_add-i
-overflow_add-i c =
-    omega (arith, c.requires.0, c.loop-i-test.true)
-
 pub loop-i-preserved : goal.loop-i-preserved
 loop-i-preserved c = (
   muxing_on c.args.shape.bits _ c.args.state.now c.args.other.now (omega (

@@ -1,8 +1,6 @@
+use Rattle.std.proofs.Common.{◌-◌}
 use Rattle.clauses.proofs.CellCounts.{Walking}
 use Rattle.clauses.proofs.cells.size_cells.Given as goal
 
-abbrev pub invariant-loop-left : goal.invariant-loop-left
-invariant-loop-left l = Walking l.file l.shape.bits l.invalid l.left l.sum
-
-abbrev pub decreases-loop-left : goal.decreases-loop-left
-decreases-loop-left l = l.left
+abbrev pub invariant-loop : goal.invariant-loop
+invariant-loop l = Walking l.file l.shape.bits l.invalid (l.end - l.counter) l.sum

@@ -1,10 +1,7 @@
-use Rattle.std.proofs.Common.{◌≡◌, ◌-◌, length}
+use Rattle.std.proofs.Common.{◌≡◌, length}
 use Rattle.clauses.specs.Writing.{from_code}
 use Rattle.clauses.proofs.EmitCircuits.{Chaining}
 use Rattle.clauses.proofs.circuit.chain.Given as goal
 
-abbrev pub invariant-loop-i : goal.invariant-loop-i
-invariant-loop-i l = Chaining l.x (from_code l.c) l.var l.initial.buf l.cur l.buf (from_code l.part) l.at l.g l.i × (length l.buf ≡ length l.initial.buf)
-
-abbrev pub decreases-loop-i : goal.decreases-loop-i
-decreases-loop-i l = 16 - l.i
+abbrev pub invariant-loop-l : goal.invariant-loop-l
+invariant-loop-l l = Chaining l.fn.x (from_code l.c) l.fn.pen.var l.initial.buf l.fn.pen.cur l.buf (from_code l.part.value) l.part.pen.cur l.part.pen.var l.l-index × (length l.buf ≡ length l.initial.buf)

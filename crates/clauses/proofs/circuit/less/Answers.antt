@@ -3,4 +3,4 @@ use Rattle.clauses.proofs.circuit.less.Goals as goal
 
 pub returns : goal.returns
 returns c =
-    less_emits _ _ _ _ _ _ _ c.negate_top-x.ensures c.negate_top-y.ensures c.negate-l.ensures c.difference-w.ensures
+    less_emits _ _ _ _ _ _ _ c.negate_top-x.ensures c.negate_top-y.ensures c.negate.ensures c.difference-w.ensures

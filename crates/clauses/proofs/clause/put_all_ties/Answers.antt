@@ -1,35 +1,19 @@
-use Rattle.std.proofs.Common.{refl, arith}
+use Rattle.std.proofs.Common.{◌≤◌, ◌<◌, length, refl, arith, length-take-le}
+use Rattle.std.proofs.lemmas.List.{get_or-take}
 use Rattle.clauses.proofs.EmitFrames.{tied_start, tied_on, tied_end}
 use Rattle.clauses.proofs.clause.put_all_ties.Goals as goal
 
-pub loop-i-init : goal.loop-i-init
-loop-i-init c = (tied_start _ _ _ _ _ _ _, refl)
+pub loop-first-init : goal.loop-first-init
+loop-first-init c = (tied_start _ _ _ _ _ _ _, refl)
 
-pub offset_bounds-firsts-i : goal.offset_bounds-firsts-i
-offset_bounds-firsts-i c = omega (arith, c.requires.0, c.loop-i-test.true)
-
-pub bounds-firsts-i : goal.bounds-firsts-i
-bounds-firsts-i c = omega (arith, c.requires.0, c.loop-i-test.true)
-
-pub put_ties-at-requires : goal.put_ties-at-requires
-put_ties-at-requires c = c.requires.1
-
-pub overflow_add-i : goal.overflow_add-i
-overflow_add-i c =
-    omega (arith, c.requires.0, c.loop-i-test.true)
-
-pub loop-i-preserved : goal.loop-i-preserved
-loop-i-preserved c = (
-  tied_on _ _ _ _ _ _ _ c.loop-i-test.true (omega (
-    arith,
-    c.requires.0,
-    c.requires.2,
-  )) c.loop-i.invariant.0 _ c.next-x.ensures c.put_ties-at.ensures,
-  omega arith,
-)
-
-pub shape_of-buf : goal.shape_of-buf
-shape_of-buf c = omega (arith, c.loop-i.invariant.1)
+pub loop-first-preserved : goal.loop-first-preserved
+loop-first-preserved c =
+    let few : c.args.all ≤ length c.args.firsts.now = omega (arith, c.requires.0, c.requires.2) in
+    let h : c.loop-first.first-index < c.args.all = omega (arith, c.loop-first-test.true, length-take-le c.args.all c.args.firsts.now few) in (
+      tied_on _ _ _ _ _ _ _ h few c.loop-first.invariant.0 _ c.next-x.ensures (rw (get_or-take c.args.all c.args.firsts.now c.loop-first.first-index 0 h) at c.put_ties-at.ensures),
+      omega arith,
+    )
 
 pub returns : goal.returns
-returns c = tied_end _ _ _ _ _ _ _ c.loop-i-test.false c.loop-i.invariant.0
+returns c =
+    tied_end _ _ _ _ _ _ _ (omega (arith, c.loop-first-test.false, length-take-le c.args.all c.args.firsts.now (omega (arith, c.requires.0, c.requires.2)))) c.loop-first.invariant.0

@@ -4,6 +4,3 @@ use Rattle.clauses.proofs.clause.put_pairs.Given as goal
 
 abbrev pub invariant-loop-left : goal.invariant-loop-left
 invariant-loop-left l = Pairing l.v l.n l.initial.buf l.cur l.buf l.at l.x l.left × (length l.buf ≡ length l.initial.buf)
-
-abbrev pub decreases-loop-left : goal.decreases-loop-left
-decreases-loop-left l = l.left

@@ -13,42 +13,39 @@ size_list-bounds-file-at t c = omega (arith, list_live _ _ _ _ _ c.requires.read
 pub size_list-overflow_add-at : goal.size_list-overflow_add-at
 size_list-overflow_add-at t c = omega (arith, list_live _ _ _ _ _ c.requires.readable)
 
-pub size_list-loop-left-init : goal.size_list-loop-left-init
-size_list-loop-left-init t c =
-    counting_start _ _ _ _ _ _ _ _ c.wide-left.ensures.0 c.requires.readable c.no_gates-sum.ensures
+pub size_list-loop-init : goal.size_list-loop-init
+size_list-loop-init t c =
+    counting_start _ _ _ _ _ _ _ _ (omega arith) c.requires.readable c.no_gates-sum.ensures
 
 pub size_list-size_stmt-x-requires : goal.size_list-size_stmt-x-requires
 size_list-size_stmt-x-requires t c = (
   omega (
     arith,
     list_live _ _ _ _ _ c.requires.readable,
-    c.loop-left.invariant.on,
+    c.loop.invariant.on,
     stmt_live _ _ _ _ _
-        (seq_first _ _ _ _ _ _ c.loop-left.invariant.live c.loop-left-test.true),
+        (seq_first _ _ _ _ _ _ c.loop.invariant.live (omega arith)),
   ),
   (
-    seq_first _ _ _ _ _ _ c.loop-left.invariant.live c.loop-left-test.true,
+    seq_first _ _ _ _ _ _ c.loop.invariant.live (omega arith),
     (omega arith, omega arith, omega arith, omega arith),
   ),
 )
 
 pub size_list-join-sum-requires : goal.size_list-join-sum-requires
 size_list-join-sum-requires t c =
-    let f = counting_few _ _ _ _ _ _ _ _ c.requires.in_bounds.1 c.requires.in_bounds.3 c.loop-left.invariant in let g = statement_few _ _ _
+    let f = counting_few _ _ _ _ _ _ _ _ c.requires.in_bounds.1 c.requires.in_bounds.3 c.loop.invariant in let g = statement_few _ _ _
     c.requires.in_bounds.1 _ c.requires.in_bounds.3 _ _ _ c.size_stmt-x.ensures in (omega (arith, f.ands, g.ands), omega (arith, f.wides, g.wides))
 
-pub size_list-loop-left-preserved : goal.size_list-loop-left-preserved
-size_list-loop-left-preserved t c =
-    counting_on _ _ _ _ _ _ _ _ _ _ c.loop-left-test.true c.loop-left.invariant c.size_stmt-x.ensures c.join-sum.ensures
+pub size_list-loop-preserved : goal.size_list-loop-preserved
+size_list-loop-preserved t c =
+    counting_on _ _ _ _ _ _ _ _ _ _ (omega arith) c.loop.invariant c.size_stmt-x.ensures c.join-sum.ensures _ (omega arith)
 
 pub size_list-returns : goal.size_list-returns
-size_list-returns t c = counting_end _ _ _ _ _ _ _ _ c.loop-left-test.false c.loop-left.invariant
+size_list-returns t c = counting_end _ _ _ _ _ _ _ _ (omega arith) c.loop.invariant
 
 pub size_stmt-bounds-file-at : goal.size_stmt-bounds-file-at
 size_stmt-bounds-file-at t c = omega (arith, stmt_live _ _ _ _ _ c.requires.readable)
-
-pub size_stmt-overflow_add-at : goal.size_stmt-overflow_add-at
-size_stmt-overflow_add-at t c = omega (arith, stmt_live _ _ _ _ _ c.requires.readable)
 
 pub size_stmt-size_assign-requires : goal.size_stmt-size_assign-requires
 size_stmt-size_assign-requires t c =
@@ -60,9 +57,6 @@ size_stmt-size_assign-requires t c =
 pub size_stmt-returns-then-op-eq32 : goal.size_stmt-returns-then-op-eq32
 size_stmt-returns-then-op-eq32 t c =
     stated_assign _ _ _ _ _ c.requires.readable _ c.if-op-eq32.true _ (c.size_assign.ensures _)
-
-pub size_stmt-overflow_add-at-in-32-to-33 : goal.size_stmt-overflow_add-at-in-32-to-33
-size_stmt-overflow_add-at-in-32-to-33 t c = omega (arith, stmt_live _ _ _ _ _ c.requires.readable)
 
 pub size_stmt-size_bool-c-requires : goal.size_stmt-size_bool-c-requires
 size_stmt-size_bool-c-requires t c =

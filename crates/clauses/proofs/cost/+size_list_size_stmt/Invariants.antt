@@ -9,8 +9,5 @@ decreases-size_list l = l.end - l.at
 abbrev pub decreases-size_stmt : goal.decreases-size_stmt
 decreases-size_stmt l = l.end - l.at
 
-abbrev pub invariant-size_list-loop-left : goal.invariant-size_list-loop-left
-invariant-size_list-loop-left l = Counting l.file (names_of l.file l.shape) l.end l.shape.bits l.nest l.at l.left l.sum
-
-abbrev pub decreases-size_list-loop-left : goal.decreases-size_list-loop-left
-decreases-size_list-loop-left l = l.left
+abbrev pub invariant-size_list-loop : goal.invariant-size_list-loop
+invariant-size_list-loop l = Counting l.file (names_of l.file l.shape) l.fn.end l.shape.bits l.nest l.at (l.end - l.counter) l.sum

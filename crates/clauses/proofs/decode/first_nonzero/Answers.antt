@@ -1,15 +1,10 @@
-use Rattle.clauses.proofs.FlagChoices.{passing_start, passing_on, passing_found, passing_end}
+use Rattle.std.proofs.Common.{◌∙◌, not, eqb, rules, tests}
+use Rattle.std.proofs.lemmas.Iterator.{YieldsList-from_slice}
+use Rattle.std.proofs.lemmas.Iterator.Search.{position_from_yields_List}
+use Rattle.clauses.proofs.FlagChoices.{first_place}
 use Rattle.clauses.proofs.decode.first_nonzero.Goals as goal
 
-pub loop-i-init : goal.loop-i-init
-loop-i-init c = passing_start _
-
-pub returns-then-flags-i-ne0 : goal.returns-then-flags-i-ne0
-returns-then-flags-i-ne0 c =
-    (passing_found _ _ c.loop-i-test.true c.loop-i.invariant c.if-flags-i-ne0.true, c.loop-i.invariant.inside)
-
-pub loop-i-preserved : goal.loop-i-preserved
-loop-i-preserved c = passing_on _ _ c.loop-i-test.true c.loop-i.invariant c.if-flags-i-ne0.false
-
 pub returns : goal.returns
-returns c = (passing_end _ _ c.loop-i-test.false c.loop-i.invariant, c.loop-i.invariant.inside)
+returns c =
+    position_from_yields_List (λ x. not (eqb x 0)) _ _ c.position.result c.position.ensures.ran (YieldsList-from_slice c.args.flags.now cc) (λ x b q k. search (rules, tests))
+    ∙ first_place c.args.flags.now

@@ -1,14 +1,11 @@
-use Rattle.clauses.proofs.FlagChoices.{zero_start, zero_on, zero_found, zero_end}
+use Rattle.std.proofs.Common.{◌∙◌, eqb, drop, arith, length-drop, rules, tests}
+use Rattle.std.proofs.lemmas.Iterator.{YieldsList-from_slice}
+use Rattle.std.proofs.lemmas.Iterator.Search.{all_from_yields_List}
+use Rattle.clauses.proofs.EmitLists.{take_all}
+use Rattle.clauses.proofs.FlagChoices.{all_zeros}
 use Rattle.clauses.proofs.decode.rest_zero.Goals as goal
 
-pub loop-i-init : goal.loop-i-init
-loop-i-init c = zero_start _ _ c.requires
-
-pub returns-then-flags-i-ne0 : goal.returns-then-flags-i-ne0
-returns-then-flags-i-ne0 c = zero_found _ _ c.loop-i-test.true _ c.loop-i.invariant c.if-flags-i-ne0.true
-
-pub loop-i-preserved : goal.loop-i-preserved
-loop-i-preserved c = zero_on _ _ c.loop-i-test.true _ c.loop-i.invariant c.if-flags-i-ne0.false
-
 pub returns : goal.returns
-returns c = zero_end _ _ _ c.loop-i-test.false c.loop-i.invariant
+returns c =
+    let rest = drop c.args.from c.args.flags.now in
+    all_from_yields_List (λ x. eqb x 0) _ _ c.all.result c.all.ensures.ran (YieldsList-from_slice rest (c.iter.ensures.rest ∙ take_all rest _ (omega (arith, length-drop c.args.from c.args.flags.now)))) (λ x b q k. search (rules, tests)) ∙ all_zeros rest

@@ -1,9 +1,5 @@
-use Rattle.std.proofs.Common.{◌-◌}
 use Rattle.clauses.proofs.FlagChoices.{Writing}
 use Rattle.clauses.proofs.decode.write_choices.Given as goal
 
-abbrev pub invariant-loop-j : goal.invariant-loop-j
-invariant-loop-j l = Writing l.values l.size l.w l.k l.base l.initial.choices l.at l.j l.choices
-
-abbrev pub decreases-loop-j : goal.decreases-loop-j
-decreases-loop-j l = l.k - l.j
+abbrev pub invariant-loop-choice : goal.invariant-loop-choice
+invariant-loop-choice l = Writing l.values l.size l.w l.k l.base l.at l.choice-index l.choice-items

@@ -7,22 +7,21 @@ pub sizes-s-requires : goal.sizes-s-requires
 sizes-s-requires c = (writable_accepted c.requires, c.requires.right)
 
 pub index_events-requires : goal.index_events-requires
-index_events-requires c = (writable_accepted c.requires, search rules)
+index_events-requires c = writable_accepted c.requires
 
-pub index_cells-requires : goal.index_cells-requires
-index_cells-requires c = (writable_accepted c.requires, search rules)
-
-pub shape-shape-requires : goal.shape-shape-requires
-shape-shape-requires c = writable_accepted c.requires
+pub instance-inst-requires : goal.instance-inst-requires
+instance-inst-requires c = writable_accepted c.requires
 
 pub put_parts-words-requires : goal.put_parts-words-requires
-put_parts-words-requires c = (
-  formula_ready _ (writable_admitted c.requires (λ i. omega (arith, c.shared_slice_known-1.given i)) c.sizes-s.ensures.0 c.sizes-s.ensures.1)
-      (λ i. omega (arith, c.shared_slice_known-1.given i)) c.index_events.ensures c.index_cells.ensures c.shape-shape.ensures,
-  c.requires.right,
-)
+put_parts-words-requires c =
+    let z = c.instance-inst.ensures in
+    rw z.asked (
+      formula_ready _ (writable_admitted c.requires (λ i. omega (arith, c.shared_slice_known-1.given i)) c.sizes-s.ensures.0 c.sizes-s.ensures.1)
+          (λ i. omega (arith, c.shared_slice_known-1.given i)) c.index_events.ensures z.indexed z.measured,
+      c.requires.right,
+    )
 
 pub returns : goal.returns
 returns c =
     formula_written _ _ _ _ _ _ _ _ _ c.requires (λ i. omega (arith, c.shared_slice_known-1.given i)) c.sizes-s.ensures.1
-    c.put_parts-words.ensures c.variables.ensures.0
+    (rw c.instance-inst.ensures.asked at c.put_parts-words.ensures) c.variables.ensures.0

@@ -30,15 +30,6 @@ bool_leaf-requires-then-op-gt22 t c = (c.requires, inr c.if-op-gt22.true)
 pub returns-then-op-gt22 : goal.returns-then-op-gt22
 returns-then-op-gt22 t c = λ later. c.bool_leaf-then-op-gt22.ensures later _
 
-pub overflow_add-at : goal.overflow_add-at
-overflow_add-at t c =
-    let text = c.args.text.now in
-    let file = c.args.file.now in
-    let shape = c.args.shape in
-    let at = c.args.at in
-    let (later, slots, here) = c.requires in
-    omega (arith, bool_byte text file shape later at here)
-
 pub encode_bool-a-requires : goal.encode_bool-a-requires
 encode_bool-a-requires t c =
     let text = c.args.text.now in
@@ -64,16 +55,7 @@ returns-then-op-eq18 t c =
     let at = c.args.at in
     λ later. only_node (bools_at text file shape later) (bools_at text file shape later) (bool_gates text file shape later bits) (bool_gates text file shape later bits) not_b
     (not_one text file shape later at c.if-op-eq18.true) negate (not_tree (layout_of shape) (read_slots later file shape bits)) c.args.pen _ _ _
-    (c.encode_bool-a.ensures later) c.negate-l.ensures
-
-pub overflow_add-at-then-op-lt21 : goal.overflow_add-at-then-op-lt21
-overflow_add-at-then-op-lt21 t c =
-    let text = c.args.text.now in
-    let file = c.args.file.now in
-    let shape = c.args.shape in
-    let at = c.args.at in
-    let (later, slots, here) = c.requires in
-    omega (arith, bool_byte text file shape later at here)
+    (c.encode_bool-a.ensures later) c.negate.ensures
 
 pub encode_bool-a-requires-then-op-lt21 : goal.encode_bool-a-requires-then-op-lt21
 encode_bool-a-requires-then-op-lt21 t c =

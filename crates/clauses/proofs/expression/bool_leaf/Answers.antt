@@ -1,4 +1,4 @@
-use Rattle.std.proofs.Common.{◌+◌, ltb, get_or, refl, arith}
+use Rattle.std.proofs.Common.{ltb, get_or, refl, arith}
 use Rattle.clauses.proofs.EmitExpressions.{bool_byte, truth_here, flag_is, flag_inside, flag_here, truth_leaf, flag_leaf}
 use Rattle.clauses.proofs.expression.bool_leaf.Goals as goal
 
@@ -11,29 +11,8 @@ bounds-text-at c =
     let (later, slots, here) = c.requires.0 in
     omega (arith, bool_byte text file shape later at here)
 
-pub overflow_add-at : goal.overflow_add-at
-overflow_add-at c =
-    let text = c.args.text.now in
-    let file = c.args.file.now in
-    let shape = c.args.shape in
-    let at = c.args.at in
-    let (later, slots, here) = c.requires.0 in
-    omega (arith, truth_here text file shape later at here c.if-op-eq16.true)
-
 pub bounds-text-at-then-op-eq16 : goal.bounds-text-at-then-op-eq16
 bounds-text-at-then-op-eq16 c =
-    let text = c.args.text.now in
-    let file = c.args.file.now in
-    let shape = c.args.shape in
-    let at = c.args.at in
-    let (later, slots, here) = c.requires.0 in
-    omega (arith, truth_here text file shape later at here c.if-op-eq16.true)
-
-pub overflow_cast-text : goal.overflow_cast-text
-overflow_cast-text c = omega (arith, c.shared_slice_known-1.given (c.args.at + 1))
-
-pub overflow_add-result : goal.overflow_add-result
-overflow_add-result c =
     let text = c.args.text.now in
     let file = c.args.file.now in
     let shape = c.args.shape in
@@ -47,7 +26,7 @@ returns-then-op-eq16 c =
     let file = c.args.file.now in
     let shape = c.args.shape in
     let at = c.args.at in
-    λ later xs. truth_leaf text file shape later at c.args.bits.now c.if-op-eq16.true c.truth_code-l.ensures refl
+    λ later xs. truth_leaf text file shape later at c.args.bits.now c.if-op-eq16.true c.truth_code.ensures refl
 
 pub overflow_add-at-2 : goal.overflow_add-at-2
 overflow_add-at-2 c =
@@ -67,8 +46,8 @@ bounds-text-at-2 c =
     let (later, slots, here) = c.requires.0 in
     omega (arith, flag_inside text file shape later at here c.requires.1 c.if-op-eq16.false)
 
-pub load_flag-l-requires : goal.load_flag-l-requires
-load_flag-l-requires c =
+pub load_flag-requires : goal.load_flag-requires
+load_flag-requires c =
     let text = c.args.text.now in
     let file = c.args.file.now in
     let shape = c.args.shape in
@@ -93,4 +72,4 @@ returns c =
     let at = c.args.at in
     let h = c.requires.0 in
     λ later xs. flag_leaf text file shape later at c.args.bits.now (ltb 0x16 (get_or text at 0)) c.wide.ensures.0 refl (flag_is text file shape h.0
-    at h.2 c.requires.1 c.if-op-eq16.false) (c.load_flag-l.ensures later)
+    at h.2 c.requires.1 c.if-op-eq16.false) (c.load_flag.ensures later)

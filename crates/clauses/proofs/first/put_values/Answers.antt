@@ -6,29 +6,8 @@ use Rattle.clauses.proofs.first.put_values.Goals as goal
 pub loop-v-init : goal.loop-v-init
 loop-v-init c = (valuing_start _ _ _ _, refl)
 
-pub overflow_mul-v : goal.overflow_mul-v
-overflow_mul-v c =
-    omega (
-      arith,
-      (values_inside c.args.file.now c.requires.accepted c.args.shape.variables c.requires.counts.variables c.loop-v.v c.loop-v-test.true),
-    )
-
 pub bounds-file-v : goal.bounds-file-v
 bounds-file-v c =
-    omega (
-      arith,
-      (values_inside c.args.file.now c.requires.accepted c.args.shape.variables c.requires.counts.variables c.loop-v.v c.loop-v-test.true),
-    )
-
-pub overflow_mul-v-in-loop-v : goal.overflow_mul-v-in-loop-v
-overflow_mul-v-in-loop-v c =
-    omega (
-      arith,
-      (values_inside c.args.file.now c.requires.accepted c.args.shape.variables c.requires.counts.variables c.loop-v.v c.loop-v-test.true),
-    )
-
-pub overflow_add-v : goal.overflow_add-v
-overflow_add-v c =
     omega (
       arith,
       (values_inside c.args.file.now c.requires.accepted c.args.shape.variables c.requires.counts.variables c.loop-v.v c.loop-v-test.true),
@@ -45,36 +24,12 @@ put_units-at-requires c =
       width_bound c.args.file.now c.loop-v.v c.width-n.result c.width-n.ensures,
     )
 
-pub overflow_cast-x : goal.overflow_cast-x
-overflow_cast-x c =
-    omega (arith, width_bound c.args.file.now c.loop-v.v c.width-n.result c.width-n.ensures)
-
-pub overflow_add-x : goal.overflow_add-x
-overflow_add-x c =
-    omega (
-      arith,
-      width_bound c.args.file.now c.loop-v.v c.width-n.result c.width-n.ensures,
-      c.loop-v.invariant.0.small,
-      (values_inside c.args.file.now c.requires.accepted c.args.shape.variables c.requires.counts.variables c.loop-v.v
-          c.loop-v-test.true),
-    )
-
-pub overflow_add-v-in-loop-v : goal.overflow_add-v-in-loop-v
-overflow_add-v-in-loop-v c =
-    omega (
-      arith,
-      (values_inside c.args.file.now c.requires.accepted c.args.shape.variables c.requires.counts.variables c.loop-v.v c.loop-v-test.true),
-    )
-
 pub loop-v-preserved : goal.loop-v-preserved
 loop-v-preserved c = (
   valuing_on c.args.file.now c.requires.accepted c.args.shape.variables c.requires.counts.variables c.loop-v-test.true c.loop-v.invariant.0
       _ _ _ c.width-n.ensures c.word-value.ensures.0 refl c.put_units-at.ensures,
   omega arith,
 )
-
-pub shape_of-buf : goal.shape_of-buf
-shape_of-buf c = omega (arith, c.loop-v.invariant.1)
 
 pub returns : goal.returns
 returns c =

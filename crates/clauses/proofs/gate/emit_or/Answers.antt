@@ -3,4 +3,4 @@ use Rattle.clauses.proofs.gate.emit_or.Goals as goal
 
 pub returns : goal.returns
 returns c =
-    or_emits _ _ _ _ _ _ _ c.negate-na.ensures c.negate-nb.ensures c.negate-l.ensures c.emit_and-x.ensures
+    or_emits _ _ _ _ _ _ _ c.negate-na.ensures c.negate-nb.ensures c.negate.ensures c.emit_and-x.ensures

@@ -3,4 +3,4 @@ use Rattle.clauses.proofs.gate.emit_xor.Goals as goal
 
 pub returns : goal.returns
 returns c =
-    xor_emits _ _ _ _ _ _ _ c.positive-g.ensures c.next-v.ensures c.negate-ng.ensures c.negate-na.ensures c.negate-nb.ensures c.clause3-p.ensures c.clause3-q.ensures c.clause3-s.ensures c.clause3-t.ensures
+    xor_emits _ _ _ _ _ _ _ c.positive-g.ensures c.next.ensures c.negate-ng.ensures c.negate-na.ensures c.negate-nb.ensures c.clause3-p.ensures c.clause3-q.ensures c.clause3-s.ensures c.clause3-t.ensures

@@ -3,58 +3,30 @@ use Rattle.clauses.proofs.FrameNumbers.{start_low}
 use Rattle.clauses.proofs.EmitParts.{closing_start, closing_on, closing_end}
 use Rattle.clauses.proofs.last.put_last.Goals as goal
 
-pub overflow_add-frames : goal.overflow_add-frames
-overflow_add-frames c = let small = c.requires.2 in omega (arith, small.sizes.last, small.bound)
-
 pub frame_length-stride-requires : goal.frame_length-stride-requires
 frame_length-stride-requires c = c.requires.2.sizes
 
-pub overflow_cast-stride : goal.overflow_cast-stride
-overflow_cast-stride c = omega (arith, c.frame_length-stride.ensures.1)
-
-pub loop-j-init : goal.loop-j-init
-loop-j-init c = (closing_start _ _ _ _ _ _ _, refl)
+pub loop-init : goal.loop-init
+loop-init c = (closing_start _ _ _ _ _ _ _, refl)
 
 pub property_literal-l-requires : goal.property_literal-l-requires
 property_literal-l-requires c =
     let small = c.requires.2 in (
       c.requires.0,
       c.requires.1,
-      start_low small _ _ _ (omega (arith, small.sizes.last, c.loop-j-test.true)) c.frame_length-stride.ensures.0 c.loop-j.invariant.0.start,
+      start_low small _ _ _ (omega (arith, small.sizes.last, c.loop-test.true)) c.frame_length-stride.ensures.0 c.loop.invariant.0.start,
       omega (arith, c.frame_length-stride.ensures.1),
     )
 
-pub overflow_add-x : goal.overflow_add-x
-overflow_add-x c =
-    let small = c.requires.2 in omega (
-      arith,
-      start_low small _ _ _ (omega (
-        arith,
-        small.sizes.last,
-        c.loop-j-test.true,
-      )) c.frame_length-stride.ensures.0 c.loop-j.invariant.0.start,
-      c.frame_length-stride.ensures.1,
-    )
-
-pub overflow_add-j : goal.overflow_add-j
-overflow_add-j c =
-    let small = c.requires.2 in omega (arith, small.sizes.last, small.bound, c.loop-j-test.true)
-
-pub loop-j-smaller : goal.loop-j-smaller
-loop-j-smaller c = omega (arith, c.loop-j-test.true)
-
-pub loop-j-preserved : goal.loop-j-preserved
-loop-j-preserved c = (
+pub loop-preserved : goal.loop-preserved
+loop-preserved c = (
   closing_on c.args.file.now _ _ _ _ _ _
-      c.loop-j-test.true c.loop-j.invariant.0 _ _ _ refl c.property_literal-l.ensures c.negate.ensures c.put_literal-at.ensures,
+      c.loop-test.true c.loop.invariant.0 _ _ _ refl c.property_literal-l.ensures c.negate.ensures c.put_literal-at.ensures,
   omega
       arith,
 )
 
-pub shape_of-buf : goal.shape_of-buf
-shape_of-buf c = omega (arith, c.loop-j.invariant.1)
-
 pub returns : goal.returns
 returns c =
-    closing_end _ _ _ _ _ _ _ c.loop-j-test.false c.loop-j.invariant.0 c.put_end.ensures
+    closing_end _ _ _ _ _ _ _ c.loop-test.false c.loop.invariant.0 c.put_end.ensures
     (λ i. omega (arith, c.shared_slice_known-1.given i)) c.requires.2 c.frame_length-stride.ensures.0 refl

@@ -13,4 +13,4 @@ returns-then-c-eq-MINUS_ONE c = largest_one _ c.if-c-eq-MINUS_ONE.true
 
 pub returns : goal.returns
 returns c =
-    largest_high _ _ _ c.if-c-lt-LEAST.false c.ranges.c.fits c.if-c-eq-MINUS_ONE.false (omega (arith, c.wrapping_sub_u16.type_inv)) c.wrapping_sub_u16.ensures.value refl
+    largest_high _ _ _ c.if-c-lt-LEAST.false c.ranges.c.fits c.if-c-eq-MINUS_ONE.false (omega (arith, c.wrapping_neg.type_inv)) c.wrapping_neg.ensures refl

@@ -6,8 +6,8 @@ pub returns-then-c-eq0 : goal.returns-then-c-eq0
 returns-then-c-eq0 c = least_none _ c.if-c-eq0.true
 
 pub returns-then-c-lt-LEAST : goal.returns-then-c-lt-LEAST
-returns-then-c-lt-LEAST c = least_low _ _ _ c.if-c-eq0.false c.if-c-lt-LEAST.true refl (omega (arith, c.wrapping_sub_u16.type_inv)) c.wrapping_sub_u16.ensures.value
+returns-then-c-lt-LEAST c = least_low _ _ _ c.if-c-eq0.false c.if-c-lt-LEAST.true refl (omega (arith, c.wrapping_neg.type_inv)) c.wrapping_neg.ensures
 
 pub returns : goal.returns
 returns c =
-    least_high _ _ _ _ c.if-c-lt-LEAST.false c.ranges.c.fits (omega (arith, c.wrapping_sub_u16-2.type_inv)) c.wrapping_sub_u16-2.ensures.value refl (omega (arith, c.wrapping_sub_u16-3.type_inv)) c.wrapping_sub_u16-3.ensures.value
+    least_high _ _ _ _ c.if-c-lt-LEAST.false c.ranges.c.fits (omega (arith, c.wrapping_neg-2.type_inv)) c.wrapping_neg-2.ensures refl (omega (arith, c.wrapping_neg-3.type_inv)) c.wrapping_neg-3.ensures

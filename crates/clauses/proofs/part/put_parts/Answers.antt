@@ -5,22 +5,13 @@ use Rattle.clauses.proofs.part.put_parts.Goals as goal
 pub loop-i-init : goal.loop-i-init
 loop-i-init c = parts_start _ _ _ _ _ _
 
-pub overflow_add-k : goal.overflow_add-k
-overflow_add-k c = omega (arith, c.requires.0.small.bound)
-
 pub put_part-at-requires : goal.put_part-at-requires
 put_part-at-requires c =
     (c.requires.0, c.requires.1, omega (arith, c.loop-i-test.true))
 
-pub overflow_add-i : goal.overflow_add-i
-overflow_add-i c = omega (arith, c.loop-i-test.true, c.requires.0.small.bound)
-
 pub loop-i-preserved : goal.loop-i-preserved
 loop-i-preserved c =
     parts_on _ _ _ _ _ _ c.loop-i-test.true c.loop-i.invariant (omega arith) c.put_part-at.ensures
-
-pub shape_of-buf : goal.shape_of-buf
-shape_of-buf c = c.loop-i.invariant.long
 
 pub returns : goal.returns
 returns c = parts_end _ _ _ _ _ _ c.loop-i-test.false c.loop-i.invariant

@@ -1,14 +1,7 @@
-use Rattle.std.proofs.Common.{sym, ◌∙◌, arith}
+use Rattle.std.proofs.Common.{sym, ◌∙◌}
 use Rattle.clauses.specs.FlatState.{slots_of, layout_of}
-use Rattle.clauses.proofs.CellCounts.{sizes}
 use Rattle.clauses.proofs.EmitSteps.{link_pass, link_emits}
 use Rattle.clauses.proofs.property.encode_link.Goals as goal
-
-pub overflow_add-p : goal.overflow_add-p
-overflow_add-p c = omega (arith, c.requires.2.header, sizes c.requires.0.shaped)
-
-pub bounds-file-p : goal.bounds-file-p
-bounds-file-p c = omega (arith, c.requires.2.header, sizes c.requires.0.shaped)
 
 pub returns-then-kind-eq0 : goal.returns-then-kind-eq0
 returns-then-kind-eq0 c =
@@ -21,4 +14,4 @@ status_and_event-a-requires c = c.requires
 pub returns : goal.returns
 returns c =
     λ d w. link_emits (layout_of c.args.shape) (slots_of c.args.file.now c.args.shape c.args.bits.now) _ _ _ _ _ _ _ (λ e.
-    c.if-kind-eq0.false (c.wide-kind.ensures.0 ∙ e)) c.negate-n.ensures (c.status_and_event-a.ensures d w) c.emit_and.ensures
+    c.if-kind-eq0.false (c.wide-kind.ensures.0 ∙ e)) c.negate.ensures (c.status_and_event-a.ensures d w) c.emit_and.ensures

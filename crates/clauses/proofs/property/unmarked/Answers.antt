@@ -7,4 +7,4 @@ use Rattle.clauses.proofs.property.unmarked.Goals as goal
 
 pub returns : goal.returns
 returns c =
-    emits_same _ _ (ap (λ (l : Literal). and! (from_code c.args.x.lit) l c.args.x.var) c.negate.ensures) c.emit_and.ensures
+    emits_same _ _ (ap (λ (l : Literal). and! (from_code c.args.x.value) l c.args.x.pen.var) c.negate.ensures) c.emit_and.ensures

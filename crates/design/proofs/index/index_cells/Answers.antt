@@ -6,20 +6,20 @@ use Rattle.design.proofs.index.index_cells.Goals as goal
 use Rattle.design.proofs.index.index_cells.Goals.{then-file-p, else-file-p}
 
 pub trailer_word-count-requires : goal.trailer_word-count-requires
-trailer_word-count-requires c = omega (arith, (bounds _ c.requires.0).long)
+trailer_word-count-requires c = omega (arith, (bounds _ c.requires).long)
 
 pub trailer_word-p-requires : goal.trailer_word-p-requires
-trailer_word-p-requires c = omega (arith, (bounds _ c.requires.0).long)
+trailer_word-p-requires c = omega (arith, (bounds _ c.requires).long)
 
 pub loop-init : goal.loop-init
-loop-init c = (c.trailer_word-count.ensures.0, cells_start _ _ _ c.trailer_word-p.ensures.0 c.requires.1)
+loop-init c = (c.trailer_word-count.ensures.0, cells_start _ _ _ c.trailer_word-p.ensures.0 (omega arith))
 
 pub overflow_add-p : goal.overflow_add-p
 overflow_add-p c =
     omega (
       arith,
-      (bounds _ c.requires.0).short,
-      (cell_here _ c.requires.0 _ _
+      (bounds _ c.requires).short,
+      (cell_here _ c.requires _ _
           _ _ c.loop.invariant.1 (omega arith)).0,
     )
 
@@ -27,23 +27,23 @@ pub bounds-file-p : goal.bounds-file-p
 bounds-file-p c =
     omega (
       arith,
-      (bounds _ c.requires.0).long,
-      (cell_here _ c.requires.0 _ _ _ _ c.loop.invariant.1 (omega arith)).0,
+      (bounds _ c.requires).long,
+      (cell_here _ c.requires _ _ _ _ c.loop.invariant.1 (omega arith)).0,
     )
 
 pub overflow_cast-table : goal.overflow_cast-table
 overflow_cast-table c =
     omega (
       arith,
-      (bounds _ c.requires.0).short,
-      (cell_here _ c.requires.0 _ _ _ _ c.loop.invariant.1 (omega arith)).0,
+      (bounds _ c.requires).short,
+      (cell_here _ c.requires _ _ _ _ c.loop.invariant.1 (omega arith)).0,
     )
 
 pub offset_bounds-table-normals : goal.offset_bounds-table-normals
 offset_bounds-table-normals c =
     omega (
       arith,
-      cells_room _ c.requires.0 _ _ _ _ c.loop.invariant.1
+      cells_room _ c.requires _ _ _ _ c.loop.invariant.1
           (omega arith) c.if-file-p.true,
     )
 
@@ -51,7 +51,7 @@ pub bounds-table-normals : goal.bounds-table-normals
 bounds-table-normals c =
     omega (
       arith,
-      cells_room _ c.requires.0 _ _ _ _ c.loop.invariant.1
+      cells_room _ c.requires _ _ _ _ c.loop.invariant.1
           (omega arith) c.if-file-p.true,
     )
 
@@ -59,7 +59,7 @@ pub overflow_add-normals : goal.overflow_add-normals
 overflow_add-normals c =
     omega (
       arith,
-      cells_room _ c.requires.0 _ _ _ _ c.loop.invariant.1
+      cells_room _ c.requires _ _ _ _ c.loop.invariant.1
           (omega arith) c.if-file-p.true,
     )
 
@@ -67,24 +67,24 @@ pub overflow_add-p-in-loop : goal.overflow_add-p-in-loop
 overflow_add-p-in-loop c =
     omega (
       arith,
-      (bounds _ c.requires.0).short,
-      (cell_here _ c.requires.0 _ _ _ _ c.loop.invariant.1 (omega arith)).0,
+      (bounds _ c.requires).short,
+      (cell_here _ c.requires _ _ _ _ c.loop.invariant.1 (omega arith)).0,
     )
 
 pub overflow_add-p-in-loop-2 : goal.overflow_add-p-in-loop-2
 overflow_add-p-in-loop-2 c =
     omega (
       arith,
-      (bounds _ c.requires.0).short,
-      (cell_here _ c.requires.0 _ _ _ _ c.loop.invariant.1 (omega arith)).0,
+      (bounds _ c.requires).short,
+      (cell_here _ c.requires _ _ _ _ c.loop.invariant.1 (omega arith)).0,
     )
 
 pub bounds-file-p-in-loop : goal.bounds-file-p-in-loop
 bounds-file-p-in-loop c =
     omega (
       arith,
-      (bounds _ c.requires.0).long,
-      (cell_here _ c.requires.0 _ _ _ _ c.loop.invariant.1 (omega arith)).0,
+      (bounds _ c.requires).long,
+      (cell_here _ c.requires _ _ _ _ c.loop.invariant.1 (omega arith)).0,
     )
 
 pub overflow_add-p-in-loop-3 : goal.overflow_add-p-in-loop-3
@@ -92,16 +92,16 @@ overflow_add-p-in-loop-3 c =
     omega (
       arith,
       c.wide.ensures.1,
-      (bounds _ c.requires.0).short,
-      (cell_here _ c.requires.0 _ _ _ _ c.loop.invariant.1 (omega arith)).0,
+      (bounds _ c.requires).short,
+      (cell_here _ c.requires _ _ _ _ c.loop.invariant.1 (omega arith)).0,
     )
 
 pub overflow_add-p-in-loop-4 : goal.overflow_add-p-in-loop-4
 overflow_add-p-in-loop-4 c =
     omega (
       arith,
-      (bounds _ c.requires.0).short,
-      (cell_here _ c.requires.0 _ _ _ _ c.loop.invariant.1 (omega
+      (bounds _ c.requires).short,
+      (cell_here _ c.requires _ _ _ _ c.loop.invariant.1 (omega
           arith)).0,
     )
 
@@ -109,8 +109,8 @@ pub word-requires : goal.word-requires
 word-requires c =
     omega (
       arith,
-      (bounds _ c.requires.0).long,
-      (cell_here _ c.requires.0 _ _ _ _ c.loop.invariant.1 (omega
+      (bounds _ c.requires).long,
+      (cell_here _ c.requires _ _ _ _ c.loop.invariant.1 (omega
           arith)).0,
     )
 
@@ -120,8 +120,8 @@ overflow_add-p-in-loop-5 c =
       arith,
       c.wide.ensures.1,
       c.word.ensures.1,
-      (bounds _ c.requires.0).short,
-      (cell_here _ c.requires.0 _ _ _ _ c.loop.invariant.1 (omega arith)).0,
+      (bounds _ c.requires).short,
+      (cell_here _ c.requires _ _ _ _ c.loop.invariant.1 (omega arith)).0,
     )
 
 pub loop-preserved : goal.loop-preserved
@@ -130,11 +130,11 @@ loop-preserved c =
     elim c.if-file-p.branch [
       | then-file-p w ↦ (
         c.loop.invariant.0,
-        cells_normal _ c.requires.0 _ _ _ _ c.loop.invariant.1 (omega arith) w.if-file-p.true _ _ _ q w.normals-is w.table-is,
+        cells_normal _ c.requires _ _ _ _ c.loop.invariant.1 (omega arith) w.if-file-p.true _ _ _ q w.normals-is w.table-is,
       )
       | else-file-p w ↦ (
         c.loop.invariant.0,
-        cells_invalid _ c.requires.0 _ _ _ _ c.loop.invariant.1 (omega arith) w.if-file-p.false _ _ _ q w.normals-is w.table-is,
+        cells_invalid _ c.requires _ _ _ _ c.loop.invariant.1 (omega arith) w.if-file-p.false _ _ _ q w.normals-is w.table-is,
       )
     ]
 

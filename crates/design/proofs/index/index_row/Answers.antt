@@ -6,20 +6,20 @@ use Rattle.design.proofs.Tables.{row_start, row_on}
 use Rattle.design.proofs.index.index_row.Goals as goal
 
 pub loop-i-init : goal.loop-i-init
-loop-i-init c = (omega arith, row_start _ _ _ _ c.requires.3)
+loop-i-init c = (omega arith, row_start _ _ _ _ (omega arith))
 
 pub overflow_cast-table : goal.overflow_cast-table
-overflow_cast-table c = omega (arith, c.loop-i.invariant.1.here, c.requires.4 c.loop-i.i c.loop-i-test.true)
+overflow_cast-table c = omega (arith, c.loop-i.invariant.1.here, c.requires.3 c.loop-i.i c.loop-i-test.true)
 
 pub overflow_add-p : goal.overflow_add-p
-overflow_add-p c = omega (arith, c.loop-i.invariant.1.here, c.requires.4 c.loop-i.i c.loop-i-test.true)
+overflow_add-p c = omega (arith, c.loop-i.invariant.1.here, c.requires.3 c.loop-i.i c.loop-i-test.true)
 
 pub bounds-file-p : goal.bounds-file-p
 bounds-file-p c =
     omega (
       arith,
       c.loop-i.invariant.1.here,
-      c.requires.4 c.loop-i.i c.loop-i-test.true,
+      c.requires.3 c.loop-i.i c.loop-i-test.true,
     )
 
 pub overflow_add-p-in-loop-i : goal.overflow_add-p-in-loop-i
@@ -28,7 +28,7 @@ overflow_add-p-in-loop-i c =
       arith,
       c.wide.ensures.1,
       c.loop-i.invariant.1.here,
-      c.requires.4 c.loop-i.i c.loop-i-test.true,
+      c.requires.3 c.loop-i.i c.loop-i-test.true,
     )
 
 pub loop-i-preserved : goal.loop-i-preserved
@@ -41,5 +41,4 @@ returns c =
       (λ j l. c.loop-i.invariant.1.filled j (omega
           arith)),
       c.loop-i.invariant.1.kept,
-      c.loop-i.invariant.1.size,
     )

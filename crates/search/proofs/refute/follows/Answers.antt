@@ -1,27 +1,16 @@
-use mathlib.Core.Path.{sym}
-use lib.Seq.{length-take-le}
-use Rattle.search.proofs.Refuting.{deny_ready, follows_both, reaches_ready, follows_reached}
+use Rattle.search.proofs.Refuting.{deny_ready, follows_both, follows_reached}
 use Rattle.search.proofs.refute.follows.Goals as goal
 
 pub deny-requires : goal.deny-requires
 deny-requires c =
-    deny_ready c.requires.0 c.requires.1 c.requires.2 c.fill8.ensures
+    deny_ready c.requires.0 c.requires.1 c.requires.2 (c.fill.ensures.after (λ y e. e))
 
 pub returns-then-deny : goal.returns-then-deny
 returns-then-deny c =
-    follows_both c.requires.0 c.requires.1 c.requires.2 c.fill8.ensures c.deny.new.values c.deny.auto.values c.deny.result c.deny.ensures c.if-deny.true
-
-pub slice_bounds-reaches-end : goal.slice_bounds-reaches-end
-slice_bounds-reaches-end c =
-    sym (length-take-le c.args.at c.args.refutation.now c.requires.1.low)
-
-pub reaches-requires : goal.reaches-requires
-reaches-requires c =
-    reaches_ready c.requires.0 c.requires.1 c.requires.2 c.fill8.ensures c.deny.new.values c.deny.auto.values
-    c.deny.result c.deny.ensures
+    follows_both c.requires.0 c.requires.1 c.requires.2 (c.fill.ensures.after (λ y e. e)) c.deny.new.values c.deny.auto.values c.deny.result c.deny.ensures c.if-deny.true
 
 pub returns : goal.returns
 returns c =
-    follows_reached c.requires.0 c.requires.1 c.requires.2 c.fill8.ensures c.deny.new.values c.deny.auto.values
+    follows_reached c.requires.0 c.requires.1 c.requires.2 (c.fill.ensures.after (λ y e. e)) c.deny.new.values c.deny.auto.values
     c.deny.result c.deny.ensures c.if-deny.false c.reaches.result
     c.reaches.ensures

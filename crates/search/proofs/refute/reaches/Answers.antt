@@ -1,28 +1,13 @@
-use mathlib.Core.Path.{subst, sym}
 use native.Mathlib.Omega.{arith}
-use Prim.Native.Nat.{ℕ}
-use Rattle.search.specs.Memory.{Two}
 use Rattle.search.proofs.Rounds.{starts_first, settling_start, settling_quiet, settling_conflict, unit_low, unit_high, settling_less, settling_next}
 use Rattle.search.proofs.refute.reaches.Goals as goal
 
 pub loop-var-init : goal.loop-var-init
 loop-var-init c = (settling_start, starts_first c.requires)
 
-pub scan_round-requires : goal.scan_round-requires
-scan_round-requires c = (
-  subst (λ (k : ℕ). Two k c.args.list.now c.args.earlier.now) (sym c.loop-var.invariant.0.wide) c.requires,
-  c.loop-var.invariant.1,
-)
-
-pub shape_of-values-in-Nothing : goal.shape_of-values-in-Nothing
-shape_of-values-in-Nothing c = c.loop-var.invariant.0.wide
-
 pub returns-in-Nothing : goal.returns-in-Nothing
 returns-in-Nothing c =
     settling_quiet c.requires c.loop-var.invariant.0 c.scan_round.result c.scan_round.ensures c.in-Nothing.is
-
-pub shape_of-values-in-Conflict : goal.shape_of-values-in-Conflict
-shape_of-values-in-Conflict c = c.loop-var.invariant.0.wide
 
 pub returns-in-Conflict : goal.returns-in-Conflict
 returns-in-Conflict c =

@@ -1,12 +1,9 @@
-use Rattle.search.proofs.Running.{searching_start, ready_here, again_goes, latest_try, again_tries, ends_spent, ends_sat, ends_unsat}
+use Rattle.search.proofs.Running.{searching_start, again_goes, latest_try, again_tries, ends_spent, ends_sat, ends_unsat}
 use Rattle.search.proofs.run.run.Goals as goal
 
 pub loop-set-init : goal.loop-set-init
 loop-set-init c =
     searching_start _ _ _ _ c.requires.0 c.requires.1
-
-pub turn-requires : goal.turn-requires
-turn-requires c = ready_here c.loop-set.invariant
 
 pub loop-set-smaller-in-Goes : goal.loop-set-smaller-in-Goes
 loop-set-smaller-in-Goes c =

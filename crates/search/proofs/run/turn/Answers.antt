@@ -11,9 +11,9 @@ pub assign-requires : goal.assign-requires
 assign-requires c =
     (unit_settable c.requires c.scan.result c.scan.ensures c.in-Unit.is, omega arith)
 
-pub assign-requires-in-At : goal.assign-requires-in-At
-assign-requires-in-At c =
-    (branch_settable c.requires c.scan.result c.scan.ensures c.in-Nothing.is (sym c.in-At.is ∙ c.lowest.ensures), omega arith)
+pub assign-requires-in-Some : goal.assign-requires-in-Some
+assign-requires-in-Some c =
+    (branch_settable c.requires c.scan.result c.scan.ensures c.in-Nothing.is (sym c.in-Some.is ∙ c.lowest.ensures), omega arith)
 
 pub returns-else-r-eq0 : goal.returns-else-r-eq0
 returns-else-r-eq0 c =
@@ -23,10 +23,10 @@ pub returns-in-Unit : goal.returns-in-Unit
 returns-in-Unit c =
     step_unit c.requires c.scan.result c.scan.ensures c.in-Unit.is c.assign.ensures
 
-pub returns-in-At : goal.returns-in-At
-returns-in-At c =
-    step_branch c.requires c.scan.result c.scan.ensures c.in-Nothing.is (sym c.in-At.is ∙ c.lowest.ensures) c.assign-in-At.ensures
+pub returns-in-Some : goal.returns-in-Some
+returns-in-Some c =
+    step_branch c.requires c.scan.result c.scan.ensures c.in-Nothing.is (sym c.in-Some.is ∙ c.lowest.ensures) c.assign-in-Some.ensures
 
-pub returns-in-Nowhere : goal.returns-in-Nowhere
-returns-in-Nowhere c =
-    step_sat c.requires c.scan.result c.scan.ensures c.in-Nothing.is (sym c.in-Nowhere.is ∙ c.lowest.ensures)
+pub returns-in-None : goal.returns-in-None
+returns-in-None c =
+    step_sat c.requires c.scan.result c.scan.ensures c.in-Nothing.is (sym c.in-None.is ∙ c.lowest.ensures)

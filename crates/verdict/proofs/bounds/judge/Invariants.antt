@@ -1,11 +1,7 @@
-use Prim.Native.Nat.{◌-◌}
 use Rattle.verdict.specs.Loop.{AtBound}
 use Rattle.verdict.proofs.bounds.judge.Given as goal
 
-abbrev pub invariant-loop-values : goal.invariant-loop-values
-invariant-loop-values l = AtBound l.file l.piece l.property l.bound l.budget
+abbrev pub invariant-loop-i : goal.invariant-loop-i
+invariant-loop-i l = AtBound l.file l.piece l.property l.bound l.budget
     (record { clauses = l.initial.clauses; values = l.initial.values; trail = l.initial.trail; choices = l.initial.choices }) l.i l.tries l.clauses
     l.values l.trail l.choices
-
-abbrev pub decreases-loop-values : goal.decreases-loop-values
-decreases-loop-values l = l.bound - l.i

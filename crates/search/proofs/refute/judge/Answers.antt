@@ -1,8 +1,0 @@
-use mathlib.Core.Path.{ap, ◌∙◌}
-use Prim.Native.Nat.{ℕ}
-use lib.ListN.{replicate}
-use Rattle.search.proofs.refute.judge.Goals as goal
-
-pub returns : goal.returns
-returns c =
-    (c.read-found.ensures, c.fill8.ensures ∙ ap (λ (k : ℕ). replicate k 0) c.read-found.auto.values)
