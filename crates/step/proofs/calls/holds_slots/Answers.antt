@@ -1,7 +1,4 @@
-use Rattle.std.proofs.Common.{ap, ◌∙◌, arith}
-use Rattle.step.specs.Piece.{no_piece}
-use Rattle.step.specs.Property.{property_of}
-use Rattle.step.specs.OneStep.{holds}
+use Rattle.std.proofs.Common.{arith}
 use Rattle.step.proofs.Cells.{sizes}
 use Rattle.step.proofs.Replays.{ready_same}
 use Rattle.step.proofs.Pieces.{no_piece_right}
@@ -14,7 +11,3 @@ load_entries-requires c =
 pub property_true-requires : goal.property_true-requires
 property_true-requires c =
     (ready_same _ _ _ _ _ (omega arith) c.requires.0, no_piece_right _ _, c.requires.1)
-
-pub returns : goal.returns
-returns c =
-    λ d w. c.property_true.ensures d w ∙ ap (holds d (property_of c.args.file.now no_piece d c.args.property)) c.load_entries.ensures

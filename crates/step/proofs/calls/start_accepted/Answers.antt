@@ -1,4 +1,4 @@
-use Rattle.std.proofs.Common.{ℕ, replicate, sym, ap, ◌∙◌, arith, length-take-le}
+use Rattle.std.proofs.Common.{ℕ, replicate, ap, ◌∙◌}
 use Rattle.design.specs.Limits.{max_slots}
 use Rattle.design.proofs.Indexed.{sized}
 use Rattle.step.proofs.Replays.{take_replicate}
@@ -9,12 +9,6 @@ slot_count-n-requires c = (
   (sized c.args.file.now c.requires c.shape-shape.result c.shape-shape.ensures.shaped).0,
   (sized c.args.file.now c.requires c.shape-shape.result c.shape-shape.ensures.shaped).1,
 )
-
-pub slice_bounds-all-end : goal.slice_bounds-all-end
-slice_bounds-all-end c = omega (arith, c.slot_count-n.ensures.1)
-
-pub slice_bounds-start_slots-end : goal.slice_bounds-start_slots-end
-slice_bounds-start_slots-end c = sym (length-take-le _ _ c.slot_count-n.ensures.1)
 
 pub start_slots-requires : goal.start_slots-requires
 start_slots-requires c = (

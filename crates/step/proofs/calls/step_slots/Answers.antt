@@ -1,18 +1,13 @@
-use Rattle.std.proofs.Common.{ap, ◌∙◌, arith}
+use Rattle.std.proofs.Common.{ap, ◌∙◌}
 use Rattle.design.specs.State.{State}
 use Rattle.step.specs.Operations.{next}
 use Rattle.step.proofs.Cells.{sizes}
-use Rattle.step.proofs.Replays.{ready_same}
 use Rattle.step.proofs.States.{step_answer_lem}
 use Rattle.step.proofs.calls.step_slots.Goals as goal
 
 pub load_entries-requires : goal.load_entries-requires
 load_entries-requires c =
     ((sizes _ _ _ _ c.requires.0).3, (sizes _ _ _ _ c.requires.0).2, c.requires.0.size)
-
-pub move_chosen-tested-requires : goal.move_chosen-tested-requires
-move_chosen-tested-requires c =
-    (ready_same _ _ _ _ _ (omega arith) c.requires.0, c.requires.1, c.requires.2)
 
 pub returns : goal.returns
 returns c =

@@ -1,4 +1,4 @@
-use Rattle.std.proofs.Common.{◌≡◌, ℕ, ◌*◌, false, get_or, sym, ap, ◌∙◌, arith, rules}
+use Rattle.std.proofs.Common.{◌≡◌, ℕ, ◌*◌, false, get_or, sym, ap, ◌∙◌, arith}
 use Rattle.design.specs.Limits.{max_depth}
 use Rattle.step.proofs.Counts.{bit_from}
 use Rattle.step.proofs.Runs.{assign_inside, assign_int, runs_int, assign_bool, runs_bool}
@@ -51,17 +51,11 @@ pub bounds-slots-v-else-k : goal.bounds-slots-v-else-k
 bounds-slots-v-else-k c =
     omega (arith, c.wide-v.ensures.0, (assign_inside _ _ _ _ c.requires.0).1)
 
-pub shape_of-slots-then-k : goal.shape_of-slots-then-k
-shape_of-slots-then-k c = search rules
-
 pub returns-then-k : goal.returns-then-k
 returns-then-k c =
     let kind = sym (ap (λ (v : ℕ). get_or c.args.file.now (3 * v) 0) c.wide-v.ensures.0) ∙ c.if-k.true in
     let value = c.eval_int-x.ensures c.args.file.now max_depth false (assign_int _ _ _ _ c.requires.0 kind) in
     runs_int _ _ _ _ c.requires.0 kind _ _ _ _ _ _ _ c.wide-v.ensures.0 value.0 value.1 value.2 c.mark_if.ensures
-
-pub shape_of-slots-else-k : goal.shape_of-slots-else-k
-shape_of-slots-else-k c = search rules
 
 pub returns-else-k : goal.returns-else-k
 returns-else-k c =

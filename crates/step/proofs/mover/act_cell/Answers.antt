@@ -1,6 +1,6 @@
-use Rattle.std.proofs.Common.{ℕ, ◌+◌, refl, ap, ap₂, arith}
+use Rattle.std.proofs.Common.{ℕ, ◌+◌, ap, ap₂, arith}
 use Rattle.design.proofs.Indexed.{normal_fields}
-use Rattle.step.proofs.Cells.{sizes, kinds, in_range, action_reads, acted}
+use Rattle.step.proofs.Cells.{sizes, kinds, action_reads, acted}
 use Rattle.step.proofs.mover.act_cell.Goals as goal
 
 pub run_list-requires : goal.run_list-requires
@@ -17,15 +17,6 @@ run_list-requires c = (
   kinds _ _ _ _ c.requires.0.1,
   omega (arith, c.requires.0.1.size),
 )
-
-pub bounds-slots-shape : goal.bounds-slots-shape
-bounds-slots-shape c =
-    omega (
-      arith,
-      (in_range _ _ _ _ c.requires.0.1 _ _ _ c.wide-m.ensures.0 refl (normal_fields _ _ _ c.requires.0.1.indexed _ c.requires.1)).0,
-      sizes _ _ _ _ c.requires.0.1,
-      c.requires.0.1.size,
-    )
 
 pub returns : goal.returns
 returns c =

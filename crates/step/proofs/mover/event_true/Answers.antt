@@ -4,37 +4,12 @@ use Rattle.step.proofs.Cells.{sizes, event_reads, event_value}
 use Rattle.design.proofs.Indexed.{event_slot, event_inside}
 use Rattle.step.proofs.mover.event_true.Goals as goal
 
-pub overflow_mul-at : goal.overflow_mul-at
-overflow_mul-at c = omega (arith, event_slot _ _ _ c.requires.0.indexed _ _ c.requires.1 c.requires.2)
-
-pub overflow_add-at : goal.overflow_add-at
-overflow_add-at c = omega (arith, event_slot _ _ _ c.requires.0.indexed _ _ c.requires.1 c.requires.2)
-
-pub offset_bounds-events-m : goal.offset_bounds-events-m
-offset_bounds-events-m c = omega (arith, event_slot _ _ _ c.requires.0.indexed _ _ c.requires.1 c.requires.2)
-
 pub bounds-events-m : goal.bounds-events-m
 bounds-events-m c =
     omega (arith, event_slot _ _ _ c.requires.0.indexed _ _ c.requires.1 c.requires.2)
 
-pub overflow_cast-at : goal.overflow_cast-at
-overflow_cast-at c =
-    omega (arith, event_inside _ _ _ c.requires.0.indexed _ _ c.requires.1 c.requires.2, sizes _ _ _ _ c.requires.0)
-
-pub overflow_add-past : goal.overflow_add-past
-overflow_add-past c =
-    omega (arith, event_inside _ _ _ c.requires.0.indexed _ _ c.requires.1 c.requires.2, sizes _ _ _ _ c.requires.0)
-
 pub bounds-file-at : goal.bounds-file-at
 bounds-file-at c =
-    omega (arith, event_inside _ _ _ c.requires.0.indexed _ _ c.requires.1 c.requires.2, sizes _ _ _ _ c.requires.0)
-
-pub overflow_add-past-2 : goal.overflow_add-past-2
-overflow_add-past-2 c =
-    omega (arith, c.wide.ensures.0, event_inside _ _ _ c.requires.0.indexed _ _ c.requires.1 c.requires.2, sizes _ _ _ _ c.requires.0)
-
-pub overflow_add-at-2 : goal.overflow_add-at-2
-overflow_add-at-2 c =
     omega (arith, event_inside _ _ _ c.requires.0.indexed _ _ c.requires.1 c.requires.2, sizes _ _ _ _ c.requires.0)
 
 pub eval_bool-x-requires : goal.eval_bool-x-requires

@@ -1,19 +1,7 @@
 use Rattle.std.proofs.Common.{arith}
 use Rattle.step.proofs.Cells.{kinds}
-use Rattle.step.proofs.Choices.{chosen, slot, place_small, step_cell, step_external}
+use Rattle.step.proofs.Choices.{chosen, step_cell, step_external}
 use Rattle.step.proofs.mover.move_chosen.Goals as goal
-
-pub offset_bounds-cells-choice : goal.offset_bounds-cells-choice
-offset_bounds-cells-choice c =
-    omega (arith, slot _ _ _ c.requires.1.normals _ c.if-choice-shape.true c.requires.0.indexed.accepted)
-
-pub bounds-cells-choice : goal.bounds-cells-choice
-bounds-cells-choice c =
-    omega (arith, slot _ _ _ c.requires.1.normals _ c.if-choice-shape.true c.requires.0.indexed.accepted)
-
-pub overflow_cast-p : goal.overflow_cast-p
-overflow_cast-p c =
-    omega (arith, place_small _ _ _ c.requires.1.normals _ c.if-choice-shape.true c.requires.0.indexed.accepted)
 
 pub move_cell-requires : goal.move_cell-requires
 move_cell-requires c =

@@ -3,9 +3,6 @@ use Rattle.design.specs.Limits.{max_depth}
 use Rattle.step.proofs.Pieces.{expression_reads, expression_value}
 use Rattle.step.proofs.property.expression_true.Goals as goal
 
-pub expression-text-requires : goal.expression-text-requires
-expression-text-requires c = c.requires.0.1.indexed.accepted
-
 pub eval_bool-x-requires : goal.eval_bool-x-requires
 eval_bool-x-requires c =
     let (table, ready) = c.requires.0 in (

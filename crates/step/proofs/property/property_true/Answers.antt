@@ -1,5 +1,4 @@
-use Rattle.std.proofs.Common.{ℕ, sym, ap, ◌∙◌, arith}
-use Rattle.step.specs.Piece.{piece_right}
+use Rattle.std.proofs.Common.{arith}
 use Rattle.step.proofs.Cells.{sizes}
 use Rattle.step.proofs.Scanning.{marked_property, expression_property, invalid_property}
 use Rattle.step.proofs.property.property_true.Goals as goal
@@ -11,10 +10,6 @@ is_marked-requires c =
 pub returns-then-is_marked : goal.returns-then-is_marked
 returns-then-is_marked c =
     λ d w. marked_property _ _ d w _ c.requires.0.indexed.shaped _ _ c.is_marked.ensures c.if-is_marked.true _ c.requires.2
-
-pub expression_true-requires : goal.expression_true-requires
-expression_true-requires c =
-    ((_, c.requires.0), ap (λ (j : ℕ). piece_right c.args.file.now c.args.piece.now j) (sym c.if-property-eq0.true) ∙ c.requires.1)
 
 pub returns-then-property-eq0 : goal.returns-then-property-eq0
 returns-then-property-eq0 c =

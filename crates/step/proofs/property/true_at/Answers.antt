@@ -9,13 +9,6 @@ pub slot_count-n-requires : goal.slot_count-n-requires
 slot_count-n-requires c =
     let s = sized _ c.requires.0.indexed.accepted _ c.requires.0.indexed.shaped in (s.0, s.1)
 
-pub property_true-requires : goal.property_true-requires
-property_true-requires c = (
-  record { indexed = c.requires.0.indexed; size = part_long _ c.args.pair.now c.requires.0.size _ c.slot_count-n.ensures.0 },
-  c.requires.1,
-  (ltb-false _ _ (sym c.if-not-judges_steps.ensures)),
-)
-
 pub returns-then-not-judges_steps : goal.returns-then-not-judges_steps
 returns-then-not-judges_steps c =
     λ d w. c.property_true.ensures d w ∙ ap (holds d (property_of c.args.file.now c.args.piece.now d c.args.property)) (part_is
@@ -38,10 +31,6 @@ is_marked-requires c =
 pub returns-then-is_marked : goal.returns-then-is_marked
 returns-then-is_marked c =
     λ d w. marked_pair _ _ d _ _ w _ c.requires.0.indexed.shaped _ (part_is _ _ c.requires.0.size _ c.slot_count-n.ensures.0) _ c.is_marked.ensures c.if-is_marked.true _ (ltb-true _ _ (sym c.if-not-judges_steps.ensures)) _ c.if-first.false
-
-pub constraint_true-requires : goal.constraint_true-requires
-constraint_true-requires c =
-    (_, c.requires.0)
 
 pub returns : goal.returns
 returns c =

@@ -1,17 +1,10 @@
-use Rattle.std.proofs.Common.{ℕ, ◌+◌, replicate, sym, ap, ◌∙◌, ap₂, arith, length-take-le}
+use Rattle.std.proofs.Common.{ℕ, ◌+◌, replicate, ap, ◌∙◌, ap₂, arith, length-take-le}
 use Rattle.design.specs.Limits.{pair_slots}
-use Rattle.design.proofs.Indexed.{sized, count_movers, few_movers}
+use Rattle.design.proofs.Indexed.{sized, count_movers}
 use Rattle.step.proofs.Choices.{movers_here}
 use Rattle.step.proofs.Replays.{take_replicate}
 use Rattle.step.proofs.Answering.{all_below, replay_over, replay_answer_lem}
 use Rattle.step.proofs.replaying.replay_accepted.Goals as goal
-
-pub overflow_add-shape : goal.overflow_add-shape
-overflow_add-shape c =
-    let movers = movers_here _ _ _ _ c.shape-shape.ensures c.index_cells-normals.ensures in omega (
-      arith,
-      few_movers _ _ _ c.shape-shape.ensures.shaped movers c.requires.0,
-    )
 
 pub returns-in-Some : goal.returns-in-Some
 returns-in-Some c =
@@ -21,15 +14,6 @@ returns-in-Some c =
 pub slot_count-n-requires : goal.slot_count-n-requires
 slot_count-n-requires c =
     let s = sized _ c.requires.0 _ c.shape-shape.ensures.shaped in (s.0, s.1)
-
-pub overflow_add-end : goal.overflow_add-end
-overflow_add-end c = omega (arith, c.slot_count-n.ensures.1)
-
-pub slice_bounds-all-end : goal.slice_bounds-all-end
-slice_bounds-all-end c = omega (arith, c.slot_count-n.ensures.1)
-
-pub slice_bounds-replay_slots-end : goal.slice_bounds-replay_slots-end
-slice_bounds-replay_slots-end c = sym (length-take-le _ _ (omega (arith, c.slot_count-n.ensures.1)))
 
 pub replay_slots-requires : goal.replay_slots-requires
 replay_slots-requires c =
