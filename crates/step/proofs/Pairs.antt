@@ -8,7 +8,7 @@ use Rattle.design.specs.State.{State, Layout, layout, layout_of}
 use Rattle.design.specs.Limits.{max_depth}
 use Rattle.design.specs.Expression.{Names, with_later, bool_expr}
 use Rattle.design.specs.Check.{names_of, has_constraint, items_end, constraint_offset}
-use Rattle.design.specs.Places.{Shaped}
+use Rattle.design.specs.Places.{Indexed, Shaped}
 use Rattle.design.specs.Sections.{Parts}
 use Rattle.design.specs.declared.shape.Shape.{Shape}
 use Rattle.step.specs.Evaluation.{eval_bool}
@@ -16,7 +16,7 @@ use Rattle.step.specs.Limits.{last_state_property}
 use Rattle.step.specs.Property.{property_of}
 use Rattle.step.specs.OneStep.{marked, step, true_at, holds}
 use Rattle.step.specs.Accepted.{is_read, bool_value}
-use Rattle.step.specs.Ready.{ReadyPair, before_in, kept_in, tested_by}
+use Rattle.step.specs.Ready.{before_in, kept_in, tested_by}
 use Rattle.step.specs.declared.mover.Tested.{Tested}
 use Rattle.design.proofs.Positions.{constraint_none}
 use Rattle.design.proofs.Indexed.{constraint_got, constraint_some}
@@ -114,17 +114,17 @@ module _ (file piece : List ℕ) (d : Design) (n : ℕ) (pair : State) where
         ∙ unmarked_counts _ _ (mark_same false e)
 
 -- the constraint, which two states are read by
-module _ (file events' : List ℕ) (h : Shape) (pair : State) (ready : ReadyPair file events' h pair) where
+module _ (file events' : List ℕ) (h : Shape) (ready : Indexed file events' h) where
   abbrev N : Names
   N = with_later true (names_of file h)
 
-  pub no_constraint : has_constraint file ≡ false → (d : Design) (w : Parts file d) → true ≡ eval_bool (layout_of h) pair d.constraint
+  pub no_constraint : has_constraint file ≡ false → (pair : State) (d : Design) (w : Parts file d) → true ≡ eval_bool (layout_of h) pair d.constraint
   unfolding eval_bool
-  no_constraint e d w = ap (eval_bool (layout_of h) pair) (sym (constraint_none file d w e))
+  no_constraint e pair d w = ap (eval_bool (layout_of h) pair) (sym (constraint_none file d w e))
 
   module _ (e : has_constraint file ≡ true) (at end : ℕ) (a : at ≡ constraint_offset file) (b : end ≡ items_end file) where
     pub constraint_reads : is_read (bool_expr file N end max_depth at) ≡ true
-    constraint_reads = ap is_read (constraint_some file ready.indexed.accepted h ready.indexed.shaped at end a b e).1
+    constraint_reads = ap is_read (constraint_some file ready.accepted h ready.shaped at end a b e).1
 
-    pub constraint_value : (r : Bool) → r ≡ bool_value (layout_of h) pair (bool_expr file N end max_depth at) → (d : Design) (w : Parts file d) → r ≡ eval_bool (layout_of h) pair d.constraint
-    constraint_value r v d w = v ∙ ap (bool_value (layout_of h) pair) (constraint_got file ready.indexed.accepted h ready.indexed.shaped at end a b d w e)
+    pub constraint_value : (pair : State) (r : Bool) → r ≡ bool_value (layout_of h) pair (bool_expr file N end max_depth at) → (d : Design) (w : Parts file d) → r ≡ eval_bool (layout_of h) pair d.constraint
+    constraint_value pair r v d w = v ∙ ap (bool_value (layout_of h) pair) (constraint_got file ready.accepted h ready.shaped at end a b d w e)

@@ -19,10 +19,8 @@ use Rattle.step.specs.Property.{Property, property_of}
 use Rattle.step.specs.OneStep.{step, true_at}
 use Rattle.step.specs.StatusEventGuard.{event_read_by, guard_read_by, count_from}
 use Rattle.step.specs.Operations.{first_break, break_told, run_told}
-use Rattle.step.specs.Ready.{ReadyState, ReadyPair, before_in, kept_in, Replayable, tested_by}
+use Rattle.step.specs.Ready.{before_in, kept_in, tested_by}
 use Rattle.step.specs.declared.mover.Tested.{Tested}
-use Rattle.step.specs.declared.replaying.Query.{Query}
-use Rattle.design.specs.declared.shape.Shape.{Shape}
 use Rattle.design.proofs.Indexed.{variables_inside}
 use Rattle.design.proofs.Widths.{matrix_count_lem}
 use Rattle.design.specs.Limits.{max_variables}
@@ -95,17 +93,6 @@ module _ (file : List ℕ) (a : Accepted file) (nv nm : ℕ) (e : nv ≡ variabl
       ∙ drop_replicate nv (nm + 1) 0 in
       g.same d c ∙ ap (paste (replicate (nv + nm + 1) 0) 0 xs) (let z : v ≡ nv = omega arith in z)
       ∙ ap₂ (λ (x y : State). x ++ y) (take_all nv xs (omega arith)) (back ∙ replicate_last nm 0 ∙ ap (λ (k : ℕ). replicate k 0 ++ (0 ∷ [])) m)
-
--- a state of the same size
-pub ready_same : (file events : List ℕ) (h : Shape) (s s' : State) → length s' ≡ length s → ReadyState file events h s → ReadyState file events h s'
-ready_same file events h s s' e r = record { indexed = r.indexed; size = e ∙ r.size }
-
--- a pair of the same size
-pub pair_same : (file events : List ℕ) (h : Shape) (s s' : State) → length s' ≡ length s → ReadyPair file events h s → ReadyPair file events h s'
-pair_same file events h s s' e r = record { indexed = r.indexed; size = e ∙ r.size }
-
-pub replayable_same : (file piece events cells : List ℕ) (q : Query) (s s' : State) (cs : List ℕ) → length s' ≡ length s → Replayable file piece events cells q s cs → Replayable file piece events cells q s' cs
-replayable_same file piece events cells q s s' cs e r = record { ready = pair_same file events q.shape s s' e r.ready; right = r.right; movers = r.movers; few = r.few; named = r.named }
 
 -- A count by step i of the run from s₀ is k, and the whole is k and what the choices from i on count.
 pub record Counted (d : Design) (test : State → ℕ → Bool) (s₀ : State) (cs : List ℕ) (now : State) (i k : ℕ) : Type 0 where

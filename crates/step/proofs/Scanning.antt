@@ -6,7 +6,7 @@ use Rattle.design.specs.State.{State, Layout, layout, layout_of}
 use Rattle.design.specs.Expression.{Names}
 use Rattle.design.specs.DesignFile.{Entry, normal, invalid, c_matrix, c_status, c_event, c_kind, c_past}
 use Rattle.design.specs.Check.{invalids, names_of, names, items_end, matrices_offset, cells_offset, cell_count, invariant_offset, event_in}
-use Rattle.design.specs.Places.{past_cells, Shaped}
+use Rattle.design.specs.Places.{past_cells, Indexed, Shaped}
 use Rattle.design.specs.Sections.{Parts, EntryRead, Standing, CellFields}
 use Rattle.design.proofs.Places.{Read as Tree, read, cell_stands, cell_fields}
 use Rattle.step.specs.Evaluation.{eval_bool}
@@ -16,7 +16,6 @@ use Rattle.step.specs.Property.{property_of}
 use Rattle.step.specs.OneStep.{marked, status_and_event, no_invalid, true_at, holds}
 use Rattle.design.specs.declared.shape.Shape.{Shape}
 use Rattle.design.proofs.Widths.{layout_is}
-use Rattle.step.specs.Ready.{ReadyState}
 use Rattle.design.specs.Limits.{max_bytes}
 use Rattle.step.proofs.Cells.{sizes, BothAre}
 
@@ -72,12 +71,12 @@ pub scanning_start : (file : List ℕ) (h : Shape) (slots : State) (p : ℕ) →
 unfolding past_cells
 scanning_start file h slots p e = record { here = e; inside = omega arith; same = λ d w. ap (no_invalid (layout_of h) slots) (sym w.invalid) }
 
-module _ (file events' : List ℕ) (h : Shape) (slots : State) (ready : ReadyState file events' h slots) where
+module _ (file events' : List ℕ) (h : Shape) (slots : State) (ready : Indexed file events' h) where
   abbrev N : Names
   N = names_of file h
 
   tree : Tree file
-  tree = read file ready.indexed.accepted
+  tree = read file ready.accepted
 
   abbrev l : Layout
   l = layout_of h
@@ -100,7 +99,7 @@ module _ (file events' : List ℕ) (h : Shape) (slots : State) (ready : ReadySta
 
     -- the cell's header is inside the file, which is short
     pub scan_room : (p + 8 ≤ length file) × (length file ≤ max_bytes)
-    scan_room = (omega (arith, scan_fields.header, sizes file events' h slots ready), (sizes file events' h slots ready).1)
+    scan_room = (omega (arith, scan_fields.header, sizes file events' h ready), (sizes file events' h ready).1)
 
     split : (d : Design) (w : Parts file d) → drop i w.entries ≡ entry d w ∷ drop (suc i) w.entries
     unfolding entry
@@ -120,7 +119,7 @@ module _ (file events' : List ℕ) (h : Shape) (slots : State) (ready : ReadySta
         ∙ ap (λ (b : BoolExpr). not (status_and_event l slots (c_matrix file p) (c_status file p) b) && no_invalid l slots (invalids es)) r.1.event
 
     -- an invalid cell at which both hold decides
-    pub scan_found : (c_kind file p ≡ 0 → ⊥) → (r : Bool) → BothAre file events' h slots ready p r → r ≡ true → (d : Design) (w : Parts file d) → false ≡ no_invalid l slots d.invalid
+    pub scan_found : (c_kind file p ≡ 0 → ⊥) → (r : Bool) → BothAre file events' h ready slots p r → r ≡ true → (d : Design) (w : Parts file d) → false ≡ no_invalid l slots d.invalid
     scan_found e r s q d w =
         let t = is_invalid (event_in w.rows) (entry d w) (drop (suc i) w.entries) (stands d w).1.entry e in
         ap (λ (b : Bool). not b && no_invalid l slots (invalids (drop (suc i) w.entries))) (sym q ∙ s d w) ∙ sym t ∙ sym (ap (λ (es : List Entry). no_invalid l slots (invalids es)) (split d w)) ∙ g.same d w
@@ -136,7 +135,7 @@ module _ (file events' : List ℕ) (h : Shape) (slots : State) (ready : ReadySta
     pub scan_normal : c_kind file p ≡ 0 → (q : ℕ) → q ≡ c_past file p → Scanning file h slots q (i + 1)
     scan_normal e q f = onward q f (λ d w. sym (is_normal (event_in w.rows) (entry d w) (drop (suc i) w.entries) (stands d w).1.entry e) ∙ sym (ap (λ (es : List Entry). no_invalid l slots (invalids es)) (split d w)))
 
-    pub scan_invalid : (c_kind file p ≡ 0 → ⊥) → (r : Bool) → BothAre file events' h slots ready p r → r ≡ false → (q : ℕ) → q ≡ c_past file p → Scanning file h slots q (i + 1)
+    pub scan_invalid : (c_kind file p ≡ 0 → ⊥) → (r : Bool) → BothAre file events' h ready slots p r → r ≡ false → (q : ℕ) → q ≡ c_past file p → Scanning file h slots q (i + 1)
     scan_invalid e r s z q f = onward q f (λ d w.
         ap (λ (b : Bool). not b && no_invalid l slots (invalids (drop (suc i) w.entries))) (sym z ∙ s d w) ∙ sym (is_invalid (event_in w.rows) (entry d w) (drop (suc i) w.entries) (stands d w).1.entry e) ∙ sym (ap (λ (es : List Entry). no_invalid l slots (invalids es)) (split d w)))
 

@@ -4,14 +4,13 @@ use Rattle.std.proofs.Math.Option.{Option, none, some}
 use Rattle.design.specs.Tree.{Design, Mover}
 use Rattle.design.specs.State.{State, Layout, slot_count}
 use Rattle.design.specs.Check.{invariant_offset, constraint_offset}
-use Rattle.design.specs.Places.{Indexed, MoversIndexed}
+use Rattle.design.specs.Places.{Indexed}
 use Rattle.step.specs.Limits.{max_bound}
 use Rattle.design.specs.declared.shape.Shape.{Shape}
 use Rattle.step.specs.Piece.{piece_right}
 use Rattle.step.specs.OneStep.{enabled, idle}
 use Rattle.step.specs.StatusEventGuard.{event_read_of, guard_read_of, event_read_by, guard_read_by}
 use Rattle.step.specs.declared.mover.Tested.{Tested}
-use Rattle.step.specs.declared.replaying.Query.{Query}
 
 pub record ReadyState (file table : List ℕ) (h : Shape) (slots : State) : Type 0 where
   pub indexed : Indexed file table h
@@ -32,13 +31,12 @@ abbrev pub kept_in : Bool → ℕ → State → State
 kept_in true n pair = drop n pair
 kept_in false n pair = take n pair
 
--- what the walk over a list of choices is given: a right piece, both tables, and choices that are few and name movers
-pub record Replayable (file piece events cells : List ℕ) (query : Query) (pair : State) (choices : List ℕ) : Type 0 where
-  pub ready : ReadyPair file events query.shape pair
-  pub right : piece_right file piece query.property ≡ true
-  pub movers : MoversIndexed file cells query.shape
+-- what the walk over a list of choices is given: a right piece, two states, and choices that are few and name movers
+pub record Replayable (file piece : List ℕ) (h : Shape) (property : ℕ) (pair : State) (choices : List ℕ) : Type 0 where
+  pub size : length pair ≡ slot_count h + slot_count h
+  pub right : piece_right file piece property ≡ true
   pub few : length choices ≤ max_bound
-  pub named : (i : ℕ) → i < length choices → slice_index choices i < query.shape.normals + query.shape.externals
+  pub named : (i : ℕ) → i < length choices → slice_index choices i < h.normals + h.externals
 
 -- the bytes of property 0's expression: all of the piece, or a part of the file
 unfoldable pub expression_text : List ℕ → List ℕ → List ℕ

@@ -6,20 +6,19 @@ ghost use Rattle.design.specs.Tree.{Design};
 ghost use Rattle.design.specs.State.{slot_count};
 ghost use Rattle.design.specs.Check.{check, accepted};
 ghost use Rattle.design.specs.Answer.{answer, told};
-ghost use Rattle.design.specs.Places.{Accepted, Shaped, MoversIndexed};
+ghost use Rattle.design.specs.Places.{Accepted, Shaped};
 ghost use Rattle.design.specs.Sections.{Parts};
 ghost use Rattle.step.specs.Piece.{no_piece};
 ghost use Rattle.step.specs.Property.{property_of};
 ghost use Rattle.step.specs.OneStep.{holds as holds_in};
 ghost use Rattle.step.specs.Operations.{START, next, STEP, HOLDS};
 ghost use Rattle.step.specs.Entries.{slots_entered};
-ghost use Rattle.step.specs.Ready.{ReadyState};
 
 use super::interface::{
     Entries, copy_slots, give_mark, give_statuses, give_values, patterns, wrong_entry,
 };
-use super::mover::move_chosen;
-use super::property::{judges_steps, property_true};
+use super::machine::{Machine, Movers};
+use super::property::judges_steps;
 use super::replaying::load_start;
 use super::{Started, Stepped};
 use design::index::{index_cells, index_events, shape};
@@ -60,26 +59,21 @@ pub fn load_entries(shape: Shape, entries: Entries, slots: &mut [u16])
     slots[shape.variables + shape.matrices] = entries.mark;
 }
 
-// The step out of the state that the entries give, in `slots`.
-pub fn step_slots(
-    file: &[u8],
-    events: &[u16; EVENT_PLACES],
-    cells: &[u16; MAX_MOVERS],
-    shape: Shape,
-    choice: usize,
-    entries: Entries,
-    slots: &mut [u16],
-) -> Stepped
-    requires { ReadyState file.now events.now shape slots.old × MoversIndexed file.now cells.now shape × (choice < shape.normals + shape.externals) }
-    ensures { (d : Design) → check file.now ≡ accepted d → result ≡ next d (slots_entered shape entries) choice }
-{
-    load_entries(shape, entries, slots);
-    let tested = move_chosen(file, events, cells, shape, choice, slots);
-    Stepped {
-        values: give_values(shape.variables, slots),
-        statuses: give_statuses(shape.variables, shape.matrices, slots),
-        mark: give_mark(shape, slots),
-        idle: tested.idle,
+impl<'a> Movers<'a> {
+    // The step out of the state that the entries give, in `slots`.
+    pub fn step_slots(self, choice: usize, entries: Entries, slots: &mut [u16]) -> Stepped
+        requires { (length slots.old ≡ slot_count self.machine.shape) × (choice < self.machine.shape.normals + self.machine.shape.externals) }
+        ensures { (d : Design) → check self.entry.machine.file.now ≡ accepted d → result ≡ next d (slots_entered self.entry.machine.shape entries) choice }
+    {
+        let shape = self.machine.shape;
+        load_entries(shape, entries, slots);
+        let tested = self.move_chosen(choice, slots);
+        Stepped {
+            values: give_values(shape.variables, slots),
+            statuses: give_statuses(shape.variables, shape.matrices, slots),
+            mark: give_mark(shape, slots),
+            idle: tested.idle,
+        }
     }
 }
 
@@ -112,23 +106,28 @@ pub fn step_accepted(
     index_events(file, &mut events);
     let mut all = [0u16; MAX_SLOTS];
     let n = slot_count(shape);
-    Ok(step_slots(file, &events, &cells, shape, c, entries, &mut all[..n]))
+    let machine = Machine {
+        file,
+        events: &events,
+        shape,
+    };
+    let movers = Movers {
+        machine,
+        cells: &cells,
+    };
+    Ok(movers.step_slots(c, entries, &mut all[..n]))
 }
 
-// Whether the property is true in the state that the entries give, in `slots`.
-pub fn holds_slots(
-    file: &[u8],
-    events: &[u16; EVENT_PLACES],
-    shape: Shape,
-    property: u64,
-    entries: Entries,
-    slots: &mut [u16],
-) -> bool
-    requires { ReadyState file.now events.now shape slots.old × (property ≤ last_state_property) }
-    ensures { (d : Design) (parts : Parts file.now d) → result ≡ holds_in d (property_of file.now no_piece d property) (slots_entered shape entries) }
-{
-    load_entries(shape, entries, slots);
-    property_true(file, b"", events, shape, property, slots)
+impl<'a> Machine<'a> {
+    // Whether the property is true in the state that the entries give, in `slots`.
+    pub fn holds_slots(self, property: u64, entries: Entries, slots: &mut [u16]) -> bool
+        requires { (length slots.old ≡ slot_count self.shape) × (property ≤ last_state_property) }
+        ensures { (d : Design) (parts : Parts self.entry.file.now d) → result
+            ≡ holds_in d (property_of self.entry.file.now no_piece d property) (slots_entered self.entry.shape entries) }
+    {
+        load_entries(self.shape, entries, slots);
+        self.property_true(b"", property, slots)
+    }
 }
 
 // Whether the property is true in the state that right entries give.
@@ -140,7 +139,12 @@ pub fn holds_right(file: &[u8], shape: Shape, property: u64, entries: Entries) -
     index_events(file, &mut events);
     let mut all = [0u16; MAX_SLOTS];
     let n = slot_count(shape);
-    holds_slots(file, &events, shape, property, entries, &mut all[..n])
+    let machine = Machine {
+        file,
+        events: &events,
+        shape,
+    };
+    machine.holds_slots(property, entries, &mut all[..n])
 }
 
 pub fn holds_accepted(

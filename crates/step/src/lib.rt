@@ -7,6 +7,7 @@ mod execute;
 pub mod gate;
 mod interface;
 pub mod limits;
+pub mod machine;
 pub mod mover;
 mod number;
 pub mod piece;

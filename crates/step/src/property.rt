@@ -1,5 +1,5 @@
-// The properties. Parameters are those of movers, and the piece.
-ghost use Rattle.std.specs.Prelude.{◌≡◌, ℕ, ◌≤◌, true, List, length, drop, nat_lt};
+// The properties.
+ghost use Rattle.std.specs.Prelude.{◌≡◌, ℕ, ◌+◌, ◌≤◌, true, List, length, drop, nat_lt};
 ghost use Rattle.design.specs.Tree.{Design};
 ghost use Rattle.design.specs.Limits.{max_variables, max_matrices};
 ghost use Rattle.design.specs.State.{layout_of, slot_count};
@@ -14,12 +14,11 @@ ghost use Rattle.step.specs.Ready.{ReadyState, ReadyPair, before_in};
 use super::evaluate::eval_bool;
 use super::interface::give_mark;
 use super::limits::LAST_STATE_PROPERTY;
-use super::mover::status_and_event;
+use super::machine::Machine;
 use super::piece::expression;
 use design::bytes::{wide, word};
 use design::index::{CELLS, CELLS_AT, constraint, has_constraint, trailer_word};
 use design::kind::CellKind;
-use design::limits::EVENT_PLACES;
 use design::shape::{Shape, slot_count};
 
 // Whether property 0's expression is true: the piece's, or the file's invariant.
@@ -32,23 +31,6 @@ pub fn expression_true<'a>(file: &'a [u8], piece: &'a [u8], shape: Shape, slots:
     x.value
 }
 
-// Whether status and event hold together at no invalid cell.
-pub fn no_invalid(file: &[u8], events: &[u16; EVENT_PLACES], shape: Shape, slots: &[u16]) -> bool
-    requires { ReadyState file.now events.now shape slots.now }
-    ensures { (d : Design) (parts : Parts file.now d) → result ≡ no_invalid (layout_of shape) slots.now d.invalid }
-{
-    let count = trailer_word(file, CELLS);
-    let mut p = trailer_word(file, CELLS_AT);
-    for _ in 0..count {
-        let invalid = file[p + 3] != CellKind::Normal as u8;
-        if invalid && status_and_event(file, events, shape, p, slots) {
-            return false;
-        }
-        p = p + 8 + wide(file[p + 5]) + word(file, p + 6);
-    }
-    true
-}
-
 // Whether the mark is set.
 pub fn is_marked(shape: Shape, slots: &[u16]) -> bool
     requires { (shape.variables ≤ max_variables) × (shape.matrices ≤ max_matrices) × (slot_count shape ≤ length slots.now) }
@@ -56,28 +38,6 @@ pub fn is_marked(shape: Shape, slots: &[u16]) -> bool
 {
     let mark = give_mark(shape, slots);
     0 < mark
-}
-
-// Property 0 is an expression, property 1 is about invalid cells: both are true or false of one state, and false where the mark is set.
-pub fn property_true<'a>(
-    file: &'a [u8],
-    piece: &'a [u8],
-    events: &[u16; EVENT_PLACES],
-    shape: Shape,
-    property: u64,
-    slots: &[u16],
-) -> bool
-    requires { ReadyState file.now events.now shape slots.now × (piece_right file.now piece.now property ≡ true) × (property ≤ last_state_property) }
-    ensures { (d : Design) (parts : Parts file.now d) → result ≡ holds d (property_of file.now piece.now d property) slots.now }
-{
-    if is_marked(shape, slots) {
-        return false;
-    }
-    if property == 0 {
-        expression_true(file, piece, shape, slots)
-    } else {
-        no_invalid(file, events, shape, slots)
-    }
 }
 
 // Whether a property is judged on the state before, too.
@@ -100,30 +60,56 @@ pub fn constraint_true(file: &[u8], shape: Shape, pair: &[u16]) -> bool
     x.value
 }
 
-// Whether the property is true in the second state of a pair, the first being the state before it. The first state of a run has none before it: there `first` holds,
-// and the constraint is true. But for that, no property is true where the second state's mark is set.
-pub fn true_at<'a>(
-    file: &'a [u8],
-    piece: &'a [u8],
-    events: &[u16; EVENT_PLACES],
-    shape: Shape,
-    property: u64,
-    first: bool,
-    pair: &[u16],
-) -> bool
-    requires { ReadyPair file.now events.now shape pair.now × (piece_right file.now piece.now property ≡ true) }
-    ensures { (d : Design) (parts : Parts file.now d)
-        → result ≡ true_at d (property_of file.now piece.now d property) (before_in first (slot_count shape) pair.now) (drop (slot_count shape) pair.now) }
-{
-    let n = slot_count(shape);
-    if !judges_steps(property) {
-        return property_true(file, piece, events, shape, property, &pair[n..]);
+impl<'a> Machine<'a> {
+    // Whether status and event hold together at no invalid cell.
+    pub fn no_invalid(self, slots: &[u16]) -> bool
+        requires { length slots.now ≡ slot_count self.shape }
+        ensures { (d : Design) (parts : Parts self.entry.file.now d) → result ≡ no_invalid (layout_of self.entry.shape) slots.now d.invalid }
+    {
+        let count = trailer_word(self.file, CELLS);
+        let mut p = trailer_word(self.file, CELLS_AT);
+        for _ in 0..count {
+            let invalid = self.file[p + 3] != CellKind::Normal as u8;
+            if invalid && self.status_and_event(p, slots) {
+                return false;
+            }
+            p = p + 8 + wide(self.file[p + 5]) + word(self.file, p + 6);
+        }
+        true
     }
-    if first {
-        return true;
+
+    // Property 0 is an expression, property 1 is about invalid cells: both are true or false of one state, and false where the mark is set.
+    pub fn property_true(self, piece: &'a [u8], property: u64, slots: &[u16]) -> bool
+        requires { (length slots.now ≡ slot_count self.shape) × (piece_right self.file.now piece.now property ≡ true) × (property ≤ last_state_property) }
+        ensures { (d : Design) (parts : Parts self.entry.file.now d) → result ≡ holds d (property_of self.entry.file.now piece.now d property) slots.now }
+    {
+        if is_marked(self.shape, slots) {
+            return false;
+        }
+        if property == 0 {
+            expression_true(self.file, piece, self.shape, slots)
+        } else {
+            self.no_invalid(slots)
+        }
     }
-    if is_marked(shape, &pair[n..]) {
-        return false;
+
+    // Whether the property is true in the second state of a pair, the first being the state before it. The first state of a run has none before it: there `first` holds,
+    // and the constraint is true. But for that, no property is true where the second state's mark is set.
+    pub fn true_at(self, piece: &'a [u8], property: u64, first: bool, pair: &[u16]) -> bool
+        requires { (length pair.now ≡ slot_count self.shape + slot_count self.shape) × (piece_right self.file.now piece.now property ≡ true) }
+        ensures { (d : Design) (parts : Parts self.entry.file.now d)
+            → result ≡ true_at d (property_of self.entry.file.now piece.now d property) (before_in first (slot_count self.entry.shape) pair.now) (drop (slot_count self.entry.shape) pair.now) }
+    {
+        let n = slot_count(self.shape);
+        if !judges_steps(property) {
+            return self.property_true(piece, property, &pair[n..]);
+        }
+        if first {
+            return true;
+        }
+        if is_marked(self.shape, &pair[n..]) {
+            return false;
+        }
+        constraint_true(self.file, self.shape, pair)
     }
-    constraint_true(file, shape, pair)
 }

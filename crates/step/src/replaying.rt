@@ -12,11 +12,11 @@ ghost use Rattle.step.specs.Piece.{piece_right};
 ghost use Rattle.step.specs.Property.{property_of};
 ghost use Rattle.step.specs.OneStep.{true_at};
 ghost use Rattle.step.specs.Operations.{run_told, REPLAY};
-ghost use Rattle.step.specs.Ready.{ReadyPair, before_in, Replayable};
+ghost use Rattle.step.specs.Ready.{before_in, Replayable};
 
 use super::Replayed;
-use super::mover::step_pair;
-use super::property::{judges_steps, true_at};
+use super::machine::{Machine, Movers};
+use super::property::judges_steps;
 use design::bytes::{wide, word};
 use design::index::{index_cells, index_events, shape};
 use design::limits::{EVENT_PLACES, MAX_MOVERS, PAIR_SLOTS};
@@ -40,97 +40,75 @@ pub fn load_start(file: &[u8], shape: Shape, slots: &mut [u16])
     }
 }
 
-// What is asked of a run: a property, by its number, of a design of this shape.
-#[derive(Clone, Copy)]
-pub struct Query {
-    pub shape: Shape,
-    pub property: u64,
-}
-
-// The first step at which the property is false, up to step i. Past the first break it is not judged.
-pub fn broken_by<'a>(
-    broken: Option<usize>,
-    file: &'a [u8],
-    piece: &'a [u8],
-    events: &[u16; EVENT_PLACES],
-    query: Query,
-    i: usize,
-    pair: &[u16],
-) -> Option<usize>
-    requires { ReadyPair file.now events.now query.shape pair.now × (piece_right file.now piece.now query.property ≡ true) }
-    ensures { (d : Design) (parts : Parts file.now d)
-        → result ≡ (if is_some broken || true_at d (property_of file.now piece.now d query.property) (before_in (i == 0) (slot_count query.shape) pair.now) (drop (slot_count query.shape) pair.now) then broken else Some i) }
-{
-    let holds = broken.is_some()
-        || true_at(
-            file,
-            piece,
-            events,
-            query.shape,
-            query.property,
-            i == 0,
-            pair,
-        );
-    if holds { broken } else { Some(i) }
-}
-
-// The run from the second state of `pair`: the first step at which the property is false, and the counts of all choices. Each choice acts on the pair in place.
-pub fn replay_choices<'a>(
-    file: &'a [u8],
-    piece: &'a [u8],
-    events: &[u16; EVENT_PLACES],
-    cells: &[u16; MAX_MOVERS],
-    query: Query,
-    choices: &[u8],
-    pair: &mut [u16],
-) -> Replayed
-    requires { Replayable file.now piece.now events.now cells.now query pair.old choices.now }
-    ensures { (d : Design) → check file.now ≡ accepted d
-        → result ≡ run_told d (property_of file.now piece.now d query.property) (drop (slot_count query.shape) pair.old) choices.now }
-{
-    let mut broken = None;
-    let mut read = 0;
-    let mut guards = 0;
-    for (i, choice) in choices.iter().enumerate() {
-        broken = broken_by(broken, file, piece, events, query, i, pair);
-        let tested = step_pair(
-            file,
-            events,
-            cells,
-            query.shape,
-            wide(*choice),
-            judges_steps(query.property),
-            pair,
-        );
-        read += usize::from(tested.event);
-        guards += usize::from(tested.guard);
-    }
-    let broken = broken_by(broken, file, piece, events, query, choices.len(), pair);
-    Replayed {
-        broken,
-        events: read,
-        guards,
+impl<'a> Machine<'a> {
+    // The first step at which the property is false, up to step i. Past the first break it is not judged.
+    pub fn broken_by(
+        self,
+        broken: Option<usize>,
+        piece: &'a [u8],
+        property: u64,
+        i: usize,
+        pair: &[u16],
+    ) -> Option<usize>
+        requires { (length pair.now ≡ slot_count self.shape + slot_count self.shape) × (piece_right self.file.now piece.now property ≡ true) }
+        ensures { (d : Design) (parts : Parts self.entry.file.now d)
+            → result ≡ (if is_some broken || true_at d (property_of self.entry.file.now piece.now d property) (before_in (i == 0) (slot_count self.entry.shape) pair.now) (drop (slot_count self.entry.shape) pair.now) then broken else Some i) }
+    {
+        let holds = broken.is_some() || self.true_at(piece, property, i == 0, pair);
+        if holds { broken } else { Some(i) }
     }
 }
 
-// The same from the first state, in slots that are 0.
-pub fn replay_slots<'a>(
-    file: &'a [u8],
-    piece: &'a [u8],
-    events: &[u16; EVENT_PLACES],
-    cells: &[u16; MAX_MOVERS],
-    query: Query,
-    choices: &[u8],
-    pair: &mut [u16],
-) -> Replayed
-    requires { Replayable file.now piece.now events.now cells.now query pair.old choices.now × (pair.old ≡ replicate (slot_count query.shape + slot_count query.shape) 0) }
-    ensures { (d : Design) → check file.now ≡ accepted d
-        → result ≡ run_told d (property_of file.now piece.now d query.property) (start d) choices.now }
-{
-    let shape = query.shape;
-    let n = slot_count(shape);
-    load_start(file, shape, &mut pair[n..]);
-    replay_choices(file, piece, events, cells, query, choices, pair)
+impl<'a> Movers<'a> {
+    // The run from the second state of `pair`: the first step at which the property is false, and the counts of all choices. Each choice acts on the pair in place.
+    pub fn replay_choices(
+        self,
+        piece: &'a [u8],
+        property: u64,
+        choices: &[u8],
+        pair: &mut [u16],
+    ) -> Replayed
+        requires { Replayable self.machine.file.now piece.now self.machine.shape property pair.old choices.now }
+        ensures { (d : Design) → check self.entry.machine.file.now ≡ accepted d
+            → result ≡ run_told d (property_of self.entry.machine.file.now piece.now d property) (drop (slot_count self.entry.machine.shape) pair.old) choices.now }
+    {
+        let mut broken = None;
+        let mut read = 0;
+        let mut guards = 0;
+        for (i, choice) in choices.iter().enumerate() {
+            broken = self.machine.broken_by(broken, piece, property, i, pair);
+            let tested = self.step_pair(wide(*choice), judges_steps(property), pair);
+            read += usize::from(tested.event);
+            guards += usize::from(tested.guard);
+        }
+        let broken = self
+            .machine
+            .broken_by(broken, piece, property, choices.len(), pair);
+        Replayed {
+            broken,
+            events: read,
+            guards,
+        }
+    }
+
+    // The same from the first state, in slots that are 0.
+    pub fn replay_slots(
+        self,
+        piece: &'a [u8],
+        property: u64,
+        choices: &[u8],
+        pair: &mut [u16],
+    ) -> Replayed
+        requires { Replayable self.machine.file.now piece.now self.machine.shape property pair.old choices.now
+            × (pair.old ≡ replicate (slot_count self.machine.shape + slot_count self.machine.shape) 0) }
+        ensures { (d : Design) → check self.entry.machine.file.now ≡ accepted d
+            → result ≡ run_told d (property_of self.entry.machine.file.now piece.now d property) (start d) choices.now }
+    {
+        let shape = self.machine.shape;
+        let n = slot_count(shape);
+        load_start(self.machine.file, shape, &mut pair[n..]);
+        self.replay_choices(piece, property, choices, pair)
+    }
 }
 
 // On an accepted file, with a right property and piece and few choices: the tables are filled once, for all steps.
@@ -154,13 +132,14 @@ pub fn replay_accepted<'a>(
     let mut all = [0u16; PAIR_SLOTS];
     let n = slot_count(shape);
     let end = n + n;
-    Ok(replay_slots(
+    let machine = Machine {
         file,
-        piece,
-        &events,
-        &cells,
-        Query { shape, property },
-        choices,
-        &mut all[..end],
-    ))
+        events: &events,
+        shape,
+    };
+    let movers = Movers {
+        machine,
+        cells: &cells,
+    };
+    Ok(movers.replay_slots(piece, property, choices, &mut all[..end]))
 }

@@ -9,7 +9,7 @@ has_constraint-requires c = let (table, ready) = c.requires in (sizes _ ready.in
 
 pub returns-then-not-has_constraint : goal.returns-then-not-has_constraint
 returns-then-not-has_constraint c =
-    let (table, ready) = c.requires in no_constraint _ _ _ _ ready (sym c.if-not-has_constraint.ensures)
+    let (table, ready) = c.requires in no_constraint _ _ _ ready.indexed (sym c.if-not-has_constraint.ensures) _
 
 pub constraint-stands-requires : goal.constraint-stands-requires
 constraint-stands-requires c = let (table, ready) = c.requires in tail_inside _ ready.indexed.accepted
@@ -19,7 +19,7 @@ eval_bool-x-requires c =
     let (table, ready) = c.requires in
     let stands = c.constraint-stands.ensures in
     let has = sym c.if-not-has_constraint.ensures in (
-      (c.args.file.now, max_depth, true, omega (arith, ready.size), constraint_reads _ _ _ _ ready has _ _ stands.0 stands.1),
+      (c.args.file.now, max_depth, true, omega (arith, ready.size), constraint_reads _ _ _ ready.indexed has _ _ stands.0 stands.1),
       omega (arith, stands.1),
     )
 
@@ -28,5 +28,5 @@ returns c =
     let (table, ready) = c.requires in
     let stands = c.constraint-stands.ensures in
     let has = sym c.if-not-has_constraint.ensures in
-    let reads = constraint_reads _ _ _ _ ready has _ _ stands.0 stands.1 in
-    constraint_value _ _ _ _ ready has _ _ stands.0 stands.1 _ (c.eval_bool-x.ensures c.args.file.now max_depth true reads).0
+    let reads = constraint_reads _ _ _ ready.indexed has _ _ stands.0 stands.1 in
+    constraint_value _ _ _ ready.indexed has _ _ stands.0 stands.1 _ _ (c.eval_bool-x.ensures c.args.file.now max_depth true reads).0

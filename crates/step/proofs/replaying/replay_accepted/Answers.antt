@@ -19,16 +19,8 @@ pub replay_slots-requires : goal.replay_slots-requires
 replay_slots-requires c =
     let few = c.slot_count-n.ensures.1 in let twice = ap₂ (λ (x y : ℕ). x + y) c.slot_count-n.ensures.0 c.slot_count-n.ensures.0 in (
       record {
-        ready = record {
-          indexed = record {
-            accepted = c.requires.0;
-            events = c.index_events.ensures;
-            shaped = c.shape-shape.ensures.shaped;
-          };
-          size = length-take-le _ _ (omega arith) ∙ twice;
-        };
+        size = length-take-le _ _ (omega arith) ∙ twice;
         right = c.requires.2;
-        movers = movers_here _ _ _ _ c.shape-shape.ensures c.index_cells-normals.ensures;
         few = c.requires.3;
         named
             = all_below c.args.choices.now (c.shape-shape.result.normals + c.shape-shape.result.externals) c.in_default.ensures;

@@ -1,6 +1,0 @@
-use Rattle.design.specs.State.{slot_count}
-use Rattle.step.proofs.Replays.{Replaying}
-use Rattle.step.proofs.replaying.replay_choices.Given as goal
-
-abbrev pub invariant-loop-i : goal.invariant-loop-i
-invariant-loop-i l = Replaying l.file l.piece l.query.property (slot_count l.query.shape) l.choices l.initial.pair l.i l.pair l.broken l.read l.guards
