@@ -24,51 +24,29 @@ pub fn mark_if(passed: bool, shape: Shape, slots: &mut [u16])
 }
 
 // The position past the list at `at`, which is not taken.
-pub fn skip_list(
-    text: &[u8],
-    file: &[u8],
-    at: usize,
-    end: usize,
-    shape: Shape,
-    nest: usize,
-) -> usize
-    requires { (end ≤ length text.now) × (3 * shape.variables ≤ length file.now) }
-    ensures { result ≡ past (list text.now (names_of file.now shape) end nest at) }
+pub fn skip_list<'a>(source: Source<'a>, at: usize, nest: usize) -> usize
+    ensures { result ≡ past (list source.entry.text.now (names_of source.entry.file.now source.entry.shape) source.entry.end nest at) }
 {
-    let source = Source {
-        text,
-        end,
-        file,
-        shape,
-    };
     source.check_list(at, nest).unwrap_or(0)
 }
 
 // What follows the operator byte of an assignment.
-pub fn run_assign(
-    text: &[u8],
-    file: &[u8],
-    at: usize,
-    end: usize,
-    shape: Shape,
-    slots: &mut [u16],
-) -> usize
-    requires { (is_read (assignment text.now (names_of file.now shape) end at) ≡ true) × (end ≤ length text.now)
-        × (3 * shape.variables ≤ length file.now) × (slot_count shape ≤ length slots.old) }
+pub fn run_assign<'a>(source: Source<'a>, at: usize, slots: &mut [u16]) -> usize
+    requires { (is_read (assignment source.text.now (names_of source.file.now source.shape) source.end at) ≡ true) × (slot_count source.shape ≤ length slots.old) }
     ensures { (slots.new
-        ≡ after_stmt (layout_of shape) (assignment text.now (names_of file.now shape) end at) slots.old) × (result
-        ≡ past (assignment text.now (names_of file.now shape) end at)) }
+        ≡ after_stmt (layout_of source.entry.shape) (assignment source.entry.text.now (names_of source.entry.file.now source.entry.shape) source.entry.end at) slots.old) × (result
+        ≡ past (assignment source.entry.text.now (names_of source.entry.file.now source.entry.shape) source.entry.end at)) }
 {
-    let v = wide(text[at]);
-    let k = file[3 * v];
+    let v = wide(source.text[at]);
+    let k = source.file[3 * v];
     if k == Kind::Integer as u8 {
-        let x = eval_int(text, at + 1, end, shape, slots);
-        mark_if(x.passed, shape, slots);
+        let x = eval_int(source.text, at + 1, source.end, source.shape, slots);
+        mark_if(x.passed, source.shape, slots);
         slots[v] = x.value;
         x.next
     } else {
-        let x = eval_bool(text, at + 1, end, shape, slots);
-        mark_if(x.passed, shape, slots);
+        let x = eval_bool(source.text, at + 1, source.end, source.shape, slots);
+        mark_if(x.passed, source.shape, slots);
         slots[v] = u16::from(x.value);
         x.next
     }
@@ -76,35 +54,26 @@ pub fn run_assign(
 
 // Runs the statement at `at`, which the reader accepts; answers the position past it.
 #[cycle(run_list_run_stmt)]
-pub fn run_stmt(
-    text: &[u8],
-    file: &[u8],
-    at: usize,
-    end: usize,
-    shape: Shape,
-    nest: usize,
-    slots: &mut [u16],
-) -> usize
-    requires { (is_read (statement text.now (names_of file.now shape) end nest at) ≡ true) × (end ≤ length text.now)
-        × (3 * shape.variables ≤ length file.now) × (slot_count shape ≤ length slots.old) }
+pub fn run_stmt<'a>(source: Source<'a>, at: usize, nest: usize, slots: &mut [u16]) -> usize
+    requires { (is_read (statement source.text.now (names_of source.file.now source.shape) source.end nest at) ≡ true) × (slot_count source.shape ≤ length slots.old) }
     ensures { (slots.new
-        ≡ after_stmt (layout_of shape) (statement text.now (names_of file.now shape) end nest at) slots.old) × (result
-        ≡ past (statement text.now (names_of file.now shape) end nest at)) }
+        ≡ after_stmt (layout_of source.entry.shape) (statement source.entry.text.now (names_of source.entry.file.now source.entry.shape) source.entry.end nest at) slots.old) × (result
+        ≡ past (statement source.entry.text.now (names_of source.entry.file.now source.entry.shape) source.entry.end nest at)) }
 {
-    let op = text[at];
+    let op = source.text[at];
     match op {
         0x20..=0x21 => {
             if op == 0x20 {
-                return run_assign(text, file, at + 1, end, shape, slots);
+                return run_assign(source, at + 1, slots);
             }
-            let c = eval_bool(text, at + 1, end, shape, slots);
-            mark_if(c.passed, shape, slots);
+            let c = eval_bool(source.text, at + 1, source.end, source.shape, slots);
+            mark_if(c.passed, source.shape, slots);
             if c.value {
-                let m = run_list(text, file, c.next, end, shape, nest - 1, slots);
-                skip_list(text, file, m, end, shape, nest - 1)
+                let m = run_list(source, c.next, nest - 1, slots);
+                skip_list(source, m, nest - 1)
             } else {
-                let m = skip_list(text, file, c.next, end, shape, nest - 1);
-                run_list(text, file, m, end, shape, nest - 1, slots)
+                let m = skip_list(source, c.next, nest - 1);
+                run_list(source, m, nest - 1, slots)
             }
         }
         _ => at,
@@ -113,25 +82,16 @@ pub fn run_stmt(
 
 // Runs the list at `at`, which the reader accepts; answers the position past it.
 #[cycle(run_list_run_stmt)]
-pub fn run_list(
-    text: &[u8],
-    file: &[u8],
-    at: usize,
-    end: usize,
-    shape: Shape,
-    nest: usize,
-    slots: &mut [u16],
-) -> usize
-    requires { (is_read (list text.now (names_of file.now shape) end nest at) ≡ true) × (end ≤ length text.now)
-        × (3 * shape.variables ≤ length file.now) × (slot_count shape ≤ length slots.old) }
+pub fn run_list<'a>(source: Source<'a>, at: usize, nest: usize, slots: &mut [u16]) -> usize
+    requires { (is_read (list source.text.now (names_of source.file.now source.shape) source.end nest at) ≡ true) × (slot_count source.shape ≤ length slots.old) }
     ensures { (slots.new
-        ≡ after_list (layout_of shape) (list text.now (names_of file.now shape) end nest at) slots.old) × (result
-        ≡ past (list text.now (names_of file.now shape) end nest at)) }
+        ≡ after_list (layout_of source.entry.shape) (list source.entry.text.now (names_of source.entry.file.now source.entry.shape) source.entry.end nest at) slots.old) × (result
+        ≡ past (list source.entry.text.now (names_of source.entry.file.now source.entry.shape) source.entry.end nest at)) }
 {
-    let count = text[at];
+    let count = source.text[at];
     let mut p = at + 1;
     for _ in 0..count {
-        p = run_stmt(text, file, p, end, shape, nest, slots);
+        p = run_stmt(source, p, nest, slots);
     }
     p
 }

@@ -16,6 +16,7 @@ use design::bytes::{wide, word};
 use design::index::external;
 use design::limits::{EVENT_ROW, MAX_NEST};
 use design::shape::{Shape, slot_count};
+use design::source::Source;
 
 // What came of testing a mover: whether its event was read, whether its guard was (a cell without one counts, too), and whether the choice was idle.
 #[derive(Clone, Copy)]
@@ -52,7 +53,13 @@ pub fn act_cell(file: &[u8], shape: Shape, p: usize, slots: &mut [u16])
 {
     let middle = p + 8 + wide(file[p + 5]);
     let past = middle + word(file, p + 6);
-    run_list(file, file, middle, past, shape, MAX_NEST, slots);
+    let source = Source {
+        text: file,
+        end: past,
+        file,
+        shape,
+    };
+    run_list(source, middle, MAX_NEST, slots);
     let m = wide(file[p]);
     slots[shape.variables + m] = u16::from(file[p + 4]);
 }

@@ -4,8 +4,8 @@ use Rattle.step.proofs.Values.{bool_forward}
 use Rattle.step.proofs.Runs.{stmt_unknown, list_forward, list_live, seq_first, going_start, going_on, going_end, stmt_live, assign_live, assign_runs, if_deep, if_test, if_then, if_else_lem, runs_then, runs_else}
 use Rattle.step.proofs.execute.+run_list_run_stmt.Goals as goal
 
-pub run_list-bounds-text-at : goal.run_list-bounds-text-at
-run_list-bounds-text-at t c =
+pub run_list-bounds-source-at : goal.run_list-bounds-source-at
+run_list-bounds-source-at t c =
     omega (arith, list_live _ _ _ _ _ c.requires.0)
 
 pub run_list-overflow_add-p : goal.run_list-overflow_add-p
@@ -18,7 +18,7 @@ pub run_list-run_stmt-p-requires : goal.run_list-run_stmt-p-requires
 run_list-run_stmt-p-requires t c =
     let first = seq_first _ _ _ _ _ _ c.loop.invariant.live (omega arith) in (
       omega (arith, list_live _ _ _ _ _ c.requires.0, c.loop.invariant.on, stmt_live _ _ _ _ _ first),
-      (first, omega arith, omega arith, omega (arith, c.loop.invariant.size)),
+      (first, omega (arith, c.loop.invariant.size)),
     )
 
 pub run_list-loop-preserved : goal.run_list-loop-preserved
@@ -31,8 +31,8 @@ run_list-shape_of-slots t c = c.loop.invariant.size
 pub run_list-returns : goal.run_list-returns
 run_list-returns t c = going_end _ _ _ _ _ _ _ _ _ _ (omega arith) c.loop.invariant
 
-pub run_stmt-bounds-text-at : goal.run_stmt-bounds-text-at
-run_stmt-bounds-text-at t c = omega (arith, stmt_live _ _ _ _ _ c.requires.0)
+pub run_stmt-bounds-source-at : goal.run_stmt-bounds-source-at
+run_stmt-bounds-source-at t c = omega (arith, stmt_live _ _ _ _ _ c.requires.0)
 
 pub run_stmt-overflow_add-at : goal.run_stmt-overflow_add-at
 run_stmt-overflow_add-at t c = omega (arith, stmt_live _ _ _ _ _ c.requires.0)
@@ -40,9 +40,6 @@ run_stmt-overflow_add-at t c = omega (arith, stmt_live _ _ _ _ _ c.requires.0)
 pub run_stmt-run_assign-requires : goal.run_stmt-run_assign-requires
 run_stmt-run_assign-requires t c = (
   assign_live _ _ _ _ _ c.requires.0 c.if-op-eq32.true,
-  omega arith,
-  omega
-      arith,
   omega arith,
 )
 
@@ -59,7 +56,7 @@ run_stmt-overflow_add-at-in-32-to-33 t c = omega (arith, stmt_live _ _ _ _ _ c.r
 pub run_stmt-eval_bool-c-requires : goal.run_stmt-eval_bool-c-requires
 run_stmt-eval_bool-c-requires t c = (
   (
-    c.args.file.now,
+    c.args.source.file.now,
     max_depth,
     false,
     omega arith,
@@ -75,15 +72,10 @@ run_stmt-overflow_sub-nest t c =
 pub run_stmt-run_list-m-requires : goal.run_stmt-run_list-m-requires
 run_stmt-run_list-m-requires t c =
     let test = if_test _ _ _ _ _ c.requires.0 c.if-op-eq32.false in
-    let after = (c.eval_bool-c.ensures c.args.file.now max_depth false test).1 in
+    let after = (c.eval_bool-c.ensures c.args.source.file.now max_depth false test).1 in
     let then = if_then _ _ _ _ _ c.requires.0 c.if-op-eq32.false _ after in (
       omega (arith, stmt_live _ _ _ _ _ c.requires.0, bool_forward _ _ _ max_depth _ _ test after, list_live _ _ _ _ _ then),
-      (
-        then,
-        omega arith,
-        omega arith,
-        omega arith,
-      ),
+      (then, omega arith),
     )
 
 pub run_stmt-overflow_sub-nest-then-c : goal.run_stmt-overflow_sub-nest-then-c
@@ -101,7 +93,7 @@ run_stmt-overflow_sub-nest-else-c-2 t c =
 pub run_stmt-run_list-requires : goal.run_stmt-run_list-requires
 run_stmt-run_list-requires t c =
     let test = if_test _ _ _ _ _ c.requires.0 c.if-op-eq32.false in
-    let after = (c.eval_bool-c.ensures c.args.file.now max_depth false test).1 in
+    let after = (c.eval_bool-c.ensures c.args.source.file.now max_depth false test).1 in
     let then = if_then _ _ _ _ _ c.requires.0 c.if-op-eq32.false _ after in
     let other = if_else_lem _ _ _ _ _ c.requires.0 c.if-op-eq32.false _ after _ c.skip_list-m.ensures in (
       omega (
@@ -111,7 +103,7 @@ run_stmt-run_list-requires t c =
         list_forward _ _ _ _ _ _ then c.skip_list-m.ensures,
         list_live _ _ _ _ _ other,
       ),
-      (other, omega arith, omega arith, omega arith),
+      (other, omega arith),
     )
 
 pub run_stmt-shape_of-slots-then-c : goal.run_stmt-shape_of-slots-then-c
@@ -119,7 +111,7 @@ run_stmt-shape_of-slots-then-c t c = omega arith
 
 pub run_stmt-returns-then-c : goal.run_stmt-returns-then-c
 run_stmt-returns-then-c t c =
-    let test = c.eval_bool-c.ensures c.args.file.now max_depth false (if_test _ _ _ _ _ c.requires.0 c.if-op-eq32.false) in
+    let test = c.eval_bool-c.ensures c.args.source.file.now max_depth false (if_test _ _ _ _ _ c.requires.0 c.if-op-eq32.false) in
     runs_then _ _ _ _ _ c.requires.0 c.if-op-eq32.false _ test.1 _ _ _ _ _ _ _ _ test.0 test.2 c.mark_if.ensures c.if-c.true c.run_list-m.ensures c.skip_list.ensures
 
 pub run_stmt-shape_of-slots-else-c : goal.run_stmt-shape_of-slots-else-c
@@ -127,7 +119,7 @@ run_stmt-shape_of-slots-else-c t c = omega arith
 
 pub run_stmt-returns-else-c : goal.run_stmt-returns-else-c
 run_stmt-returns-else-c t c =
-    let test = c.eval_bool-c.ensures c.args.file.now max_depth false (if_test _ _ _ _ _ c.requires.0 c.if-op-eq32.false) in
+    let test = c.eval_bool-c.ensures c.args.source.file.now max_depth false (if_test _ _ _ _ _ c.requires.0 c.if-op-eq32.false) in
     runs_else _ _ _ _ _ c.requires.0 c.if-op-eq32.false _ test.1 _ _ _ _ _ _ _ _ test.0 test.2 c.mark_if.ensures c.if-c.false c.skip_list-m.ensures c.run_list.ensures
 
 pub run_stmt-returns-in_default : goal.run_stmt-returns-in_default

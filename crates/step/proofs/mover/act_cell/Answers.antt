@@ -3,18 +3,22 @@ use Rattle.design.proofs.Indexed.{normal_fields}
 use Rattle.step.proofs.Cells.{sizes, kinds, action_reads, acted}
 use Rattle.step.proofs.mover.act_cell.Goals as goal
 
-pub run_list-requires : goal.run_list-requires
-run_list-requires c = (
-  action_reads _ _ _ c.requires.0.1.indexed _ c.requires.1 _ _ (ap (λ (k : ℕ). c.args.p + 8 + k) c.wide.ensures.0) (ap₂ (λ
-      (k j : ℕ). c.args.p + 8 + k + j) c.wide.ensures.0 c.word.ensures.0),
-  omega (
+pub invariant_of-source : goal.invariant_of-source
+invariant_of-source c = record {
+  inside = omega (
     arith,
     c.wide.ensures.0,
     c.word.ensures.0,
     (normal_fields _ _ _ c.requires.0.1.indexed _ c.requires.1).past,
     sizes _ _ _ c.requires.0.1.indexed,
-  ),
-  kinds _ _ _ c.requires.0.1.indexed,
+  );
+  kinds = kinds _ _ _ c.requires.0.1.indexed
+}
+
+pub run_list-requires : goal.run_list-requires
+run_list-requires c = (
+  action_reads _ _ _ c.requires.0.1.indexed _ c.requires.1 _ _ (ap (λ (k : ℕ). c.args.p + 8 + k) c.wide.ensures.0) (ap₂ (λ
+      (k j : ℕ). c.args.p + 8 + k + j) c.wide.ensures.0 c.word.ensures.0),
   omega (arith, c.requires.0.1.size),
 )
 
