@@ -30,13 +30,10 @@ pub fn turn(
         values.old values.new trail.new }
 {
     match scan(words, values, from) {
-        Found::Conflict => {
-            let r = undo(values, trail, t);
-            if r == 0 {
-                return Step::Unsat;
-            }
-            Step::Tries(r)
-        }
+        Found::Conflict => match undo(values, trail, t) {
+            Some(k) => Step::Tries(k),
+            None => Step::Unsat,
+        },
         Found::Unit { var, value, next } => {
             assign(values, trail, t, var, value, 0);
             Step::Goes { set: t + 1, next }
