@@ -58,6 +58,7 @@ pub fn run(words: &[i32], values: &mut [u8], trail: &mut [u32], budget: u64) -> 
     let mut from: usize = 0;
     let mut low: usize = 0;
     let mut tries: u64 = 0;
+    // Kept: it ends by what a turn comes to, and counts nothing.
     loop {
         match turn(words, values, trail, t, from, low) {
             Step::Goes { set, next } => {
