@@ -1,19 +1,8 @@
 // SOLVE.
 ghost use Rattle.std.specs.Prelude.{◌≡◌};
-ghost use Rattle.entries.specs.Solve.{answer_number, solve_entry};
+ghost use Rattle.entries.specs.Solve.{solve_entry};
 
 use super::code::code_of;
-use search::{Answered, Reply};
-
-fn answer_number(a: Answered) -> u64
-    ensures { result ≡ answer_number a }
-{
-    match a {
-        Answered::Sat => 0,
-        Answered::Unsat => 1,
-        Answered::Spent => 2,
-    }
-}
 
 #[unsafe(no_mangle)]
 pub extern "C" fn stm_solve(
@@ -28,12 +17,9 @@ pub extern "C" fn stm_solve(
         ≡ solve_entry n words.now values.old trail.old budget answer.old }
 {
     match search::solve(n, words, values, trail, budget) {
-        Reply::Refused { number, place } => code_of(number, place),
-        Reply::Done(s) => {
-            let a = s.answer;
-            let told = answer_number(a);
-            let tries = s.tries;
-            *answer = [told, tries];
+        Err(r) => code_of(r),
+        Ok(s) => {
+            *answer = [s.answer as u64, s.tries];
             0
         }
     }
