@@ -34,8 +34,7 @@ pub extern "C" fn stm_verdict<'a>(
         Ok(t) => {
             let told = verdict_number(t.verdict);
             let at = verdict_step(t.verdict);
-            let tries = t.tries;
-            *answer = [told, at, tries];
+            *answer = [told, at, t.tries];
             0
         }
     }

@@ -1,8 +1,15 @@
 // SOLVE.
 ghost use Rattle.std.specs.Prelude.{◌≡◌};
-ghost use Rattle.entries.specs.Solve.{solve_entry};
+ghost use Rattle.entries.specs.Solve.{answer_number, solve_entry};
 
 use super::code::code_of;
+use search::Answered;
+
+fn answer_number(a: Answered) -> u64
+    ensures { result ≡ answer_number a }
+{
+    a as u64
+}
 
 #[unsafe(no_mangle)]
 pub extern "C" fn stm_solve(
@@ -19,7 +26,7 @@ pub extern "C" fn stm_solve(
     match search::solve(n, words, values, trail, budget) {
         Err(r) => code_of(r),
         Ok(s) => {
-            *answer = [s.answer as u64, s.tries];
+            *answer = [answer_number(s.answer), s.tries];
             0
         }
     }
