@@ -12,6 +12,7 @@ ghost use Rattle.clauses.specs.FrameSizes.{no_gates, gates_at, both, more as mor
 ghost use Rattle.clauses.specs.Limits.{text_gates};
 
 use design::bytes::wide;
+use design::kind::Kind;
 use design::shape::Shape;
 
 // The gates of a sum, a difference or less, of 16 bits; of equal; and of a product, which is 16 sums.
@@ -166,7 +167,7 @@ pub fn size_assign(file: &[u8], at: usize, end: usize, shape: Shape) -> GatesAt
 {
     let v = wide(file[at]);
     let k = file[3 * v];
-    if k == 1 {
+    if k == Kind::Integer as u8 {
         size_int(file, at + 1, end, shape, true)
     } else {
         size_bool(file, at + 1, end, shape, true)
