@@ -81,11 +81,8 @@ pub fn size_sum(a: GatesAt, b: GatesAt, marks: bool) -> GatesAt
     requires { FewGates text_gates a × FewGates text_gates b }
     ensures { result ≡ both_with a b (add_costs sum_cost (sum_mark_cost marks)) }
 {
-    if marks {
-        join(a, b, SUM_ANDS + 1, SUM_WIDES + 1)
-    } else {
-        join(a, b, SUM_ANDS, SUM_WIDES)
-    }
+    let mark = u64::from(marks);
+    join(a, b, SUM_ANDS + mark, SUM_WIDES + mark)
 }
 
 // A product, of its operand's gates.
@@ -93,15 +90,12 @@ pub fn size_product(a: GatesAt, marks: bool) -> GatesAt
     requires { FewGates text_gates a }
     ensures { result ≡ more_with a (add_costs product_cost (product_mark_cost marks)) }
 {
-    if marks {
-        more(
-            a,
-            PRODUCT_ANDS + PRODUCT_MARK_ANDS,
-            PRODUCT_WIDES + PRODUCT_MARK_WIDES,
-        )
-    } else {
-        more(a, PRODUCT_ANDS, PRODUCT_WIDES)
-    }
+    let mark = u64::from(marks);
+    more(
+        a,
+        PRODUCT_ANDS + mark * PRODUCT_MARK_ANDS,
+        PRODUCT_WIDES + mark * PRODUCT_MARK_WIDES,
+    )
 }
 
 // The integer expression at `at`. `marks` says whether its sums, differences and products mark: those of statements and conditions do.
