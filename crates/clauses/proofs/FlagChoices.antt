@@ -5,7 +5,6 @@ use Rattle.std.specs.Option.{is_some, unwrap_or}
 use Rattle.std.specs.List.{position, position_or_len, list_all, range_with_len}
 use Rattle.std.proofs.lemmas.List.FromFn.{length-range_with_len}
 use mathlib.Core.Bool.{false≢true}
-use lib.Seq.{drop-length}
 use borrow.Author.Tests.{lt-leb}
 use Rattle.clauses.proofs.EmitWords.{append-nil}
 use Rattle.clauses.proofs.EmitLists.{take_all}
@@ -15,9 +14,6 @@ use Rattle.clauses.specs.Chosen.{below, first_nonzero, all_zero, chosen_in, flag
 and_false : (b : Bool) → (b && false) ≡ false
 and_false true = refl
 and_false false = refl
-
-past_end : (xs : List ℕ) (i : ℕ) → length xs ≤ i → i ≤ length xs → drop i xs ≡ []
-past_end xs i a b = let z : i ≡ length xs = omega arith in ap (λ (n : ℕ). drop n xs) z ∙ drop-length xs
 
 -- a place among n, and none
 module _ (n i : ℕ) where
