@@ -1,7 +1,7 @@
 -- Gates of statements and lists of them, over the bytes. Assumes nothing.
 use Rattle.std.proofs.Common.{◌≡◌, ℕ, zero, suc, ◌+◌, ◌-◌, ◌*◌, ◌<◌, ◌≤◌, Bool, true, false, eqb, ltb, List, [], ◌∷◌, length, get_or, set, ℤ, sym, refl, ap, ◌∙◌, subst, ap₂, sub-one, arith, ltb-true, lt-ltb, eq-eqb, ne_eqb}
 use Rattle.design.specs.Tree.{IntExpr, BoolExpr, Stmt, Stmts, assign, assign_b, if_else, done}
-use Rattle.design.specs.Limits.{max_depth, max_bits}
+use Rattle.design.specs.Limits.{max_depth}
 use Rattle.design.specs.Reading.{got, bad, Reader, provided}
 use Rattle.design.specs.Expression.{Names, byte, int_expr, bool_expr}
 use Rattle.design.specs.Action.{stmt_op, value, assignment, statements, list_of, conditional, statement, list}
@@ -309,7 +309,6 @@ module _ (file : List ℕ) (shape : Shape) where
 
   -- the walk of a list
   pub record Listing (at : ℕ) (codes₀ : List ℕ) (n₀ : ℕ) (xs₀ : List ℤ) (cur₀ : ℕ) (count p : ℕ) (codes : List ℕ) (xs : List ℤ) (cur v : ℕ) : Type 0 where
-    pub size : length codes ≡ max_bits
     pub ahead : at < p
     pub here : Here file (λ (end k : ℕ). Q file N end k count) p
     pub left : (end k : ℕ) (ts rs : Stmts) (n : ℕ) → end ≤ length file → L file N end k at ≡ got ts n → Q file N end k count p ≡ got rs n → Left n₀ (LG codes₀ ts n₀) xs₀ cur₀ v (LG codes rs v) xs cur (λ (x : Slots). x)
@@ -318,11 +317,10 @@ module _ (file : List ℕ) (shape : Shape) where
   pub list_here : {at : ℕ} → Here file (lists_at file file shape) at → at < length file
   list_here {at} h = omega (arith, (list_in file N h.end h.levels at _ _ h.read.reads).0, h.inside)
 
-  pub listing_start : (at : ℕ) (codes : List ℕ) (n : ℕ) (xs : List ℤ) (cur count : ℕ) → count ≡ get_or file at 0 → length codes ≡ max_bits → Here file (lists_at file file shape) at → Listing at codes n xs cur count (at + 1) codes xs cur n
-  listing_start at codes n xs cur count e h r =
+  pub listing_start : (at : ℕ) (codes : List ℕ) (n : ℕ) (xs : List ℤ) (cur count : ℕ) → count ≡ get_or file at 0 → Here file (lists_at file file shape) at → Listing at codes n xs cur count (at + 1) codes xs cur n
+  listing_start at codes n xs cur count e r =
       let q : (end k : ℕ) (ts : Stmts) (m : ℕ) → L file N end k at ≡ got ts m → Q file N end k count (at + 1) ≡ got ts m = (λ end k ts m w. ap (λ (j : ℕ). Q file N end k j (at + 1)) e ∙ (list_in file N end k at ts m w).1) in
       record {
-        size = h;
         ahead = omega arith;
         here = record { end = r.end; levels = r.levels; inside = r.inside; read = record { tree = r.read.tree; past = r.read.past; reads = q r.end r.levels r.read.tree r.read.past r.read.reads } };
         left = λ end k ts rs m i w u. left_same _ _ (ap (λ (x : Stmts). LG codes x n) (sym (got_same _ _ _ _ (sym (q end k ts m w) ∙ u)).0)) (left_start n (LG codes ts n) xs cur);
@@ -337,14 +335,13 @@ module _ (file : List ℕ) (shape : Shape) where
         record { end = r.end; levels = r.levels; inside = r.inside; read = record { tree = m.head; past = m.middle; reads = m.reads } }
 
     pub listing_on : 0 < count → {ys : List ℤ} (codes' : List ℕ) {p1 : Cursor} {q : ℕ}
-        → Encodes file (stmts_at file file shape) (SG codes) p (record { cur = cur; var = v }) xs ys (SL codes') p1 q × (length codes' ≡ max_bits) → Listing at codes₀ n₀ xs₀ cur₀ (count - 1) q codes' ys p1.cur p1.var
+        → Encodes file (stmts_at file file shape) (SG codes) p (record { cur = cur; var = v }) xs ys (SL codes') p1 q → Listing at codes₀ n₀ xs₀ cur₀ (count - 1) q codes' ys p1.cur p1.var
     listing_on h codes' {p1 = p1} {q = q} w =
         let r = l.here in
         let step : (end k : ℕ) (rs : Stmts) (n : ℕ) → Q file N end k count p ≡ got rs n → MoreRead (S file N end k) (Q file N end k (count - 1)) p rs n = (λ end k rs n u. more_in file N end k count p rs n h u) in
-        let on : (end k : ℕ) (rs : Stmts) (n : ℕ) → end ≤ length file → (u : Q file N end k count p ≡ got rs n) → q ≡ (step end k rs n u).middle = (λ end k rs n i u. (w.0.encodes end k _ _ i (step end k rs n u).reads).1) in
+        let on : (end k : ℕ) (rs : Stmts) (n : ℕ) → end ≤ length file → (u : Q file N end k count p ≡ got rs n) → q ≡ (step end k rs n u).middle = (λ end k rs n i u. (w.encodes end k _ _ i (step end k rs n u).reads).1) in
         let m = step r.end r.levels _ _ r.read.reads in
         record {
-          size = w.1;
           ahead = omega (arith, l.ahead, ahead_stmt file N r.end r.levels p _ _ m.reads, on r.end r.levels _ _ r.inside r.read.reads);
           here = record { end = r.end; levels = r.levels; inside = r.inside; read = record { tree = m.tail; past = r.read.past; reads = ap (Q file N r.end r.levels (count - 1)) (on r.end r.levels _ _ r.inside r.read.reads) ∙ m.then } };
           left = λ end k ts rs n i a u.
@@ -354,21 +351,18 @@ module _ (file : List ℕ) (shape : Shape) where
               left_same _ _ (ap (λ (x : Stmts). LG codes' x p1.var) same)
               (left_on (SG codes d.head) (λ (r : Slots). statements! d.tail (layout_of shape) r)
               (left_same _ _ (ap (λ (x : Stmts). LG codes x v) d.tree ∙ ap (λ (x : Build Slots). x v) (then_tree (layout_of shape) (SL codes) d.head d.tail)) (l.left end k ts b.0 n i a b.1))
-              (w.0.encodes end k _ _ i d.reads).0);
+              (w.encodes end k _ _ i d.reads).0);
           past = λ end k ts n i a. let b = l.past end k ts n i a in let d = step end k b.0 n b.1 in (d.tail, ap (Q file N end k (count - 1)) (on end k _ _ i b.1) ∙ d.then);
         }
 
     pub listing_next : {rest : ℕ} → 0 < count → rest ≡ count - 1 → {ys : List ℤ} (codes' : List ℕ) {p1 : Cursor} {q : ℕ}
-        → Encodes file (stmts_at file file shape) (SG codes) p (record { cur = cur; var = v }) xs ys (SL codes') p1 q × (length codes' ≡ max_bits) → Listing at codes₀ n₀ xs₀ cur₀ rest q codes' ys p1.cur p1.var
+        → Encodes file (stmts_at file file shape) (SG codes) p (record { cur = cur; var = v }) xs ys (SL codes') p1 q → Listing at codes₀ n₀ xs₀ cur₀ rest q codes' ys p1.cur p1.var
     listing_next h e codes' w = rw e (listing_on h codes' w)
 
-    pub listing_end : count ≤ 0 → Encodes file (lists_at file file shape) (LG codes₀) at (record { cur = cur₀; var = n₀ }) xs₀ xs (SL codes) (record { cur = cur; var = v }) p × (length codes ≡ max_bits)
-    listing_end h = (
-      record {
-        encodes = λ end k ts n i a.
-            let b = l.past end k ts n i a in
-            let e = none_in file N end k count p b.0 n h b.1 in
-            (left_end (SL codes) (left_same _ _ (ap (λ (x : Stmts). LG codes x v) e.0 ∙ done_tree (layout_of shape) (SL codes) v) (l.left end k ts b.0 n i a b.1)), sym e.1);
-      },
-      l.size,
-    )
+    pub listing_end : count ≤ 0 → Encodes file (lists_at file file shape) (LG codes₀) at (record { cur = cur₀; var = n₀ }) xs₀ xs (SL codes) (record { cur = cur; var = v }) p
+    listing_end h = record {
+      encodes = λ end k ts n i a.
+          let b = l.past end k ts n i a in
+          let e = none_in file N end k count p b.0 n h b.1 in
+          (left_end (SL codes) (left_same _ _ (ap (λ (x : Stmts). LG codes x v) e.0 ∙ done_tree (layout_of shape) (SL codes) v) (l.left end k ts b.0 n i a b.1)), sym e.1);
+    }

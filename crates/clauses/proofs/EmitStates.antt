@@ -1,5 +1,5 @@
 -- The flat state: a slot set, and all bits muxed. Assumes nothing.
-use Rattle.std.proofs.Common.{◌≡◌, ℕ, zero, suc, ◌+◌, ◌-◌, ◌*◌, ◌<◌, ◌≤◌, Bool, false, cond, eqb, List, [], ◌∷◌, ◌++◌, length, get_or, take, drop, set, ℤ, sym, refl, ap, ◌∙◌, ap₂, append_assoc, add-one, arith, length-append, length-drop, length-set, length-take-le, get_or-set_other, get_or-take, drop-drop, take_at, take-add, drop_at}
+use Rattle.std.proofs.Common.{◌≡◌, ℕ, zero, suc, ◌+◌, ◌-◌, ◌*◌, ◌<◌, ◌≤◌, Bool, false, cond, eqb, List, [], ◌∷◌, ◌++◌, length, get_or, take, drop, set, ℤ, sym, refl, ap, ◌∙◌, ap₂, append_assoc, add-one, arith, length-drop, length-set, length-take-le, get_or-set_other, get_or-take, drop-drop, take_at, take-add, drop_at}
 use lib.Seq.{set_split}
 use borrow.Rule.Slice.PartMut.{put_mid}
 use Rattle.design.specs.declared.shape.Shape.{Shape}
@@ -109,16 +109,13 @@ mux_row c = record { nil = λ ys n. refl; step = λ a b xs bs n. refl }
 
 -- the first literals of a word stored
 pub stored : (s x : List ℕ) (off w : ℕ) (ys : List ℕ) → w ≤ length x → off + w ≤ length s → ys ≡ take w x
-    → (put_mid off (off + w - off) s ys ≡ over off (take w x) s) × (length (put_mid off (off + w - off) s ys) ≡ length s)
+    → put_mid off (off + w - off) s ys ≡ over off (take w x) s
 unfolding over
 stored s x off w ys few room e =
     let k = off + w - off in
     let n : length (take w x) ≡ w = length-take-le w x few in
-    let f : length (take off s) ≡ off = length-take-le off s (omega arith) in
-    let past : off + k ≡ off + length (take w x) = omega arith in (
-      ap₂ (λ (a b : List ℕ). take off s ++ (a ++ b)) e (drop-drop k off s ∙ ap (λ (j : ℕ). drop j s) past),
-      omega (arith, length-append (take off s) (ys ++ drop k (drop off s)), length-append ys (drop k (drop off s)), ap length e, length-drop k (drop off s), length-drop off s),
-    )
+    let past : off + k ≡ off + length (take w x) = omega arith in
+    ap₂ (λ (a b : List ℕ). take off s ++ (a ++ b)) e (drop-drop k off s ∙ ap (λ (j : ℕ). drop j s) past)
 
 pub set_over : (o l : ℕ) (codes : List ℕ) → o < length codes → set codes o l ≡ over o (l ∷ []) codes
 unfolding over

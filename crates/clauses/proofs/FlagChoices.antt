@@ -2,9 +2,9 @@
 use Rattle.std.proofs.Common.{◌≡◌, ℕ, zero, suc, ◌+◌, ◌-◌, ◌*◌, ◌<◌, ◌≤◌, Bool, true, false, cond, ◌&&◌, not, eqb, ltb, lt-ltb, le-ltb, ltb-true, ltb-false, List, [], ◌∷◌, ◌++◌, length, get_or, take, drop, set, sym, refl, ap, ◌∙◌, subst, ap₂, append_assoc, suc-mul, add-one, arith, length-drop, length-set, length-take-le, drop-cons, take-suc-set, eq-eqb, ne_eqb, eqb-true}
 use Rattle.std.specs.Prelude.{Option, Some, None}
 use Rattle.std.specs.Option.{is_some, unwrap_or}
-use Rattle.std.specs.List.{position, position_or_len, list_all}
+use Rattle.std.specs.List.{position, position_or_len, list_all, range_with_len}
+use Rattle.std.proofs.lemmas.List.FromFn.{length-range_with_len}
 use mathlib.Core.Bool.{false≢true}
-use lib.Seq.{drop-length}
 use borrow.Author.Tests.{lt-leb}
 use Rattle.clauses.proofs.EmitWords.{append-nil}
 use Rattle.clauses.proofs.EmitLists.{take_all}
@@ -14,9 +14,6 @@ use Rattle.clauses.specs.Chosen.{below, first_nonzero, all_zero, chosen_in, flag
 and_false : (b : Bool) → (b && false) ≡ false
 and_false true = refl
 and_false false = refl
-
-past_end : (xs : List ℕ) (i : ℕ) → length xs ≤ i → i ≤ length xs → drop i xs ≡ []
-past_end xs i a b = let z : i ≡ length xs = omega arith in ap (λ (n : ℕ). drop n xs) z ∙ drop-length xs
 
 -- a place among n, and none
 module _ (n i : ℕ) where
@@ -243,43 +240,36 @@ module _ (values : List ℕ) (size w k base : ℕ) where
       pub flags_long : length cut ≡ w
       flags_long = ap length cut_is ∙ length-take-le w (drop at values) (let h = length-drop at values in omega (arith, flags_inside))
 
-    choice_bad : length cut ≤ chosen_in cut → just_one (flags_from values size w at) ≡ false
-    choice_bad m = sym (ap just_one cut_is) ∙ wrong_frame cut m
+  -- what the code asks of frame j, whose flags are the n from m on
+  abbrev pub Judged : ℕ → Bool → Type 0
+  Judged j b = (o : Option ℕ) × (n : ℕ) × (m : ℕ) × (b ≡ not (is_some o)) × (o ≡ below (length (take n (drop m values))) (chosen_in (take n (drop m values)))) × (m ≡ base + j * size) × (n ≡ w)
 
-    choice_good : chosen_in cut < length cut → just_one (flags_from values size w at) ≡ true
-    choice_good m = sym (ap just_one cut_is) ∙ right_frame cut m
+  pub judged : (j : ℕ) (b : Bool) → Judged j b → b ≡ not (just_one (flags_from values size w (base + j * size)))
+  judged j b (o, n, m, e, q, em, en) = e ∙ go o q ∙ ap₂ (λ (n m : ℕ). not (just_one (take n (drop m values)))) en em
+    where
+      cut : List ℕ
+      cut = take n (drop m values)
 
-  pub record Testing (at j : ℕ) : Type 0 where
-    pub next : Next at j
-    pub same : first_bad values size w (k - j) at j ≡ first_bad values size w k base 0
+      go : (o : Option ℕ) → o ≡ below (length cut) (chosen_in cut) → not (is_some o) ≡ not (just_one cut)
+      go None q = ap not (sym (wrong_frame cut (none_is _ _ None q refl)))
+      go (Some i) q = ap not (sym (right_frame cut (some_is _ _ (Some i) q refl)))
 
-  pub testing_start : base + k * size ≤ length values → Testing base 0
-  testing_start l = record { next = next_start l; same = ap (λ (n : ℕ). first_bad values size w n base 0) none_passed }
+  -- the first frame without just one flag, as `position` finds it among the m from j on
+  abbrev pub misses : ℕ → Bool
+  misses j = not (just_one (flags_from values size w (base + j * size)))
 
-  module _ (at j : ℕ) (l : j < k) (g : Testing at j) (o : Option ℕ) (q : o ≡ below (length (take (at + w - at) (drop at values))) (chosen_in (take (at + w - at) (drop at values)))) where
-    turn : first_bad values size w (k - j) at j ≡ cond (just_one (flags_from values size w at)) (first_bad values size w (k - (j + 1)) (at + size) (suc j)) j
-    unfolding first_bad
-    turn = ap (λ (n : ℕ). first_bad values size w n at j) (left at j l)
-
-    pub testing_on : is_some o ≡ true → Testing (at + size) (j + 1)
-    testing_on m = record {
-      next = next_on at j l g.next;
-      same =
-          ap (first_bad values size w (k - (j + 1)) (at + size)) (add-one j)
-          ∙ ap (λ (t : Bool). cond t (first_bad values size w (k - (j + 1)) (at + size) (suc j)) j) (sym (choice_good at j l (some_is _ _ o q m)))
-          ∙ sym turn ∙ g.same;
-    }
-
-    pub testing_bad : is_some o ≡ false → Some j ≡ below k (first_bad values size w k base 0)
-    testing_bad m =
-        let e = ap (λ (t : Bool). cond t (first_bad values size w (k - (j + 1)) (at + size) (suc j)) j) (sym (choice_bad at j l (none_is _ _ o q m))) in
-        found k _ j (e ∙ sym turn ∙ g.same) l
-
-  pub testing_end : (at j : ℕ) → k ≤ j → Testing at j → None ≡ below k (first_bad values size w k base 0)
+  miss_from : (m j : ℕ) → j + position_or_len misses (range_with_len j m) ≡ first_bad values size w m (base + j * size) j
   unfolding first_bad
-  testing_end at j l g =
-      let e = sym (ap (λ (n : ℕ). first_bad values size w n at j) (let z : k - j ≡ 0 = omega arith in z)) ∙ g.same in
-      not_found k _ (omega arith)
+  miss_from zero j = omega arith
+  miss_from (suc m) j = go (just_one (flags_from values size w (base + j * size))) (miss_from m (j + 1) ∙ ap₂ (first_bad values size w m) (let z : base + (j + 1) * size ≡ base + j * size + size = omega arith in z) (add-one j))
+    where
+      go : (t : Bool) → j + 1 + position_or_len misses (range_with_len (j + 1) m) ≡ first_bad values size w m (base + j * size + size) (suc j)
+          → j + cond (not (not t)) (1 + position_or_len misses (range_with_len (j + 1) m)) 0 ≡ cond t (first_bad values size w m (base + j * size + size) (suc j)) j
+      go true next = omega (arith, next)
+      go false next = omega arith
+
+  pub first_miss : below (length (range_with_len 0 k)) (position_or_len misses (range_with_len 0 k)) ≡ below k (first_bad values size w k base 0)
+  first_miss = ap₂ below (length-range_with_len 0 k) (let h = miss_from k 0 ∙ ap (λ (n : ℕ). first_bad values size w k n 0) (let z : base + 0 * size ≡ base = omega arith in z) in omega (arith, h))
 
   -- the choices that are written
   pub record Writing (at j : ℕ) (choices : List ℕ) : Type 0 where

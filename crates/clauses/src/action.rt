@@ -1,6 +1,6 @@
 // The gates of statements and lists of them: the statement walker and the list walker call each other, with the bytes left falling.
 // The state's literals stand in an array that is lent and changed in place; an if saves a copy. The last of them is the mark.
-ghost use Rattle.std.specs.Prelude.{◌≡◌, ◌+◌, ◌*◌, ◌≤◌, false, length, take};
+ghost use Rattle.std.specs.Prelude.{◌≡◌, ◌+◌, ◌*◌, ◌≤◌, false, take};
 ghost use Rattle.design.specs.Limits.{max_bits};
 ghost use Rattle.clauses.specs.FlatState.{over, Slotted};
 ghost use Rattle.clauses.specs.Encoders.{MuxesWritten, Here, assigns_at, stmts_at, lists_at, AssignEncoded, StmtEncoded, ListEncoded};
@@ -9,6 +9,7 @@ use super::expression::{encode_bool, encode_int};
 use super::gate::{Cursor, Pen, emit_mux};
 use design::bits::offset;
 use design::bytes::wide;
+use design::kind::Kind;
 use design::limits::MAX_BITS;
 use design::shape::Shape;
 
@@ -28,8 +29,8 @@ pub fn muxes(
     buf: &mut [i32],
     pen: Cursor,
 ) -> Cursor
-    requires { (shape.bits ≤ max_bits) × (length state.old ≡ max_bits) × (length other.now ≡ max_bits) }
-    ensures { MuxesWritten shape c state.old other.now state.new pen buf.old buf.new result × (length state.new ≡ max_bits) }
+    requires { shape.bits ≤ max_bits }
+    ensures { MuxesWritten shape c state.old other.now state.new pen buf.old buf.new result }
 {
     let mut pen = pen;
     for i in 0..shape.bits {
@@ -42,8 +43,8 @@ pub fn muxes(
 
 // The first w of sixteen literals into the state.
 pub fn store_word(state: &mut [u32; MAX_BITS], off: usize, x: [u32; 16], w: usize)
-    requires { (off + w ≤ max_bits) × (w ≤ 16) × (length state.old ≡ max_bits) }
-    ensures { (state.new ≡ over off (take w x) state.old) × (length state.new ≡ max_bits) }
+    requires { (off + w ≤ max_bits) × (w ≤ 16) }
+    ensures { state.new ≡ over off (take w x) state.old }
 {
     state[off..off + w].copy_from_slice(&x[..w]);
 }
@@ -57,8 +58,8 @@ pub fn encode_assign(
     buf: &mut [i32],
     pen: Cursor,
 ) -> Done
-    requires { Slotted false file.now shape state.old × (length state.old ≡ max_bits) × Here file.now (assigns_at file.now file.now shape) at }
-    ensures { AssignEncoded file.now shape state.old state.new at pen buf.old buf.new result × (length state.new ≡ max_bits) }
+    requires { Slotted false file.now shape state.old × Here file.now (assigns_at file.now file.now shape) at }
+    ensures { AssignEncoded file.now shape state.old state.new at pen buf.old buf.new result }
 {
     let v = wide(file[at]);
     let k = file[3 * v];
@@ -69,7 +70,7 @@ pub fn encode_assign(
         marks: true,
         mark: state[last],
     };
-    if k == 1 {
+    if k == Kind::Integer as u8 {
         let x = encode_int(file, file, at + 1, shape, state, buf, from);
         state[last] = x.pen.mark;
         store_word(state, o, x.value, 16);
@@ -98,8 +99,8 @@ pub fn encode_stmt(
     buf: &mut [i32],
     pen: Cursor,
 ) -> Done
-    requires { Slotted false file.now shape state.old × (length state.old ≡ max_bits) × Here file.now (stmts_at file.now file.now shape) at }
-    ensures { StmtEncoded file.now shape state.old state.new at pen buf.old buf.new result × (length state.new ≡ max_bits) }
+    requires { Slotted false file.now shape state.old × Here file.now (stmts_at file.now file.now shape) at }
+    ensures { StmtEncoded file.now shape state.old state.new at pen buf.old buf.new result }
 {
     let op = file[at];
     if op == 0x20 {
@@ -133,8 +134,8 @@ pub fn encode_list(
     buf: &mut [i32],
     pen: Cursor,
 ) -> Done
-    requires { Slotted false file.now shape state.old × (length state.old ≡ max_bits) × Here file.now (lists_at file.now file.now shape) at }
-    ensures { ListEncoded file.now shape state.old state.new at pen buf.old buf.new result × (length state.new ≡ max_bits) }
+    requires { Slotted false file.now shape state.old × Here file.now (lists_at file.now file.now shape) at }
+    ensures { ListEncoded file.now shape state.old state.new at pen buf.old buf.new result }
 {
     let mut done = Done { pen, next: at + 1 };
     for _ in 0..file[at] {

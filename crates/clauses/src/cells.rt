@@ -12,6 +12,7 @@ ghost use Rattle.clauses.specs.Limits.{text_gates, most_gates};
 use super::cost::{GatesAt, join, no_gates, size_bool, size_list};
 use design::bytes::{wide, word};
 use design::index::{CELLS, CELLS_AT, trailer_word};
+use design::kind::CellKind;
 use design::limits::{EVENT_PLACES, EVENT_ROW, MAX_NEST};
 use design::shape::Shape;
 
@@ -83,7 +84,7 @@ pub fn size_cell(
     ensures { (result.next ≡ c_past file.now p) × CellCounted file.now shape.bits invalid p result }
 {
     let none = no_gates(p + 8 + wide(file[p + 5]) + word(file, p + 6));
-    if file[p + 3] == 0 {
+    if file[p + 3] == CellKind::Normal as u8 {
         if invalid {
             return none;
         }

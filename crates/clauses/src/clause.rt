@@ -1,6 +1,6 @@
 // Clauses that are no gates: of a frame's flags, its ties and the initial units. Their variables follow one another, so a first one and a
 // number name them.
-ghost use Rattle.std.specs.Prelude.{◌≡◌, ◌+◌, ◌<◌, ◌≤◌, ◌++◌, length, take, if◌then◌else◌};
+ghost use Rattle.std.specs.Prelude.{◌≡◌, ◌+◌, ◌<◌, ◌≤◌, ◌++◌, take, if◌then◌else◌};
 ghost use Rattle.design.specs.Limits.{max_movers, max_bits};
 ghost use Rattle.design.specs.Tree.{truth};
 ghost use Rattle.clauses.specs.Literal.{positive as positively, negate as negated};
@@ -118,7 +118,7 @@ pub fn put_all_ties(
     b: u32,
     n: usize,
 ) -> usize
-    requires { (all ≤ max_movers) × (n ≤ max_bits) × (length firsts.now ≡ max_movers) }
+    requires { (all ≤ max_movers) × (n ≤ max_bits) }
     ensures { AllTiesPut n b buf.old buf.new cur result f all firsts.now }
 {
     let mut at = cur;

@@ -12,6 +12,7 @@ ghost use Rattle.clauses.specs.FrameSizes.{no_gates, gates_at, both, more as mor
 ghost use Rattle.clauses.specs.Limits.{text_gates};
 
 use design::bytes::wide;
+use design::kind::Kind;
 use design::shape::Shape;
 
 // The gates of a sum, a difference or less, of 16 bits; of equal; and of a product, which is 16 sums.
@@ -80,11 +81,8 @@ pub fn size_sum(a: GatesAt, b: GatesAt, marks: bool) -> GatesAt
     requires { FewGates text_gates a × FewGates text_gates b }
     ensures { result ≡ both_with a b (add_costs sum_cost (sum_mark_cost marks)) }
 {
-    if marks {
-        join(a, b, SUM_ANDS + 1, SUM_WIDES + 1)
-    } else {
-        join(a, b, SUM_ANDS, SUM_WIDES)
-    }
+    let mark = u64::from(marks);
+    join(a, b, SUM_ANDS + mark, SUM_WIDES + mark)
 }
 
 // A product, of its operand's gates.
@@ -92,15 +90,12 @@ pub fn size_product(a: GatesAt, marks: bool) -> GatesAt
     requires { FewGates text_gates a }
     ensures { result ≡ more_with a (add_costs product_cost (product_mark_cost marks)) }
 {
-    if marks {
-        more(
-            a,
-            PRODUCT_ANDS + PRODUCT_MARK_ANDS,
-            PRODUCT_WIDES + PRODUCT_MARK_WIDES,
-        )
-    } else {
-        more(a, PRODUCT_ANDS, PRODUCT_WIDES)
-    }
+    let mark = u64::from(marks);
+    more(
+        a,
+        PRODUCT_ANDS + mark * PRODUCT_MARK_ANDS,
+        PRODUCT_WIDES + mark * PRODUCT_MARK_WIDES,
+    )
 }
 
 // The integer expression at `at`. `marks` says whether its sums, differences and products mark: those of statements and conditions do.
@@ -166,7 +161,7 @@ pub fn size_assign(file: &[u8], at: usize, end: usize, shape: Shape) -> GatesAt
 {
     let v = wide(file[at]);
     let k = file[3 * v];
-    if k == 1 {
+    if k == Kind::Integer as u8 {
         size_int(file, at + 1, end, shape, true)
     } else {
         size_bool(file, at + 1, end, shape, true)

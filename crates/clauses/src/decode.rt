@@ -47,14 +47,10 @@ pub fn first_bad(values: &[u8], base: usize, size: usize, w: usize, k: usize) ->
     requires { (base + k * size ≤ length values.now) × (w ≤ size) }
     ensures { result ≡ below k (first_bad values.now size w k base 0) }
 {
-    let mut at = base;
-    for j in 0..k {
-        if chosen(&values[at..at + w]).is_none() {
-            return Some(j);
-        }
-        at += size;
-    }
-    None
+    (0..k).position(|j| {
+        let at = base + j * size;
+        chosen(&values[at..at + w]).is_none()
+    })
 }
 
 // Writes the choices of k frames.

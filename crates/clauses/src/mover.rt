@@ -1,7 +1,6 @@
 // Movers: a normal cell or an external, from the state's literals to the muxes of its result. `events` is the table of events, `p` where a
 // cell stands.
-ghost use Rattle.std.specs.Prelude.{◌≡◌, ℕ, ◌*◌, ◌<◌, List, length, slice_index};
-ghost use Rattle.design.specs.Limits.{max_bits};
+ghost use Rattle.std.specs.Prelude.{◌≡◌, ℕ, ◌*◌, ◌<◌, List, slice_index};
 ghost use Rattle.design.specs.Tree.{Design, cell, raise};
 ghost use Rattle.design.specs.Check.{event_in};
 ghost use Rattle.design.specs.Sections.{Parts, CellFields};
@@ -28,7 +27,7 @@ pub fn status_and_event(
     buf: &mut [i32],
     pen: Cursor,
 ) -> Out<u32>
-    requires { Ready file.now events.now shape × (length bits.now ≡ max_bits) × CellFields file.now p }
+    requires { Ready file.now events.now shape × CellFields file.now p }
     ensures { (d : Design) (parts : Parts file.now d)
         → CellGates file.now shape bits.now p (event_in parts.rows) pen buf.old buf.new result }
 {
@@ -51,7 +50,7 @@ pub fn encode_guard(
     buf: &mut [i32],
     pen: Cursor,
 ) -> Out<u32>
-    requires { ((table : List ℕ) × Ready file.now table shape) × (length bits.now ≡ max_bits) × NormalCell file.now p }
+    requires { ((table : List ℕ) × Ready file.now table shape) × NormalCell file.now p }
     ensures { (x : NormalCell file.now p) → BoolGates file.now shape bits.now x.cell.guard pen buf.old buf.new result }
 {
     let n = wide(file[p + 5]);
@@ -71,7 +70,7 @@ pub fn encode_enable(
     buf: &mut [i32],
     pen: Cursor,
 ) -> Out<u32>
-    requires { Ready file.now events.now shape × (length bits.now ≡ max_bits) × NormalCell file.now p }
+    requires { Ready file.now events.now shape × NormalCell file.now p }
     ensures { (x : NormalCell file.now p) → EnableGates file.now shape bits.now (cell x.cell) pen buf.old buf.new result }
 {
     let a = status_and_event(file, events, p, shape, bits, buf, pen);
@@ -89,7 +88,7 @@ pub fn encode_cell(
     buf: &mut [i32],
     pen: Cursor,
 ) -> Out<u32>
-    requires { Ready file.now events.now shape × (length bits.now ≡ max_bits) × NormalCell file.now p }
+    requires { Ready file.now events.now shape × NormalCell file.now p }
     ensures { (x : NormalCell file.now p) → Moves file.now shape bits.now (cell x.cell) pen buf.old buf.new result }
 {
     let e = encode_enable(file, events, p, shape, bits, buf, pen);
@@ -114,7 +113,7 @@ pub fn encode_external(
     buf: &mut [i32],
     pen: Cursor,
 ) -> Out<u32>
-    requires { ShapedFile file.now shape × (length bits.now ≡ max_bits) × (v < shape.variables) × (slice_index file.now (3 * v) ≡ 2) }
+    requires { ShapedFile file.now shape × (v < shape.variables) × (slice_index file.now (3 * v) ≡ 2) }
     ensures { Moves file.now shape bits.now (raise v) pen buf.old buf.new result }
 {
     let e = negate(load_flag(file, v, false, shape, bits));

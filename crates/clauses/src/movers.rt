@@ -1,6 +1,4 @@
 // The gates of a step: all movers in order. The first variable of each result is kept, for the ties.
-ghost use Rattle.std.specs.Prelude.{◌≡◌, length};
-ghost use Rattle.design.specs.Limits.{max_bits, max_movers};
 ghost use Rattle.design.specs.Places.{CellsIndexed};
 ghost use Rattle.clauses.specs.Ready.{Ready, AllMove};
 
@@ -20,8 +18,8 @@ pub fn encode_step(
     buf: &mut [i32],
     pen: Cursor,
 ) -> Out<[u32; MAX_MOVERS]>
-    requires { Ready file.now events.now shape × (length bits.now ≡ max_bits) × CellsIndexed file.now cells.now shape.normals }
-    ensures { AllMove file.now shape bits.now pen buf.old buf.new result × (length result.value ≡ max_movers) }
+    requires { Ready file.now events.now shape × CellsIndexed file.now cells.now shape.normals }
+    ensures { AllMove file.now shape bits.now pen buf.old buf.new result }
 {
     let mut value = [0u32; MAX_MOVERS];
     let mut pen = pen;

@@ -1,6 +1,5 @@
 // The gates of a property: property 0's expression, the chain over the invalid cells, or the constraint; then an and with the mark's negation.
-ghost use Rattle.std.specs.Prelude.{◌≡◌, ℕ, true, List, length};
-ghost use Rattle.design.specs.Limits.{max_bits, pair_bits};
+ghost use Rattle.std.specs.Prelude.{◌≡◌, ℕ, true, List};
 ghost use Rattle.design.specs.Tree.{Design};
 ghost use Rattle.design.specs.Check.{event_in};
 ghost use Rattle.design.specs.Sections.{Parts, CellFields};
@@ -22,6 +21,7 @@ use super::literal::{TRUE, negate};
 use super::mover::status_and_event;
 use design::bytes::{wide, word};
 use design::index::{CELLS, CELLS_AT, constraint, has_constraint, trailer_word};
+use design::kind::CellKind;
 use design::limits::{EVENT_PLACES, MAX_BITS, PAIR_BITS};
 use design::shape::Shape;
 use step::limits::CONSTRAINT;
@@ -37,12 +37,11 @@ pub fn encode_link(
     buf: &mut [i32],
     chain: Out<u32>,
 ) -> Out<u32>
-    requires { Ready file.now events.now shape × (length bits.now ≡ max_bits) × CellFields file.now p }
+    requires { Ready file.now events.now shape × CellFields file.now p }
     ensures { (d : Design) (parts : Parts file.now d)
         → LinkGates file.now shape bits.now p (event_in parts.rows) chain buf.old buf.new result }
 {
-    let kind = wide(file[p + 3]);
-    if kind == 0 {
+    if file[p + 3] == CellKind::Normal as u8 {
         return chain;
     }
     let a = status_and_event(file, events, p, shape, bits, buf, chain.pen);
@@ -58,7 +57,7 @@ pub fn encode_invalid(
     buf: &mut [i32],
     pen: Cursor,
 ) -> Out<u32>
-    requires { Ready file.now events.now shape × (length bits.now ≡ max_bits) }
+    requires { Ready file.now events.now shape }
     ensures { (d : Design) (parts : Parts file.now d) → InvalidGates file.now shape bits.now d.invalid pen buf.old buf.new result }
 {
     let mut p = trailer_word(file, CELLS_AT);
@@ -87,7 +86,7 @@ pub fn encode_property<'a>(
     buf: &mut [i32],
     pen: Cursor,
 ) -> Out<u32>
-    requires { Ready file.now events.now inst.shape × (piece_right file.now piece.now inst.property ≡ true) × (length bits.now ≡ max_bits) }
+    requires { Ready file.now events.now inst.shape × (piece_right file.now piece.now inst.property ≡ true) }
     ensures { (d : Design) (parts : Parts file.now d)
         → PropertyGates file.now inst.shape bits.now d (property_of file.now piece.now d inst.property) pen buf.old buf.new result }
 {
@@ -120,7 +119,7 @@ pub fn encode_constraint(
     buf: &mut [i32],
     pen: Cursor,
 ) -> Out<u32>
-    requires { ShapedFile file.now shape × (length both.now ≡ pair_bits) }
+    requires { ShapedFile file.now shape }
     ensures { (d : Design) (parts : Parts file.now d)
         → Gives pen (test! (layout_of shape) (read_slots true file.now shape both.now) d.constraint) buf.old buf.new result }
 {

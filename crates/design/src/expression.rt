@@ -96,6 +96,7 @@ impl<'a> Source<'a> {
             return None;
         }
         let op = self.text[at];
+        // Kept: the byte is the operator's name in document 01's table, which the definition has; an enum would repeat it.
         match op {
             0x01 => read_integer_constant(at + 1, self.end),
             0x02 => self.read_integer_variable(at + 1),

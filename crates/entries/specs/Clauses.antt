@@ -1,18 +1,10 @@
 -- What the entries of SIZE, ENCODE and DECODE return and leave: the code, and the lent memory, which a refusal does not change.
 use Rattle.std.specs.Prelude.{List, [], ◌∷◌, ℕ, ℤ}
+use Rattle.design.specs.Answer.{Answer}
 use Rattle.clauses.specs.Size.{size}
-use Rattle.clauses.specs.Replies.{size_reply, ENCODE, DECODE}
+use Rattle.clauses.specs.Replies.{size_reply, EncodeExit, ENCODE, DecodeExit, DECODE}
 use Rattle.clauses.specs.declared.frame.FormulaSizes.{FormulaSizes}
-use Rattle.clauses.specs.declared.size.SizeReply.{SizeReply}
-use Rattle.clauses.specs.declared.size.SizeReply.TheVariants.{Sized}
-use Rattle.clauses.specs.declared.size.SizeReply.TheVariants as size-reply
-use Rattle.clauses.specs.declared.encode.EncodeReply.{EncodeReply}
-use Rattle.clauses.specs.declared.encode.EncodeReply.TheVariants.{Encoded}
-use Rattle.clauses.specs.declared.encode.EncodeReply.TheVariants as encode-reply
-use Rattle.clauses.specs.declared.decode.DecodeReply.{DecodeReply}
-use Rattle.clauses.specs.declared.decode.DecodeReply.TheVariants.{Done}
-use Rattle.clauses.specs.declared.decode.DecodeReply.TheVariants as decode-reply
-use Rattle.entries.specs.Code.{code}
+use Rattle.entries.specs.Code.{code_told, written}
 
 -- SIZE tells "S, P, w, G, n and the whole formula's clauses and words"
 abbrev pub size_words : FormulaSizes → List ℕ
@@ -22,42 +14,31 @@ pub record SizeReturn : Type 0 where
   pub code : ℕ
   pub answer : List ℕ
 
-abbrev pub size_return : SizeReply → List ℕ → SizeReturn
-size_return (size-reply.Refused number place) answer = record { code = code number place; answer = answer }
-size_return (Sized s) answer = record { code = 0; answer = size_words s }
+abbrev pub size_return : List ℕ → Answer FormulaSizes → SizeReturn
+size_return answer reply = record { code = code_told reply; answer = written size_words reply answer }
 
 unfoldable pub size_entry : List ℕ → List ℕ → ℕ → ℕ → List ℕ → SizeReturn
-size_entry file piece p k answer = size_return (size_reply (size file piece p k)) answer
+size_entry file piece p k answer = size_return answer (size_reply (size file piece p k))
 
 -- ENCODE tells the number of words, and leaves the buffer
-abbrev pub encode_code : EncodeReply → ℕ
-encode_code (encode-reply.Refused number place) = code number place
-encode_code (Encoded count) = 0
-
-abbrev pub encode_words : EncodeReply → List ℕ → List ℕ
-encode_words (encode-reply.Refused number place) old = old
-encode_words (Encoded count) old = count ∷ []
-
 pub record EncodeReturn : Type 0 where
   pub code : ℕ
   pub clauses : List ℤ
   pub answer : List ℕ
 
+abbrev pub encode_return : List ℕ → EncodeExit → EncodeReturn
+encode_return answer after = record { code = code_told after.reply; clauses = after.buffer; answer = written (λ (count : ℕ). count ∷ []) after.reply answer }
+
 unfoldable pub encode_entry : List ℕ → List ℕ → ℕ → ℕ → ℕ → List ℤ → List ℕ → EncodeReturn
-encode_entry file piece p k part clauses answer =
-    let after = ENCODE file piece p k part clauses in
-    record { code = encode_code after.reply; clauses = after.buffer; answer = encode_words after.reply answer }
+encode_entry file piece p k part clauses answer = encode_return answer (ENCODE file piece p k part clauses)
 
 -- DECODE leaves the choices
-abbrev pub decode_code : DecodeReply → ℕ
-decode_code (decode-reply.Refused number place) = code number place
-decode_code Done = 0
-
 pub record DecodeReturn : Type 0 where
   pub code : ℕ
   pub choices : List ℕ
 
+abbrev pub decode_return : DecodeExit → DecodeReturn
+decode_return after = record { code = code_told after.reply; choices = after.choices }
+
 unfoldable pub decode_entry : List ℕ → List ℕ → ℕ → ℕ → List ℕ → List ℕ → DecodeReturn
-decode_entry file piece p k values choices =
-    let after = DECODE file piece p k values choices in
-    record { code = decode_code after.reply; choices = after.choices }
+decode_entry file piece p k values choices = decode_return (DECODE file piece p k values choices)

@@ -1,6 +1,7 @@
 -- What an entry returns of a refusal, as one u64: the number in the low byte, the place above it; 0 where the call is not refused.
-use Rattle.std.specs.Prelude.{cond, ℕ, ◌+◌, ◌*◌, min, eqb}
-use Rattle.design.specs.declared.Refusal.{Refusal}
+use Rattle.std.specs.Prelude.{ℕ, ◌+◌, ◌*◌, min}
+use Rattle.design.specs.Answer.{Answer, refused, answer}
+use Rattle.design.specs.Refusal.{Refusal}
 
 -- A place of 2^56 - 1 or more is told as 2^56 - 1. No memory holds a slice of that length.
 abbrev pub most_place : ℕ
@@ -12,6 +13,12 @@ code number place = number + 256 * min place most_place
 abbrev pub code_of : Refusal → ℕ
 code_of r = code r.number r.place
 
--- what a call leaves: number 0 is no refusal, and there is an answer; else what a refusal of this code leaves
-abbrev pub answered : {A : Type 0} → Refusal → A → (ℕ → A) → A
-answered r answer refused = cond (eqb r.number 0) answer (refused (code_of r))
+-- the code of a call
+abbrev pub code_told : {A : Type 0} → Answer A → ℕ
+code_told (refused number place) = code number place
+code_told (answer a) = 0
+
+-- what a call writes of its answer; a refusal leaves what was there
+abbrev pub written : {A B : Type 0} → (A → B) → Answer A → B → B
+written words (refused number place) old = old
+written words (answer a) old = words a

@@ -2,10 +2,10 @@
 ghost use Rattle.std.specs.Prelude.{◌≡◌};
 ghost use Rattle.entries.specs.Clauses.{size_entry, encode_entry, decode_entry};
 
-use super::code::code_of;
-use clauses::decode::{DecodeReply, decode};
-use clauses::encode::{EncodeReply, encode};
-use clauses::size::{SizeReply, size};
+use super::code::{code_alone, code_of};
+use clauses::decode::decode;
+use clauses::encode::encode;
+use clauses::size::size;
 
 #[unsafe(no_mangle)]
 pub extern "C" fn stm_size<'a>(
@@ -18,8 +18,8 @@ pub extern "C" fn stm_size<'a>(
     ensures { record { code = result; answer = answer.new } ≡ size_entry file.now piece.now property bound answer.old }
 {
     match size(file, piece, property, bound) {
-        SizeReply::Refused { number, place } => code_of(number, place),
-        SizeReply::Sized(s) => {
+        Err(r) => code_of(r),
+        Ok(s) => {
             *answer = [
                 s.bits,
                 s.property,
@@ -48,8 +48,8 @@ pub extern "C" fn stm_encode<'a>(
         ≡ encode_entry file.now piece.now property bound part clauses.old answer.old }
 {
     match encode(file, piece, property, bound, part, clauses) {
-        EncodeReply::Refused { number, place } => code_of(number, place),
-        EncodeReply::Encoded(words) => {
+        Err(r) => code_of(r),
+        Ok(words) => {
             *answer = [words];
             0
         }
@@ -67,8 +67,5 @@ pub extern "C" fn stm_decode<'a>(
 ) -> u64
     ensures { record { code = result; choices = choices.new } ≡ decode_entry file.now piece.now property bound values.now choices.old }
 {
-    match decode(file, piece, property, bound, values, choices) {
-        DecodeReply::Refused { number, place } => code_of(number, place),
-        DecodeReply::Done => 0,
-    }
+    code_alone(decode(file, piece, property, bound, values, choices))
 }

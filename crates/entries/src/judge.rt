@@ -3,7 +3,7 @@ ghost use Rattle.std.specs.Prelude.{◌≡◌};
 ghost use Rattle.entries.specs.Verdict.{verdict_entry};
 
 use super::code::code_of;
-use verdict::answer::{Reply, verdict_number, verdict_step};
+use verdict::answer::{verdict_number, verdict_step};
 use verdict::verdict;
 
 #[unsafe(no_mangle)]
@@ -30,13 +30,11 @@ pub extern "C" fn stm_verdict<'a>(
     match verdict(
         file, piece, property, bound, budget, clauses, values, trail, choices,
     ) {
-        Reply::Refused { number, place } => code_of(number, place),
-        Reply::Done(j) => {
-            let v = j.verdict;
-            let told = verdict_number(v);
-            let at = verdict_step(v);
-            let tries = j.tries;
-            *answer = [told, at, tries];
+        Err(r) => code_of(r),
+        Ok(t) => {
+            let told = verdict_number(t.verdict);
+            let at = verdict_step(t.verdict);
+            *answer = [told, at, t.tries];
             0
         }
     }

@@ -2,7 +2,7 @@
 ghost use Rattle.std.specs.Prelude.{◌≡◌, map};
 ghost use Rattle.entries.specs.Owners.{owners_entry};
 
-use super::code::code_of;
+use super::code::code_alone;
 use verdict::answer::ANSWER_WORDS;
 use verdict::owners::{MOST_OWNERS, owners};
 
@@ -29,8 +29,7 @@ pub extern "C" fn stm_owners<'a>(
         ≡ owners_entry file.now bound count (map (λ x. x.now) pieces.now) budgets.now
         (record { clauses = clauses.old; values = values.old; trail = trail.old }) (map (λ x. x.now) choices.old) (map (λ x. x.ref_ptr) choices.old) answers.old }
 {
-    let r = owners(
+    code_alone(owners(
         file, bound, count, pieces, budgets, clauses, values, trail, choices, answers,
-    );
-    code_of(r.number, r.place)
+    ))
 }

@@ -3,7 +3,7 @@ ghost use Rattle.std.specs.Prelude.{◌≡◌};
 ghost use Rattle.entries.specs.Refute.{refute_entry};
 
 use super::code::code_of;
-use search::refute::{Judged, Reply, refute};
+use search::refute::{Judged, refute};
 
 #[unsafe(no_mangle)]
 pub extern "C" fn stm_refute(
@@ -17,8 +17,8 @@ pub extern "C" fn stm_refute(
         ≡ refute_entry n words.now refutation.now values.old answer.old }
 {
     match refute(n, words, refutation, values) {
-        Reply::Refused { number, place } => code_of(number, place),
-        Reply::Done(j) => {
+        Err(r) => code_of(r),
+        Ok(j) => {
             *answer = match j {
                 Judged::Accepted => [0, 0],
                 Judged::Word(i) => [1, i as u64],

@@ -3,16 +3,12 @@ ghost use Rattle.std.specs.Prelude.{◌≡◌};
 ghost use Rattle.entries.specs.Solve.{answer_number, solve_entry};
 
 use super::code::code_of;
-use search::{Answered, Reply};
+use search::Answered;
 
 fn answer_number(a: Answered) -> u64
     ensures { result ≡ answer_number a }
 {
-    match a {
-        Answered::Sat => 0,
-        Answered::Unsat => 1,
-        Answered::Spent => 2,
-    }
+    a as u64
 }
 
 #[unsafe(no_mangle)]
@@ -28,12 +24,9 @@ pub extern "C" fn stm_solve(
         ≡ solve_entry n words.now values.old trail.old budget answer.old }
 {
     match search::solve(n, words, values, trail, budget) {
-        Reply::Refused { number, place } => code_of(number, place),
-        Reply::Done(s) => {
-            let a = s.answer;
-            let told = answer_number(a);
-            let tries = s.tries;
-            *answer = [told, tries];
+        Err(r) => code_of(r),
+        Ok(s) => {
+            *answer = [answer_number(s.answer), s.tries];
             0
         }
     }

@@ -1,22 +1,9 @@
 // START, STEP, HOLDS and REPLAY.
 ghost use Rattle.std.specs.Prelude.{◌≡◌};
-ghost use Rattle.design.specs.Tree.{bit};
 ghost use Rattle.entries.specs.Step.{start_entry, step_entry, holds_entry, replay_entry};
 
 use super::code::code_of;
 use design::limits::{MAX_MATRICES, MAX_VARIABLES};
-
-fn flag(b: bool) -> u8
-    ensures { result ≡ bit b }
-{
-    if b { 1 } else { 0 }
-}
-
-fn long_flag(b: bool) -> u64
-    ensures { result ≡ bit b }
-{
-    if b { 1 } else { 0 }
-}
 
 #[unsafe(no_mangle)]
 pub extern "C" fn stm_start(
@@ -28,18 +15,17 @@ pub extern "C" fn stm_start(
     ensures { record { code = result; values = values.new; statuses = statuses.new; mark = mark.new }
         ≡ start_entry file.now values.old statuses.old mark.old }
 {
-    let told = step::start(file);
-    let refusal = told.refusal;
-    if refusal.number != 0 {
-        return code_of(refusal.number, refusal.place);
+    match step::start(file) {
+        Err(r) => code_of(r),
+        Ok(told) => {
+            let v = told.values;
+            let s = told.statuses;
+            *values = v;
+            *statuses = s;
+            *mark = [told.mark];
+            0
+        }
     }
-    let v = told.values;
-    let s = told.statuses;
-    let m = told.mark;
-    *values = v;
-    *statuses = s;
-    *mark = [m];
-    0
 }
 
 #[unsafe(no_mangle)]
@@ -54,20 +40,18 @@ pub extern "C" fn stm_step(
     ensures { record { code = result; values = values.new; statuses = statuses.new; mark = mark.new; idle = idle.new }
         ≡ step_entry file.now values.old statuses.old mark.old choice idle.old }
 {
-    let told = step::step(file, *values, *statuses, mark[0], choice);
-    let refusal = told.refusal;
-    if refusal.number != 0 {
-        return code_of(refusal.number, refusal.place);
+    match step::step(file, *values, *statuses, mark[0], choice) {
+        Err(r) => code_of(r),
+        Ok(told) => {
+            let v = told.values;
+            let s = told.statuses;
+            *values = v;
+            *statuses = s;
+            *mark = [told.mark];
+            *idle = [told.idle as u8];
+            0
+        }
     }
-    let v = told.values;
-    let s = told.statuses;
-    let m = told.mark;
-    let i = flag(told.idle);
-    *values = v;
-    *statuses = s;
-    *mark = [m];
-    *idle = [i];
-    0
 }
 
 #[unsafe(no_mangle)]
@@ -81,14 +65,13 @@ pub extern "C" fn stm_holds(
 ) -> u64
     ensures { record { code = result; holds = holds.new } ≡ holds_entry file.now values.now statuses.now mark property holds.old }
 {
-    let told = step::holds(file, *values, *statuses, mark, property);
-    let refusal = told.refusal;
-    if refusal.number != 0 {
-        return code_of(refusal.number, refusal.place);
+    match step::holds(file, *values, *statuses, mark, property) {
+        Err(r) => code_of(r),
+        Ok(told) => {
+            *holds = [told as u8];
+            0
+        }
     }
-    let h = flag(told.holds);
-    *holds = [h];
-    0
 }
 
 #[unsafe(no_mangle)]
@@ -101,15 +84,16 @@ pub extern "C" fn stm_replay<'a>(
 ) -> u64
     ensures { record { code = result; answer = answer.new } ≡ replay_entry file.now piece.now property choices.now answer.old }
 {
-    let told = step::replay(file, piece, property, choices);
-    let refusal = told.refusal;
-    if refusal.number != 0 {
-        return code_of(refusal.number, refusal.place);
+    match step::replay(file, piece, property, choices) {
+        Err(r) => code_of(r),
+        Ok(told) => {
+            let events = told.events as u64;
+            let guards = told.guards as u64;
+            *answer = match told.broken {
+                Some(i) => [1, i as u64, events, guards],
+                None => [0, 0, events, guards],
+            };
+            0
+        }
     }
-    let broken = long_flag(told.broken);
-    let at = told.step as u64;
-    let events = told.events as u64;
-    let guards = told.guards as u64;
-    *answer = [broken, at, events, guards];
-    0
 }

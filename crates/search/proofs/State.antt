@@ -10,6 +10,7 @@ use lib.Dec.{eqb}
 use lib.ListN.{length, get_or, set, length-set}
 use lib.Seq.{get_or-set_same, get_or-set_other, set-set}
 use borrow.Author.Tests.{eqb-true, eqb-false, eq-eqb, ne_eqb}
+use Rattle.std.specs.Prelude.{Some}
 use Rattle.search.specs.Search.{unset, is, Setting, Settings, value_of, takes, undo}
 use Rattle.search.specs.Memory.{value_of_byte, value_at, setting_at, settings_of, Proper₁, Proper, unset_count, TrailAgrees, Assigned, Undone}
 use Rattle.search.proofs.Counting.{value_of_other, value_of_same, count_set}
@@ -177,7 +178,7 @@ undo_pop n ss vs tr k u h =
     }
 
 pub undo_flip : (n : ℕ) (ss : Settings) (vs tr : List ℕ) (k : ℕ) → Undoing n ss vs tr (suc k) → get_or tr k 0 % 2 ≡ 1
-    → Undone n ss (suc k) (set vs (get_or tr k 0 / 2 - 1) 1) (set tr k (get_or tr k 0 - 1))
+    → Undone n ss (Some (suc k)) (set vs (get_or tr k 0 / 2 - 1) 1) (set tr k (get_or tr k 0 - 1))
 undo_flip n ss vs tr k u h =
     let v = get_or tr k 0 / 2 in
     let g = shrink n vs tr k u.shaped in
@@ -201,10 +202,10 @@ undo_pop' n ss vs tr zero l u = absurd (omega arith)
 undo_pop' n ss vs tr (suc k) l u = rw (less_one k) (undo_pop n ss vs tr k u)
 
 pub undo_flip' : (n : ℕ) (ss : Settings) (vs tr : List ℕ) (k : ℕ) → 0 < k → Undoing n ss vs tr k → get_or tr (k - 1) 0 % 2 ≡ 1
-    → Undone n ss (k - 1 + 1) (set vs (get_or tr (k - 1) 0 / 2 - 1) 1) (set tr (k - 1) (get_or tr (k - 1) 0 - 1))
+    → Undone n ss (Some (k - 1 + 1)) (set vs (get_or tr (k - 1) 0 / 2 - 1) 1) (set tr (k - 1) (get_or tr (k - 1) 0 - 1))
 undo_flip' n ss vs tr zero l u = absurd (omega arith)
 undo_flip' n ss vs tr (suc k) l u =
-    subst (λ (j : ℕ). get_or tr j 0 % 2 ≡ 1 → Undone n ss (j + 1) (set vs (get_or tr j 0 / 2 - 1) 1) (set tr j (get_or tr j 0 - 1)))
+    subst (λ (j : ℕ). get_or tr j 0 % 2 ≡ 1 → Undone n ss (Some (j + 1)) (set vs (get_or tr j 0 / 2 - 1) 1) (set tr j (get_or tr j 0 - 1)))
     (sym (less_one k)) (rw (add-one k) (undo_flip n ss vs tr k u))
 
 pub record Named (n : ℕ) (vs tr : List ℕ) (k : ℕ) : Type 0 where

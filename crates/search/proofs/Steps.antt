@@ -95,20 +95,15 @@ module _ {n : ℕ} {ws : List ℤ} {vs tr : List ℕ} {t from low : ℕ} (h : Re
     undoes : r ≡ Conflict → Move n (clauses_of ws) (settings_of vs tr t) (undo (settings_of vs tr t))
     undoes e = by_conflict (conflict_ext n (value_of (settings_of vs tr t)) (value_at vs) agree (clauses_of ws) w ∙ finds e)
 
-    module _ (e : r ≡ Conflict) (k : ℕ) (vs' tr' : List ℕ) (u : Undone n (settings_of vs tr t) k vs' tr') where
-      pub step_undo : (k ≡ 0 → ⊥) → AfterTurn n ws (settings_of vs tr t) (Tries k) vs vs' tr'
-      step_undo = go k u
-        where
-          go : (k : ℕ) → Undone n (settings_of vs tr t) k vs' tr' → (k ≡ 0 → ⊥) → AfterTurn n ws (settings_of vs tr t) (Tries k) vs vs' tr'
-          go zero u z = absurd (z refl)
-          go (suc k) u z = (subst (Move n (clauses_of ws) (settings_of vs tr t)) u.0 (undoes e), u.1)
+    module _ (e : r ≡ Conflict) {o : Option ℕ} (vs' tr' : List ℕ) (u : Undone n (settings_of vs tr t) o vs' tr') where
+      left : {q : Option ℕ} → o ≡ q → Undone n (settings_of vs tr t) q vs' tr'
+      left s = subst (λ (q : Option ℕ). Undone n (settings_of vs tr t) q vs' tr') s u
 
-      pub step_unsat : k ≡ 0 → AfterTurn n ws (settings_of vs tr t) NoneLeft vs vs' tr'
-      step_unsat = go k u
-        where
-          go : (k : ℕ) → Undone n (settings_of vs tr t) k vs' tr' → k ≡ 0 → AfterTurn n ws (settings_of vs tr t) NoneLeft vs vs' tr'
-          go zero u z = subst (Move n (clauses_of ws) (settings_of vs tr t)) u (undoes e)
-          go (suc k) u z = absurd (omega arith)
+      pub step_undo : {k : ℕ} → o ≡ Some k → AfterTurn n ws (settings_of vs tr t) (Tries k) vs vs' tr'
+      step_undo s = (subst (Move n (clauses_of ws) (settings_of vs tr t)) (left s).0 (undoes e), (left s).1)
+
+      pub step_unsat : o ≡ None → AfterTurn n ws (settings_of vs tr t) NoneLeft vs vs' tr'
+      step_unsat s = subst (Move n (clauses_of ws) (settings_of vs tr t)) (left s) (undoes e)
 
     -- a unit
     module _ {v b next : ℕ} (e : r ≡ UnitAt v b next) where

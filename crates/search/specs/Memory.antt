@@ -139,10 +139,10 @@ pub record Assigned (vs tr : List ℕ) (t v value first : ℕ) (vs' tr' : List �
   pub values : vs' ≡ set vs (v - 1) value
   pub trail : tr' ≡ set tr t (2 * v + first)
 
--- what an undo leaves: r settings, or 0 where there is no branch at its first value
-abbrev pub Undone : ℕ → Settings → ℕ → List ℕ → List ℕ → Type 0
-Undone n ss zero vs tr = undo ss ≡ refuted
-Undone n ss (suc r) vs tr = (undo ss ≡ takes (settings_of vs tr (suc r))) × TrailAgrees n vs tr (suc r)
+-- what an undo leaves: k settings, or none where there is no branch at its first value
+abbrev pub Undone : ℕ → Settings → Option ℕ → List ℕ → List ℕ → Type 0
+Undone n ss None vs tr = undo ss ≡ refuted
+Undone n ss (Some k) vs tr = (undo ss ≡ takes (settings_of vs tr k)) × TrailAgrees n vs tr k
 
 -- the values of 1, 2, .., low are set
 pub record SetTo (low : ℕ) (vs : List ℕ) : Type 0 where

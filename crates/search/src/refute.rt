@@ -87,6 +87,7 @@ pub fn reaches(list: &[i32], earlier: &[i32], values: &mut [u8]) -> bool
     ensures { Reaches (both_of list.now earlier.now) values.old result }
 {
     let mut from: usize = 0;
+    // Kept: it ends when a scan finds no unit, and counts nothing.
     loop {
         match scan_round(list, earlier, values, from) {
             Found::Nothing => return false,
@@ -117,6 +118,7 @@ pub fn read(list: &[i32], refutation: &[i32], values: &mut [u8]) -> Judged
     ensures { result ≡ judged (length values.old) 0 (clauses_of list.now) (clauses_of refutation.now) }
 {
     let mut at: usize = 0;
+    // Kept: `at` goes from clause to clause, and what has been read is told by it.
     while at < refutation.len() {
         if !follows(list, refutation, at, values) {
             return Judged::Word(at);

@@ -30,13 +30,10 @@ pub fn turn(
         values.old values.new trail.new }
 {
     match scan(words, values, from) {
-        Found::Conflict => {
-            let r = undo(values, trail, t);
-            if r == 0 {
-                return Step::Unsat;
-            }
-            Step::Tries(r)
-        }
+        Found::Conflict => match undo(values, trail, t) {
+            Some(k) => Step::Tries(k),
+            None => Step::Unsat,
+        },
         Found::Unit { var, value, next } => {
             assign(values, trail, t, var, value, 0);
             Step::Goes { set: t + 1, next }
@@ -61,6 +58,7 @@ pub fn run(words: &[i32], values: &mut [u8], trail: &mut [u32], budget: u64) -> 
     let mut from: usize = 0;
     let mut low: usize = 0;
     let mut tries: u64 = 0;
+    // Kept: it ends by what a turn comes to, and counts nothing.
     loop {
         match turn(words, values, trail, t, from, low) {
             Step::Goes { set, next } => {

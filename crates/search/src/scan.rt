@@ -37,6 +37,7 @@ pub fn scan_from(words: &[i32], values: &[u8], from: usize) -> Found
     ensures { Finds (Starts words.now) (value_at values.now) (clauses_of (drop from words.now)) result }
 {
     let mut i = from;
+    // Kept: `i` goes by clauses and is left inside one; an iterator of clauses would read the clause again.
     'clauses: while i < words.len() {
         let mut unset = None;
         while !ends(words, i) {

@@ -33,9 +33,9 @@ pub fn lowest(values: &[u8], low: usize) -> Option<usize>
     None
 }
 
-// Back to the latest branch still at its first value, which takes true. It answers how many settings are left, or 0 where
-// there is no such branch.
-pub fn undo(values: &mut [u8], trail: &mut [u32], t: usize) -> usize
+// Back to the latest branch still at its first value, which takes true. It answers how many settings are left, or none
+// where there is no such branch.
+pub fn undo(values: &mut [u8], trail: &mut [u32], t: usize) -> Option<usize>
     requires { TrailAgrees (length values.old) values.old trail.old t }
     ensures { Undone (length values.old) (settings_of values.old trail.old t) result values.new trail.new }
 {
@@ -45,9 +45,9 @@ pub fn undo(values: &mut [u8], trail: &mut [u32], t: usize) -> usize
         if e % 2 == 1 {
             values[v - 1] = 1;
             trail[k] = e - 1;
-            return k + 1;
+            return Some(k + 1);
         }
         values[v - 1] = 2;
     }
-    0
+    None
 }

@@ -29,6 +29,7 @@ pub fn read_full<R: Read>(input: &mut R, buffer: &mut [u8]) -> io::Result<usize>
     ensures end { IfOk result (λ n. n < length buffer.new → IsAtEnd (R.remaining input.new)) }
 {
     let mut filled = 0;
+    // Kept: a read gives any number of bytes, and an input that ends early is no error, as it is to `read_exact`.
     while filled < buffer.len() {
         let n = input.read(&mut buffer[filled..])?;
         if n == 0 {

@@ -26,7 +26,7 @@ pub fn put_bytes(out: &mut [u8], at: usize, bytes: &[u8]) -> usize
     p
 }
 
-// At most `left` decimal digits of n.
+// At most `left` decimal digits of n. Kept: no heap, and `digits` of specs/Text, of which the programs' theorems speak, is this recursion.
 pub fn put_digits(out: &mut [u8], at: usize, n: usize, left: usize) -> usize
     requires { at + left ≤ length out.old }
     ensures { TextWritten (digits left n) out.old out.new at result }

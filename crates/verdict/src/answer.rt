@@ -20,7 +20,7 @@ pub struct Told {
     pub tries: u64,
 }
 
-// CLEAN is 0, VIOLATED 1, SPENT 2.
+// CLEAN is 0, VIOLATED 1, SPENT 2. Kept: C is told numbers.
 pub fn verdict_number(v: Verdict) -> u64
     ensures { result ≡ verdict_number v }
 {

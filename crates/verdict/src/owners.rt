@@ -67,7 +67,7 @@ fn one_owner<'a>(
     r
 }
 
-// Each owner, and the words of its answer.
+// Each owner, and the words of its answer. Kept: C lends the owners' arrays side by side.
 fn each_owner<'a>(
     file: &'a [u8],
     bound: u64,

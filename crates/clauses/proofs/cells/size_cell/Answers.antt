@@ -6,12 +6,12 @@ pub returns-then-invalid : goal.returns-then-invalid
 returns-then-invalid c =
     let z = none_gates _ _ c.no_gates-none.ensures in (
       z.2 ∙ ap₂ (λ (i j : ℕ). c.args.p + 8 + i + j) c.wide.ensures.0 c.word.ensures.0,
-      normal_passed _ _ _ c.requires.0 _ c.if-file-p-eq0.true _ c.if-invalid.true _ z.0 z.1,
+      normal_passed _ _ _ c.requires.0 _ c.if-file-p.true _ c.if-invalid.true _ z.0 z.1,
     )
 
 pub size_normal-requires : goal.size_normal-requires
 size_normal-requires c =
-    (c.requires.0, here_normal _ _ _ c.requires.0 _ c.requires.1 c.if-file-p-eq0.true)
+    (c.requires.0, here_normal _ _ _ c.requires.0 _ c.requires.1 c.if-file-p.true)
 
 pub join-requires : goal.join-requires
 join-requires c =
@@ -24,12 +24,12 @@ join-requires c =
       ),
     )
 
-pub returns-then-file-p-eq0 : goal.returns-then-file-p-eq0
-returns-then-file-p-eq0 c =
+pub returns-then-file-p : goal.returns-then-file-p
+returns-then-file-p c =
     let z = more_gates c.size_normal.result _ _ _ _ c.no_gates-none.ensures c.join.ensures in (
       z.2
           ∙ ap₂ (λ (i j : ℕ). c.args.p + 8 + i + j) c.wide.ensures.0 c.word.ensures.0,
-      normal_counted _ _ _ c.requires.0 _ c.if-file-p-eq0.true _
+      normal_counted _ _ _ c.requires.0 _ c.if-file-p.true _
           c.if-invalid.false _ _ c.size_normal.ensures z.0 z.1,
     )
 
@@ -53,7 +53,7 @@ returns-then-invalid-2 c =
     let z = more_gates c.size_place.result _ _ _ _ c.no_gates-none.ensures c.join-then-invalid-2.ensures in (
       z.2
           ∙ ap₂ (λ (i j : ℕ). c.args.p + 8 + i + j) c.wide.ensures.0 c.word.ensures.0,
-      invalid_counted _ _ _ c.requires.0 _ c.if-file-p-eq0.false _
+      invalid_counted _ _ _ c.requires.0 _ c.if-file-p.false _
           c.if-invalid-2.true _ _ c.size_place.ensures.1 z.0 z.1,
     )
 
@@ -61,5 +61,5 @@ pub returns-else-invalid-2 : goal.returns-else-invalid-2
 returns-else-invalid-2 c =
     let z = none_gates _ _ c.no_gates-none.ensures in (
       z.2 ∙ ap₂ (λ (i j : ℕ). c.args.p + 8 + i + j) c.wide.ensures.0 c.word.ensures.0,
-      invalid_passed _ _ _ c.requires.0 _ c.if-file-p-eq0.false _ c.if-invalid-2.false _ z.0 z.1,
+      invalid_passed _ _ _ c.requires.0 _ c.if-file-p.false _ c.if-invalid-2.false _ z.0 z.1,
     )

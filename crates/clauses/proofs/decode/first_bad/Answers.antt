@@ -1,15 +1,15 @@
-use Rattle.std.proofs.Common.{◌∙◌, ap, not}
-use Rattle.clauses.proofs.FlagChoices.{testing_start, testing_on, testing_bad, testing_end}
+use Rattle.std.proofs.Common.{refl, ◌∙◌, arith, rules}
+use Rattle.std.proofs.lemmas.Iterator.{YieldsList-from_range}
+use Rattle.std.proofs.lemmas.Iterator.Search.{position_from_yields_List}
+use Rattle.clauses.proofs.FlagChoices.{judged, misses, first_miss}
 use Rattle.clauses.proofs.decode.first_bad.Goals as goal
 
-pub loop-j-init : goal.loop-j-init
-loop-j-init c = testing_start _ _ _ _ _ c.requires.0
-
-pub returns-then-is_none : goal.returns-then-is_none
-returns-then-is_none c = testing_bad _ _ _ _ _ _ _ c.loop-j-test.true c.loop-j.invariant _ c.chosen.ensures (c.is_none.ensures ∙ ap not c.if-is_none.true)
-
-pub loop-j-preserved : goal.loop-j-preserved
-loop-j-preserved c = testing_on _ _ _ _ _ _ _ c.loop-j-test.true c.loop-j.invariant _ c.chosen.ensures (c.is_none.ensures ∙ ap not c.if-is_none.false)
-
 pub returns : goal.returns
-returns c = testing_end _ _ _ _ _ _ _ c.loop-j-test.false c.loop-j.invariant
+returns c =
+    let v = c.args.values.now in
+    let size = c.args.size in
+    let w = c.args.w in
+    let k = c.args.k in
+    let base = c.args.base in
+    position_from_yields_List (misses v size w k base) _ _ c.position.result c.position.ensures.ran (YieldsList-from_range 0 k k refl (omega arith)) (λ j b q h. (search rules, judged v size w k base j b (search rules)))
+    ∙ first_miss v size w k base

@@ -1,4 +1,4 @@
-use Rattle.std.proofs.Common.{arith, rules}
+use Rattle.std.proofs.Common.{arith}
 use Rattle.clauses.proofs.EncodeCall.{encode_short, encode_done}
 use Rattle.clauses.proofs.EmitFormula.{formula_ready}
 use Rattle.clauses.proofs.encode.encode_admitted.Goals as goal

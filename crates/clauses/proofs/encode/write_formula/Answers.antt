@@ -1,4 +1,4 @@
-use Rattle.std.proofs.Common.{arith, rules}
+use Rattle.std.proofs.Common.{arith}
 use Rattle.clauses.proofs.EncodeCall.{writable_accepted, writable_admitted, formula_written}
 use Rattle.clauses.proofs.EmitFormula.{formula_ready}
 use Rattle.clauses.proofs.encode.write_formula.Goals as goal

@@ -14,7 +14,7 @@ overflow_add-pen c =
 
 pub encode_property-x-requires : goal.encode_property-x-requires
 encode_property-x-requires c =
-    (c.requires.0, c.requires.1, search rules)
+    (c.requires.0, c.requires.1)
 
 pub returns : goal.returns
 returns c =

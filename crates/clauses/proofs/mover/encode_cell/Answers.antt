@@ -12,8 +12,8 @@ pub overflow_add-at : goal.overflow_add-at
 overflow_add-at c =
     omega (
       arith,
-      (normal_fields c.requires.0 c.args.p c.requires.2).header,
-      (normal_fields c.requires.0 c.args.p c.requires.2).past,
+      (normal_fields c.requires.0 c.args.p c.requires.1).header,
+      (normal_fields c.requires.0 c.args.p c.requires.1).past,
       sizes c.requires.0.shaped,
     )
 
@@ -21,8 +21,8 @@ pub overflow_add-p : goal.overflow_add-p
 overflow_add-p c =
     omega (
       arith,
-      (normal_fields c.requires.0 c.args.p c.requires.2).header,
-      (normal_fields c.requires.0 c.args.p c.requires.2).past,
+      (normal_fields c.requires.0 c.args.p c.requires.1).header,
+      (normal_fields c.requires.0 c.args.p c.requires.1).past,
       sizes c.requires.0.shaped,
     )
 
@@ -30,20 +30,19 @@ pub bounds-file-p : goal.bounds-file-p
 bounds-file-p c =
     omega (
       arith,
-      (normal_fields c.requires.0 c.args.p c.requires.2).header,
-      (normal_fields c.requires.0 c.args.p c.requires.2).past,
+      (normal_fields c.requires.0 c.args.p c.requires.1).header,
+      (normal_fields c.requires.0 c.args.p c.requires.1).past,
       sizes c.requires.0.shaped,
     )
 
 pub overflow_add-at-2 : goal.overflow_add-at-2
 overflow_add-at-2 c =
-    omega (arith, (normal_fields c.requires.0 c.args.p c.requires.2).past, sizes c.requires.0.shaped, c.wide.ensures.0)
+    omega (arith, (normal_fields c.requires.0 c.args.p c.requires.1).past, sizes c.requires.0.shaped, c.wide.ensures.0)
 
 pub encode_list-a-requires : goal.encode_list-a-requires
 encode_list-a-requires c = (
-  slotted c.requires.0.shaped _ c.requires.1,
-  c.requires.1,
-  action_here c.requires.0 c.args.p c.requires.2 _ (ap (λ (k :
+  slotted c.requires.0.shaped _ (search rules),
+  action_here c.requires.0 c.args.p c.requires.1 _ (ap (λ (k :
       ℕ). c.args.p + 8 + k) c.wide.ensures.0),
 )
 
@@ -55,8 +54,8 @@ pub bounds-file-p-2 : goal.bounds-file-p-2
 bounds-file-p-2 c =
     omega (
       arith,
-      (normal_fields c.requires.0 c.args.p c.requires.2).header,
-      (normal_fields c.requires.0 c.args.p c.requires.2).past,
+      (normal_fields c.requires.0 c.args.p c.requires.1).header,
+      (normal_fields c.requires.0 c.args.p c.requires.1).past,
       sizes c.requires.0.shaped,
     )
 
@@ -70,7 +69,7 @@ overflow_add-o c =
       status_room c.args.file.now c.args.shape.variables c.args.shape.matrices c.wide-2.result _ (omega (
         arith,
         c.wide-2.ensures.0,
-        (normal_fields c.requires.0 c.args.p c.requires.2).matrix,
+        (normal_fields c.requires.0 c.args.p c.requires.1).matrix,
         c.requires.0.shaped.counts.matrices,
       )) (ap (λ (k : ℕ). k + 4 * c.wide-2.result) c.offset.ensures),
       few_bits c.requires.0.shaped,
@@ -80,8 +79,8 @@ pub overflow_add-p-2 : goal.overflow_add-p-2
 overflow_add-p-2 c =
     omega (
       arith,
-      (normal_fields c.requires.0 c.args.p c.requires.2).header,
-      (normal_fields c.requires.0 c.args.p c.requires.2).past,
+      (normal_fields c.requires.0 c.args.p c.requires.1).header,
+      (normal_fields c.requires.0 c.args.p c.requires.1).past,
       sizes c.requires.0.shaped,
     )
 
@@ -89,8 +88,8 @@ pub bounds-file-p-3 : goal.bounds-file-p-3
 bounds-file-p-3 c =
     omega (
       arith,
-      (normal_fields c.requires.0 c.args.p c.requires.2).header,
-      (normal_fields c.requires.0 c.args.p c.requires.2).past,
+      (normal_fields c.requires.0 c.args.p c.requires.1).header,
+      (normal_fields c.requires.0 c.args.p c.requires.1).past,
       sizes c.requires.0.shaped,
     )
 
@@ -104,18 +103,17 @@ store_word-requires c = (
     status_room c.args.file.now c.args.shape.variables c.args.shape.matrices c.wide-2.result _ (omega (
       arith,
       c.wide-2.ensures.0,
-      (normal_fields c.requires.0 c.args.p c.requires.2).matrix,
+      (normal_fields c.requires.0 c.args.p c.requires.1).matrix,
       c.requires.0.shaped.counts.matrices,
     )) (ap (λ (k : ℕ). k + 4 * c.wide-2.result) c.offset.ensures),
     few_bits c.requires.0.shaped,
   ),
   omega arith,
-  c.encode_list-a.ensures.1,
 )
 
 pub muxes-x-requires : goal.muxes-x-requires
 muxes-x-requires c =
-    (c.requires.0.shaped.bits.few, c.store_word.ensures.1, c.requires.1)
+    c.requires.0.shaped.bits.few
 
 pub shape_of-buf : goal.shape_of-buf
 shape_of-buf c =
@@ -126,12 +124,12 @@ returns c =
     λ x. let i = is c.requires.0 c.args.p x in
     cell_emits (layout_of c.args.shape) (slots_of c.args.file.now c.args.shape c.args.bits.now) x.cell (c.encode_enable-e.ensures x)
     (action_writes c.requires.0 c.args.p x _ (ap (λ (k : ℕ). c.args.p + 8 + k) c.wide.ensures.0) c.args.bits.now _ c.encode_list-a.result
-    c.encode_list-a.ensures.0) (target_set c.args.file.now c.args.shape _ (few_bits c.requires.0.shaped) c.encode_list-a.ensures.1
+    c.encode_list-a.ensures) (target_set c.args.file.now c.args.shape _ (few_bits c.requires.0.shaped) (search rules)
     x.cell.matrix c.wide-2.result _ x.cell.target c.wide-3.result c.constant.result _ (c.wide-2.ensures.0 ∙ sym i.matrix) (c.wide-3.ensures.0 ∙ sym i.target) (omega (
       arith,
       i.matrix,
-      (normal_fields c.requires.0 c.args.p c.requires.2).matrix,
+      (normal_fields c.requires.0 c.args.p c.requires.1).matrix,
       c.requires.0.shaped.counts.matrices,
     )) (ap (λ (k : ℕ). k + 4 * c.wide-2.result) c.offset.ensures) c.constant.ensures (let h : length c.constant.result ≡ 16 = search rules in h)
-    c.store_word.ensures.0) (muxes_first c.args.file.now c.args.shape _ _ c.args.bits.now (few_bits c.requires.0.shaped) c.store_word.ensures.1
-    c.requires.1 (c.muxes-x.ensures.0 c.args.file.now c.requires.0.shaped.bits.total))
+    c.store_word.ensures) (muxes_first c.args.file.now c.args.shape _ _ c.args.bits.now (few_bits c.requires.0.shaped) (search rules)
+    (search rules) (c.muxes-x.ensures c.args.file.now c.requires.0.shaped.bits.total))

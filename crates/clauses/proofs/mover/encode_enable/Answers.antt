@@ -6,13 +6,12 @@ use Rattle.clauses.proofs.mover.encode_enable.Goals as goal
 pub status_and_event-a-requires : goal.status_and_event-a-requires
 status_and_event-a-requires c = (
   c.requires.0,
-  c.requires.1,
-  normal_fields c.requires.0 c.args.p c.requires.2,
+  normal_fields c.requires.0 c.args.p c.requires.1,
 )
 
 pub encode_guard-g-requires : goal.encode_guard-g-requires
 encode_guard-g-requires c =
-    ((_, c.requires.0), c.requires.1, c.requires.2)
+    ((_, c.requires.0), c.requires.1)
 
 pub returns : goal.returns
 returns c =

@@ -1,17 +1,17 @@
-use Rattle.std.proofs.Common.{false, sym, ◌∙◌, arith}
+use Rattle.std.proofs.Common.{false, sym, ◌∙◌, arith, rules}
 use Rattle.clauses.specs.FlatState.{slots_of, layout_of}
 use Rattle.clauses.proofs.CellCounts.{sizes}
 use Rattle.clauses.proofs.EmitCells.{slotted, normal_fields, guard_none, guard_here, guard_writes, guard_true}
 use Rattle.clauses.proofs.mover.encode_guard.Goals as goal
 
 pub overflow_add-p : goal.overflow_add-p
-overflow_add-p c = omega (arith, (normal_fields c.requires.0.1 c.args.p c.requires.2).header, sizes c.requires.0.1.shaped)
+overflow_add-p c = omega (arith, (normal_fields c.requires.0.1 c.args.p c.requires.1).header, sizes c.requires.0.1.shaped)
 
 pub bounds-file-p : goal.bounds-file-p
 bounds-file-p c =
     omega (
       arith,
-      (normal_fields c.requires.0.1 c.args.p c.requires.2).header,
+      (normal_fields c.requires.0.1 c.args.p c.requires.1).header,
       sizes c.requires.0.1.shaped,
     )
 
@@ -22,13 +22,13 @@ returns-then-n-eq0 c =
 
 pub overflow_add-p-2 : goal.overflow_add-p-2
 overflow_add-p-2 c =
-    omega (arith, (normal_fields c.requires.0.1 c.args.p c.requires.2).header, sizes c.requires.0.1.shaped)
+    omega (arith, (normal_fields c.requires.0.1 c.args.p c.requires.1).header, sizes c.requires.0.1.shaped)
 
 pub encode_test-requires : goal.encode_test-requires
 encode_test-requires c = (
   false,
-  slotted c.requires.0.1.shaped _ c.requires.1,
-  guard_here c.requires.0.1 c.args.p c.requires.2 c.wide-n.result c.wide-n.ensures.0 c.if-n-eq0.false,
+  slotted c.requires.0.1.shaped _ (search rules),
+  guard_here c.requires.0.1 c.args.p c.requires.1 c.wide-n.result c.wide-n.ensures.0 c.if-n-eq0.false,
 )
 
 pub returns : goal.returns

@@ -9,13 +9,12 @@ pub loop-i-init : goal.loop-i-init
 loop-i-init c = (moving_start c.args.file.now c.args.shape c.args.bits.now _ _ _ _ refl, refl)
 
 pub overflow_add-i-end : goal.overflow_add-i-end
-overflow_add-i-end c = omega (arith, all_few c.requires.0.shaped c.requires.2)
+overflow_add-i-end c = omega (arith, all_few c.requires.0.shaped c.requires.1)
 
 pub encode_cell-t-requires : goal.encode_cell-t-requires
 encode_cell-t-requires c = (
   c.requires.0,
-  c.requires.1,
-  cell_here c.requires.0.shaped c.requires.2 c.loop-i.i c.if-i-shape.true,
+  cell_here c.requires.0.shaped c.requires.1 c.loop-i.i c.if-i-shape.true,
 )
 
 pub external-v-requires : goal.external-v-requires
@@ -25,32 +24,29 @@ external-v-requires c =
 pub encode_external-t-requires : goal.encode_external-t-requires
 encode_external-t-requires c = (
   c.requires.0.shaped,
-  c.requires.1,
   c.external-v.ensures.1,
-  raised_kind c.requires.0.shaped c.requires.2 c.loop-i.i _ c.if-i-shape.false c.loop-i-test.true c.external-v.ensures.0,
+  raised_kind c.requires.0.shaped c.requires.1 c.loop-i.i _ c.if-i-shape.false c.loop-i-test.true c.external-v.ensures.0,
 )
 
 pub offset_bounds-value-i : goal.offset_bounds-value-i
-offset_bounds-value-i c = omega (arith, all_few c.requires.0.shaped c.requires.2, c.loop-i-test.true)
+offset_bounds-value-i c = omega (arith, all_few c.requires.0.shaped c.requires.1, c.loop-i-test.true)
 
 pub bounds-value-i : goal.bounds-value-i
-bounds-value-i c = omega (arith, all_few c.requires.0.shaped c.requires.2, c.loop-i-test.true)
+bounds-value-i c = omega (arith, all_few c.requires.0.shaped c.requires.1, c.loop-i-test.true)
 
 pub loop-i-preserved : goal.loop-i-preserved
 loop-i-preserved c =
     let shaped = c.requires.0.shaped in
-    let few = all_few shaped c.requires.2 in
-    let total = mover_total shaped c.requires.2 in
+    let few = all_few shaped c.requires.1 in
+    let total = mover_total shaped c.requires.1 in
     let slots = slots_of c.args.file.now c.args.shape c.args.bits.now in (
       elim c.if-i-shape.branch [
-        | then-i-shape w ↦ rw (w.t-is, w.buf-is) (moving_on c.args.file.now c.args.shape c.args.bits.now _ c.loop-i-test.true few total c.loop-i.invariant.0 _ (cell_is shaped c.requires.2 (layout_of c.args.shape) slots c.loop-i.i w.if-i-shape.true w.encode_cell-t.ensures))
-        | else-i-shape w ↦ rw (w.t-is, w.buf-is) (moving_on c.args.file.now c.args.shape c.args.bits.now _ c.loop-i-test.true few total c.loop-i.invariant.0 _ (external_is shaped c.requires.2 (layout_of c.args.shape) slots c.loop-i.i w.if-i-shape.false _ w.external-v.ensures.0 c.loop-i-test.true w.encode_external-t.ensures))
+        | then-i-shape w ↦ rw (w.t-is, w.buf-is) (moving_on c.args.file.now c.args.shape c.args.bits.now _ c.loop-i-test.true few total c.loop-i.invariant.0 _ (cell_is shaped c.requires.1 (layout_of c.args.shape) slots c.loop-i.i w.if-i-shape.true w.encode_cell-t.ensures))
+        | else-i-shape w ↦ rw (w.t-is, w.buf-is) (moving_on c.args.file.now c.args.shape c.args.bits.now _ c.loop-i-test.true few total c.loop-i.invariant.0 _ (external_is shaped c.requires.1 (layout_of c.args.shape) slots c.loop-i.i w.if-i-shape.false _ w.external-v.ensures.0 c.loop-i-test.true w.encode_external-t.ensures))
       ],
       omega arith,
     )
 
 pub returns : goal.returns
-returns c = (
-  moving_end c.args.file.now c.args.shape c.args.bits.now _ c.loop-i-test.false (mover_total c.requires.0.shaped c.requires.2) c.loop-i.invariant.0,
-  c.loop-i.invariant.0.size,
-)
+returns c =
+    moving_end c.args.file.now c.args.shape c.args.bits.now _ c.loop-i-test.false (mover_total c.requires.0.shaped c.requires.1) c.loop-i.invariant.0

@@ -21,12 +21,7 @@ overflow_add-pen c =
     omega (arith, start_low c.requires.0.small _ _ _ c.requires.2 refl c.frame_start-v.ensures, c.requires.0.small.sizes.bits)
 
 pub encode_property-x-requires : goal.encode_property-x-requires
-encode_property-x-requires c = (
-  c.requires.0.ready,
-  c.requires.1,
-  search
-      rules,
-)
+encode_property-x-requires c = (c.requires.0.ready, c.requires.1)
 
 pub put_step-requires : goal.put_step-requires
 put_step-requires c = (

@@ -4,11 +4,7 @@ use Rattle.clauses.proofs.EmitFormula.{step_written, step_state}
 use Rattle.clauses.proofs.part.put_step.Goals as goal
 
 pub encode_step-g-requires : goal.encode_step-g-requires
-encode_step-g-requires c = (
-  c.requires.0.ready,
-  search rules,
-  c.requires.0.normals,
-)
+encode_step-g-requires c = (c.requires.0.ready, c.requires.0.normals)
 
 pub encode_step_property-x-requires : goal.encode_step_property-x-requires
 encode_step_property-x-requires c =
@@ -18,7 +14,6 @@ pub put_all_ties-requires : goal.put_all_ties-requires
 put_all_ties-requires c = (
   omega (arith, c.requires.0.small.sizes.movers),
   omega (arith, c.requires.0.small.sizes.bits),
-  c.encode_step-g.ensures.1,
 )
 
 pub shape_of-buf : goal.shape_of-buf
@@ -30,6 +25,6 @@ returns c =
     λ piece d j ok es low at. step_written piece c.requires.0 _ _ _ _ _ _ _ c.variables-bits.result _ refl refl refl (omega (
       arith,
       c.frame_length.ensures.0,
-    )) refl c.encode_step-g.ensures.1 c.put_any-a.ensures c.put_pairs-b.ensures c.encode_step-g.ensures.0 (λ e w. c.encode_step_property-x.ensures e w piece) c.put_all_ties.ensures d j ok es low at
+    )) refl (search rules) c.put_any-a.ensures c.put_pairs-b.ensures c.encode_step-g.ensures (λ e w. c.encode_step_property-x.ensures e w piece) c.put_all_ties.ensures d j ok es low at
     (step_state piece c.requires.0 _ _ _ c.variables-bits.result refl (let h : length c.variables-bits.result ≡ max_bits =
     search (c.variables-bits.type_inv, rules) in h) c.variables-bits.ensures d j ok es low at)

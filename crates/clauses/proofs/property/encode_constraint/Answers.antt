@@ -1,5 +1,5 @@
 use borrow.Author.Tests.{not-true, not-false}
-use Rattle.std.proofs.Common.{true, sym, ◌∙◌}
+use Rattle.std.proofs.Common.{true, sym, ◌∙◌, rules}
 use Rattle.design.proofs.Positions.{constraint_none}
 use Rattle.clauses.specs.FlatState.{read_slots, layout_of}
 use Rattle.clauses.proofs.CellCounts.{sizes, tail}
@@ -8,7 +8,7 @@ use Rattle.clauses.proofs.EmitSteps.{gives_true, constraint_here, constraint_giv
 use Rattle.clauses.proofs.property.encode_constraint.Goals as goal
 
 pub has_constraint-requires : goal.has_constraint-requires
-has_constraint-requires c = (sizes c.requires.0).0
+has_constraint-requires c = (sizes c.requires).0
 
 pub returns-then-not-has_constraint : goal.returns-then-not-has_constraint
 returns-then-not-has_constraint c =
@@ -17,12 +17,12 @@ returns-then-not-has_constraint c =
     _ c.no_property.ensures
 
 pub constraint-stands-requires : goal.constraint-stands-requires
-constraint-stands-requires c = tail c.requires.0
+constraint-stands-requires c = tail c.requires
 
 pub encode_test-requires : goal.encode_test-requires
 encode_test-requires c =
-    (true, slotted_two c.requires.0 _ c.requires.1, constraint_here c.requires.0 (sym c.has_constraint.ensures ∙ not-false _ c.if-not-has_constraint.false-raw) _ c.constraint-stands.ensures.0)
+    (true, slotted_two c.requires _ (search rules), constraint_here c.requires (sym c.has_constraint.ensures ∙ not-false _ c.if-not-has_constraint.false-raw) _ c.constraint-stands.ensures.0)
 
 pub returns : goal.returns
 returns c =
-    constraint_gives c.requires.0 (sym c.has_constraint.ensures ∙ not-false _ c.if-not-has_constraint.false-raw) _ c.constraint-stands.ensures.0 c.args.both.now _ (c.encode_test.ensures true)
+    constraint_gives c.requires (sym c.has_constraint.ensures ∙ not-false _ c.if-not-has_constraint.false-raw) _ c.constraint-stands.ensures.0 c.args.both.now _ (c.encode_test.ensures true)

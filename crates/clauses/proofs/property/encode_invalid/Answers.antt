@@ -5,10 +5,10 @@ use Rattle.clauses.proofs.EmitSteps.{scanning_start, scanning_on, scanning_end, 
 use Rattle.clauses.proofs.property.encode_invalid.Goals as goal
 
 pub trailer_word-p-requires : goal.trailer_word-p-requires
-trailer_word-p-requires c = omega (arith, sizes c.requires.0.shaped)
+trailer_word-p-requires c = omega (arith, sizes c.requires.shaped)
 
 pub trailer_word-end-requires : goal.trailer_word-end-requires
-trailer_word-end-requires c = omega (arith, sizes c.requires.0.shaped)
+trailer_word-end-requires c = omega (arith, sizes c.requires.shaped)
 
 pub loop-init : goal.loop-init
 loop-init c =
@@ -16,35 +16,34 @@ loop-init c =
 
 pub encode_link-chain-requires : goal.encode_link-chain-requires
 encode_link-chain-requires c = (
-  c.requires.0,
-  c.requires.1,
-  cell_in c.requires.0.shaped _ _ (omega (arith, c.loop-test.true, c.trailer_word-end.ensures)) c.loop.invariant.0.place,
+  c.requires,
+  cell_in c.requires.shaped _ _ (omega (arith, c.loop-test.true, c.trailer_word-end.ensures)) c.loop.invariant.0.place,
 )
 
 pub bounds-file-p : goal.bounds-file-p
 bounds-file-p c =
-    let x = cell_in c.requires.0.shaped _ _ (omega (arith, c.loop-test.true, c.trailer_word-end.ensures)) c.loop.invariant.0.place in
-    omega (arith, x.header, x.past, sizes c.requires.0.shaped)
+    let x = cell_in c.requires.shaped _ _ (omega (arith, c.loop-test.true, c.trailer_word-end.ensures)) c.loop.invariant.0.place in
+    omega (arith, x.header, x.past, sizes c.requires.shaped)
 
 pub word-requires : goal.word-requires
 word-requires c =
-    let x = cell_in c.requires.0.shaped _ _ (omega (arith, c.loop-test.true, c.trailer_word-end.ensures)) c.loop.invariant.0.place in
-    omega (arith, x.header, x.past, sizes c.requires.0.shaped)
+    let x = cell_in c.requires.shaped _ _ (omega (arith, c.loop-test.true, c.trailer_word-end.ensures)) c.loop.invariant.0.place in
+    omega (arith, x.header, x.past, sizes c.requires.shaped)
 
 pub overflow_add-p : goal.overflow_add-p
 overflow_add-p c =
-    let x = cell_in c.requires.0.shaped _ _ (omega (arith, c.loop-test.true, c.trailer_word-end.ensures)) c.loop.invariant.0.place in
-    omega (arith, x.header, x.past, sizes c.requires.0.shaped)
+    let x = cell_in c.requires.shaped _ _ (omega (arith, c.loop-test.true, c.trailer_word-end.ensures)) c.loop.invariant.0.place in
+    omega (arith, x.header, x.past, sizes c.requires.shaped)
 
 pub overflow_add-p-in-loop-2 : goal.overflow_add-p-in-loop-2
 overflow_add-p-in-loop-2 c =
-    let x = cell_in c.requires.0.shaped _ _ (omega (arith, c.loop-test.true, c.trailer_word-end.ensures)) c.loop.invariant.0.place in
-    omega (arith, x.header, x.past, sizes c.requires.0.shaped)
+    let x = cell_in c.requires.shaped _ _ (omega (arith, c.loop-test.true, c.trailer_word-end.ensures)) c.loop.invariant.0.place in
+    omega (arith, x.header, x.past, sizes c.requires.shaped)
 
 pub overflow_add-p-in-loop-4 : goal.overflow_add-p-in-loop-4
 overflow_add-p-in-loop-4 c =
-    let x = cell_in c.requires.0.shaped _ _ (omega (arith, c.loop-test.true, c.trailer_word-end.ensures)) c.loop.invariant.0.place in
-    omega (arith, x.past, sizes c.requires.0.shaped, c.wide.ensures, c.word.ensures)
+    let x = cell_in c.requires.shaped _ _ (omega (arith, c.loop-test.true, c.trailer_word-end.ensures)) c.loop.invariant.0.place in
+    omega (arith, x.past, sizes c.requires.shaped, c.wide.ensures, c.word.ensures)
 
 pub loop-preserved : goal.loop-preserved
 loop-preserved c = (

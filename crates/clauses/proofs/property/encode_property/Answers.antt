@@ -1,4 +1,4 @@
-use Rattle.std.proofs.Common.{false, refl, arith}
+use Rattle.std.proofs.Common.{false, refl, arith, rules}
 use Rattle.clauses.specs.FlatState.{slots_of}
 use Rattle.clauses.proofs.EmitSlots.{bits_some, mark_read}
 use Rattle.clauses.proofs.EmitCells.{slotted}
@@ -10,32 +10,31 @@ expression-text-requires c = c.requires.0.shaped.accepted
 
 pub encode_test-x-requires : goal.encode_test-x-requires
 encode_test-x-requires c =
-    (false, slotted c.requires.0.shaped _ c.requires.2, expression_here c.requires.0.shaped _ _ c.requires.1 c.if-property-eq0.true _ c.expression-text.ensures)
+    (false, slotted c.requires.0.shaped _ (search rules), expression_here c.requires.0.shaped _ _ c.requires.1 c.if-property-eq0.true _ c.expression-text.ensures)
 
 pub overflow_sub-shape : goal.overflow_sub-shape
 overflow_sub-shape c =
-    omega (arith, bits_some (slotted c.requires.0.shaped c.args.bits.now c.requires.2))
+    omega (arith, bits_some (slotted c.requires.0.shaped c.args.bits.now (search rules)))
 
 pub returns-then-property-eq0 : goal.returns-then-property-eq0
 returns-then-property-eq0 c =
     let pre = c.requires in
     let bits = c.args.bits.now in
     expression_gives pre.0.shaped _ _ pre.1 c.if-property-eq0.true _ c.expression-text.ensures bits c.encode_test-x.result _ _
-    (mark_read false (slotted pre.0.shaped bits pre.2) (omega arith) false refl).1 (c.encode_test-x.ensures false) c.unmarked.ensures
+    (mark_read false (slotted pre.0.shaped bits (search rules)) (omega arith) false refl).1 (c.encode_test-x.ensures false) c.unmarked.ensures
 
 pub encode_invalid-x-requires : goal.encode_invalid-x-requires
-encode_invalid-x-requires c =
-    (c.requires.0, c.requires.2)
+encode_invalid-x-requires c = c.requires.0
 
 pub overflow_sub-shape-then-property-eq1 : goal.overflow_sub-shape-then-property-eq1
 overflow_sub-shape-then-property-eq1 c =
-    omega (arith, bits_some (slotted c.requires.0.shaped c.args.bits.now c.requires.2))
+    omega (arith, bits_some (slotted c.requires.0.shaped c.args.bits.now (search rules)))
 
 pub returns-then-property-eq1 : goal.returns-then-property-eq1
 returns-then-property-eq1 c =
     let pre = c.requires in
     let bits = c.args.bits.now in
-    λ d w. property_1_gives pre.0.shaped _ bits _ _ (mark_read false (slotted pre.0.shaped bits pre.2) (omega arith) false refl).1 d w
+    λ d w. property_1_gives pre.0.shaped _ bits _ _ (mark_read false (slotted pre.0.shaped bits (search rules)) (omega arith) false refl).1 d w
     c.if-property-eq1.true c.encode_invalid-x.result _ (c.encode_invalid-x.ensures d w) c.unmarked-then-property-eq1.ensures
 
 pub returns : goal.returns

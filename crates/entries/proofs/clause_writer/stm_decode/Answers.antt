@@ -1,12 +1,8 @@
-use Rattle.entries.specs.Clauses.{decode_entry}
-use Rattle.entries.proofs.Writing.{decode_refused, decode_done}
+use mathlib.Core.Path.{ap}
+use Rattle.entries.specs.Clauses.{decode_return, decode_entry}
+use Rattle.entries.proofs.Coding.{code_by}
 use Rattle.entries.proofs.clause_writer.stm_decode.Goals as goal
 
-pub returns-in-Refused : goal.returns-in-Refused
+pub returns : goal.returns
 unfolding decode_entry
-returns-in-Refused c =
-    decode_refused _ _ _ c.decode.ensures _ _ _ c.in-Refused.is c.code_of.ensures
-
-pub returns-in-Done : goal.returns-in-Done
-unfolding decode_entry
-returns-in-Done c = decode_done _ _ _ c.decode.ensures c.in-Done.is
+returns c = rw (c.code_alone.ensures, code_by) (ap decode_return c.decode.ensures)

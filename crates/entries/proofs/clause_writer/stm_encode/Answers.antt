@@ -1,12 +1,11 @@
-use Rattle.entries.specs.Clauses.{encode_entry}
-use Rattle.entries.proofs.Writing.{encode_refused, encode_told}
+use mathlib.Core.Path.{ap}
+use Rattle.entries.specs.Clauses.{encode_return, encode_entry}
 use Rattle.entries.proofs.clause_writer.stm_encode.Goals as goal
 
-pub returns-in-Refused : goal.returns-in-Refused
+pub returns-in-Err : goal.returns-in-Err
 unfolding encode_entry
-returns-in-Refused c =
-    encode_refused _ _ _ c.encode.ensures _ _ _ _ c.in-Refused.is c.code_of.ensures
+returns-in-Err c = rw c.code_of.ensures (ap (encode_return _) c.in-Err.ensures)
 
-pub returns-in-Encoded : goal.returns-in-Encoded
+pub returns-in-Ok : goal.returns-in-Ok
 unfolding encode_entry
-returns-in-Encoded c = encode_told _ _ _ c.encode.ensures _ _ c.in-Encoded.is
+returns-in-Ok c = ap (encode_return _) c.in-Ok.ensures

@@ -1,11 +1,11 @@
-use Rattle.entries.specs.Clauses.{size_entry}
-use Rattle.entries.proofs.Writing.{size_refused, size_told}
+use mathlib.Core.Path.{ap}
+use Rattle.entries.specs.Clauses.{size_return, size_entry}
 use Rattle.entries.proofs.clause_writer.stm_size.Goals as goal
 
-pub returns-in-Refused : goal.returns-in-Refused
+pub returns-in-Err : goal.returns-in-Err
 unfolding size_entry
-returns-in-Refused c = size_refused _ _ c.size.ensures _ _ _ _ c.in-Refused.is c.code_of.ensures
+returns-in-Err c = rw c.code_of.ensures (ap (size_return _) c.in-Err.ensures)
 
-pub returns-in-Sized : goal.returns-in-Sized
+pub returns-in-Ok : goal.returns-in-Ok
 unfolding size_entry
-returns-in-Sized c = size_told _ _ c.size.ensures _ _ c.in-Sized.is
+returns-in-Ok c = ap (size_return _) c.in-Ok.ensures

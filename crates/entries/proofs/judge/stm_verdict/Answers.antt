@@ -1,14 +1,11 @@
-use Rattle.entries.specs.Verdict.{verdict_entry}
-use Rattle.entries.proofs.Judging.{refused_exit, done_exit}
+use mathlib.Core.Path.{ap}
+use Rattle.entries.specs.Verdict.{verdict_return, verdict_entry}
 use Rattle.entries.proofs.judge.stm_verdict.Goals as goal
 
-pub returns-in-Refused : goal.returns-in-Refused
+pub returns-in-Err : goal.returns-in-Err
 unfolding verdict_entry
-returns-in-Refused c =
-    refused_exit _ _ _ c.verdict.ensures _ _ _ _ c.in-Refused.is c.code_of.ensures
+returns-in-Err c = rw c.code_of.ensures (ap (verdict_return _) c.in-Err.ensures)
 
-pub returns-in-Done : goal.returns-in-Done
+pub returns-in-Ok : goal.returns-in-Ok
 unfolding verdict_entry
-returns-in-Done c =
-    done_exit _ _ _ c.verdict.ensures _ _ _ _ c.in-Done.is c.verdict_number-told.ensures
-    c.verdict_step-at.ensures
+returns-in-Ok c = rw (c.verdict_number-told.ensures, c.verdict_step-at.ensures) (ap (verdict_return _) c.in-Ok.ensures)

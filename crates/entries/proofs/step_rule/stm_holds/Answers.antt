@@ -1,11 +1,12 @@
-use Rattle.entries.specs.Step.{holds_entry}
-use Rattle.entries.proofs.Answering.{holds_refused, holds_told}
+use mathlib.Core.Path.{ap}
+use Rattle.entries.specs.Step.{holds_return, holds_entry}
+use Rattle.step.proofs.Counts.{bit_from}
 use Rattle.entries.proofs.step_rule.stm_holds.Goals as goal
 
-pub returns-then-refusal-ne0 : goal.returns-then-refusal-ne0
+pub returns-in-Err : goal.returns-in-Err
 unfolding holds_entry
-returns-then-refusal-ne0 c = holds_refused _ _ c.holds-told.ensures _ _ c.if-refusal-ne0.true c.code_of.ensures
+returns-in-Err c = rw c.code_of.ensures (ap (holds_return _) c.in-Err.ensures)
 
-pub returns : goal.returns
+pub returns-in-Ok : goal.returns-in-Ok
 unfolding holds_entry
-returns c = holds_told _ _ c.holds-told.ensures _ _ c.if-refusal-ne0.false c.flag-h.ensures
+returns-in-Ok c = rw bit_from (ap (holds_return _) c.in-Ok.ensures)

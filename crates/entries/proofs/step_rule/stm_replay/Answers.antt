@@ -1,12 +1,15 @@
-use Rattle.entries.specs.Step.{replay_entry}
-use Rattle.entries.proofs.Answering.{replay_refused, replay_told_lem}
+use mathlib.Core.Path.{ap}
+use Rattle.entries.specs.Step.{replay_return, replay_entry}
 use Rattle.entries.proofs.step_rule.stm_replay.Goals as goal
 
-pub returns-then-refusal-ne0 : goal.returns-then-refusal-ne0
+pub returns-in-Err : goal.returns-in-Err
 unfolding replay_entry
-returns-then-refusal-ne0 c = replay_refused _ _ c.replay-told.ensures _ _ c.if-refusal-ne0.true c.code_of.ensures
+returns-in-Err c = rw c.code_of.ensures (ap (replay_return _) c.in-Err.ensures)
 
-pub returns : goal.returns
+pub returns-in-Some : goal.returns-in-Some
 unfolding replay_entry
-returns c =
-    replay_told_lem _ _ c.replay-told.ensures _ _ c.if-refusal-ne0.false c.long_flag-broken.ensures
+returns-in-Some c = ap (replay_return _) (rw c.in-Some.is at c.in-Ok.ensures)
+
+pub returns-in-None : goal.returns-in-None
+unfolding replay_entry
+returns-in-None c = ap (replay_return _) (rw c.in-None.is at c.in-Ok.ensures)

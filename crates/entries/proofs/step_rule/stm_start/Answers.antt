@@ -1,11 +1,11 @@
-use Rattle.entries.specs.Step.{start_entry}
-use Rattle.entries.proofs.Answering.{start_refused, start_told}
+use mathlib.Core.Path.{ap}
+use Rattle.entries.specs.Step.{start_return, start_entry}
 use Rattle.entries.proofs.step_rule.stm_start.Goals as goal
 
-pub returns-then-refusal-ne0 : goal.returns-then-refusal-ne0
+pub returns-in-Err : goal.returns-in-Err
 unfolding start_entry
-returns-then-refusal-ne0 c = start_refused _ _ c.start-told.ensures _ _ _ _ c.if-refusal-ne0.true c.code_of.ensures
+returns-in-Err c = rw c.code_of.ensures (ap (start_return _ _ _) c.in-Err.ensures)
 
-pub returns : goal.returns
+pub returns-in-Ok : goal.returns-in-Ok
 unfolding start_entry
-returns c = start_told _ _ c.start-told.ensures _ _ _ c.if-refusal-ne0.false
+returns-in-Ok c = ap (start_return _ _ _) c.in-Ok.ensures

@@ -1,12 +1,12 @@
-use Rattle.entries.specs.Step.{step_entry}
-use Rattle.entries.proofs.Answering.{step_refused, step_told}
+use mathlib.Core.Path.{ap}
+use Rattle.entries.specs.Step.{step_return, step_entry}
+use Rattle.step.proofs.Counts.{bit_from}
 use Rattle.entries.proofs.step_rule.stm_step.Goals as goal
 
-pub returns-then-refusal-ne0 : goal.returns-then-refusal-ne0
+pub returns-in-Err : goal.returns-in-Err
 unfolding step_entry
-returns-then-refusal-ne0 c = step_refused _ _ c.step-told.ensures _ _ _ _ _ c.if-refusal-ne0.true c.code_of.ensures
+returns-in-Err c = rw c.code_of.ensures (ap (step_return _ _ _ _) c.in-Err.ensures)
 
-pub returns : goal.returns
+pub returns-in-Ok : goal.returns-in-Ok
 unfolding step_entry
-returns c =
-    step_told _ _ c.step-told.ensures _ _ _ _ _ c.if-refusal-ne0.false c.flag-i.ensures
+returns-in-Ok c = rw bit_from (ap (step_return _ _ _ _) c.in-Ok.ensures)
