@@ -6,6 +6,14 @@ ghost use Rattle.text.specs.Line.{spaced, mover_text, flag_text, head, slots_tex
 
 use super::number::{put_byte, put_decimal, put_pattern};
 
+// The step by which a line's state was reached: its number, the mover that it chose, and whether that was idle.
+#[derive(Clone, Copy)]
+pub struct Taken {
+    pub step: usize,
+    pub mover: usize,
+    pub idle: bool,
+}
+
 // The values of the first n slots, each with a space before it.
 pub fn put_values(out: &mut [u8], at: usize, n: usize, slots: &[u16]) -> usize
     requires { (n ≤ length slots.now) × (at + 22 * n ≤ length out.old) }
@@ -58,21 +66,14 @@ fn put_flag(out: &mut [u8], at: usize, flag: bool) -> usize
 }
 
 // Step, mover, idle, property holds: the first fields of a line.
-pub fn put_head(
-    out: &mut [u8],
-    at: usize,
-    step: usize,
-    mover: usize,
-    idle: bool,
-    holds: bool,
-) -> usize
+pub fn put_head(out: &mut [u8], at: usize, taken: Taken, holds: bool) -> usize
     requires { at + 45 ≤ length out.old }
-    ensures { TextWritten (head step mover idle holds) out.old out.new at result × (result ≤ at + 45) }
+    ensures { TextWritten (head taken.step taken.mover taken.idle holds) out.old out.new at result × (result ≤ at + 45) }
 {
-    let a = put_decimal(out, at, step);
+    let a = put_decimal(out, at, taken.step);
     let b = put_byte(out, a, b' ');
-    let c = put_mover(out, b, step, mover);
-    let d = put_flag(out, c, idle);
+    let c = put_mover(out, b, taken.step, taken.mover);
+    let d = put_flag(out, c, taken.idle);
     put_flag(out, d, holds)
 }
 

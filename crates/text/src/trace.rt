@@ -2,27 +2,26 @@
 ghost use Rattle.std.specs.Prelude.{◌≡◌, ℕ, ◌+◌, ◌*◌, ◌≤◌, ◌<◌, eqb, length, get_or, drop, replicate};
 ghost use Rattle.design.specs.Tree.{Design};
 ghost use Rattle.design.specs.Check.{check, accepted};
-ghost use Rattle.design.specs.Places.{MoversIndexed};
 ghost use Rattle.design.specs.State.{slot_count};
 ghost use Rattle.design.specs.Sections.{Parts};
 ghost use Rattle.step.specs.Piece.{no_piece};
 ghost use Rattle.step.specs.Property.{property_of};
 ghost use Rattle.design.specs.Refusal.{refusal_of};
-ghost use Rattle.step.specs.Ready.{ReadyPair, before_in};
+ghost use Rattle.step.specs.Ready.{before_in};
 ghost use Rattle.text.specs.Text.{TextWritten, max_line, max_text};
 ghost use Rattle.text.specs.Trace.{state_line, next_lines, state_lines, result_text, refusal_text, trace, replay_text};
 ghost use Rattle.text.specs.Ready.{ReplayInput};
 
 use super::input::design_end;
-use super::line::{put_head, put_tail};
+use super::line::{Taken, put_head, put_tail};
 use super::number::{put_byte, put_bytes, put_decimal};
 use design::bytes::wide;
 use design::index::{index_cells, index_events, shape};
 use design::limits::{EVENT_PLACES, MAX_MOVERS, PAIR_SLOTS};
 use design::refusal::Refused;
-use design::shape::{Shape, slot_count};
-use step::mover::step_pair;
-use step::property::{judges_steps, true_at};
+use design::shape::slot_count;
+use step::machine::{Machine, Movers};
+use step::property::judges_steps;
 use step::replaying::load_start;
 
 // `refused N at P`, at the front.
@@ -52,90 +51,82 @@ pub fn put_result(out: &mut [u8], at: usize, broken: Option<usize>) -> usize
 
 // The line of the second state of `pair`; the first is the state before it, but for step 0.
 pub fn put_state(
-    file: &[u8],
-    events: &[u16; EVENT_PLACES],
-    shape: Shape,
+    machine: Machine,
     property: u64,
-    step: usize,
-    mover: usize,
-    idle: bool,
+    taken: Taken,
     pair: &[u16],
     out: &mut [u8],
     at: usize,
 ) -> usize
-    requires { ReadyPair file.now events.now shape pair.now × (at + max_line ≤ length out.old) }
-    ensures { ((d : Design) (parts : Parts file.now d)
-        → TextWritten (state_line d (property_of file.now no_piece d property) step mover idle (before_in (eqb step 0) (slot_count shape) pair.now)
-        (drop (slot_count shape) pair.now)) out.old out.new at result)
+    requires { (length pair.now ≡ slot_count machine.shape + slot_count machine.shape) × (at + max_line ≤ length out.old) }
+    ensures { ((d : Design) (parts : Parts machine.entry.file.now d)
+        → TextWritten (state_line d (property_of machine.entry.file.now no_piece d property) taken.step taken.mover taken.idle
+        (before_in (eqb taken.step 0) (slot_count machine.entry.shape) pair.now) (drop (slot_count machine.entry.shape) pair.now)) out.old out.new at result)
         × (result ≤ at + max_line) × (length out.new ≡ length out.old) }
 {
-    let holds = true_at(file, b"", events, shape, property, step == 0, pair);
-    let a = put_head(out, at, step, mover, idle, holds);
+    let holds = machine.true_at(b"", property, taken.step == 0, pair);
+    let a = put_head(out, at, taken, holds);
+    let shape = machine.shape;
     let n = slot_count(shape);
     put_tail(out, a, shape.variables, shape.matrices, &pair[n..])
 }
 
 // The lines after the second state of `pair`: each choice acts on the pair in place.
 pub fn put_next(
-    file: &[u8],
-    events: &[u16; EVENT_PLACES],
-    cells: &[u16; MAX_MOVERS],
-    shape: Shape,
+    movers: Movers,
     property: u64,
     choices: &[u8],
     pair: &mut [u16],
     out: &mut [u8],
     at: usize,
 ) -> usize
-    requires { ReadyPair file.now events.now shape pair.old × MoversIndexed file.now cells.now shape
+    requires { (length pair.old ≡ slot_count movers.machine.shape + slot_count movers.machine.shape)
         × (at + max_line * length choices.now ≤ length out.old) × ((i : ℕ) → i < length choices.now
-        → get_or choices.now i 0 < shape.normals + shape.externals) }
-    ensures { ((d : Design) → check file.now ≡ accepted d
-        → TextWritten (next_lines d (property_of file.now no_piece d property) 0 (drop (slot_count shape) pair.old) choices.now) out.old out.new at result)
+        → get_or choices.now i 0 < movers.machine.shape.normals + movers.machine.shape.externals) }
+    ensures { ((d : Design) → check movers.entry.machine.file.now ≡ accepted d
+        → TextWritten (next_lines d (property_of movers.entry.machine.file.now no_piece d property) 0 (drop (slot_count movers.entry.machine.shape) pair.old) choices.now) out.old out.new at result)
         × (result ≤ at + max_line * length choices.now) × (length out.new ≡ length out.old) }
 {
     let mut p = at;
     for i in 0..choices.len() {
         let c = wide(choices[i]);
-        let tested = step_pair(file, events, cells, shape, c, judges_steps(property), pair);
-        p = put_state(
-            file,
-            events,
-            shape,
-            property,
-            i + 1,
-            c,
-            tested.idle,
-            pair,
-            out,
-            p,
-        );
+        let tested = movers.step_pair(c, judges_steps(property), pair);
+        let taken = Taken {
+            step: i + 1,
+            mover: c,
+            idle: tested.idle,
+        };
+        p = put_state(movers.machine, property, taken, pair, out, p);
     }
     p
 }
 
 // The lines of all states, at the front; by slots that are 0.
 pub fn put_states(
-    file: &[u8],
-    events: &[u16; EVENT_PLACES],
-    cells: &[u16; MAX_MOVERS],
-    shape: Shape,
+    movers: Movers,
     property: u64,
     choices: &[u8],
     pair: &mut [u16],
     out: &mut [u8],
 ) -> usize
-    requires { ReadyPair file.now events.now shape pair.old × MoversIndexed file.now cells.now shape
+    requires { (length pair.old ≡ slot_count movers.machine.shape + slot_count movers.machine.shape)
         × (max_line + max_line * length choices.now ≤ length out.old) × ((i : ℕ) → i < length choices.now
-        → get_or choices.now i 0 < shape.normals + shape.externals) × (pair.old ≡ replicate (slot_count shape + slot_count shape) 0) }
-    ensures { ((d : Design) → check file.now ≡ accepted d
-        → TextWritten (state_lines d (property_of file.now no_piece d property) choices.now) out.old out.new 0 result)
+        → get_or choices.now i 0 < movers.machine.shape.normals + movers.machine.shape.externals)
+        × (pair.old ≡ replicate (slot_count movers.machine.shape + slot_count movers.machine.shape) 0) }
+    ensures { ((d : Design) → check movers.entry.machine.file.now ≡ accepted d
+        → TextWritten (state_lines d (property_of movers.entry.machine.file.now no_piece d property) choices.now) out.old out.new 0 result)
         × (result ≤ max_line + max_line * length choices.now) × (length out.new ≡ length out.old) }
 {
-    let n = slot_count(shape);
-    load_start(file, shape, &mut pair[n..]);
-    let a = put_state(file, events, shape, property, 0, 0, false, pair, out, 0);
-    put_next(file, events, cells, shape, property, choices, pair, out, a)
+    let machine = movers.machine;
+    let n = slot_count(machine.shape);
+    load_start(machine.file, machine.shape, &mut pair[n..]);
+    let taken = Taken {
+        step: 0,
+        mover: 0,
+        idle: false,
+    };
+    let a = put_state(machine, property, taken, pair, out, 0);
+    put_next(movers, property, choices, pair, out, a)
 }
 
 // The lines of all states, for a call of REPLAY that is not refused.
@@ -153,16 +144,16 @@ pub fn put_run(file: &[u8], property: u64, choices: &[u8], out: &mut [u8]) -> us
     let mut all = [0u16; PAIR_SLOTS];
     let n = slot_count(shape);
     let end = n + n;
-    put_states(
+    let machine = Machine {
         file,
-        &events,
-        &cells,
+        events: &events,
         shape,
-        property,
-        choices,
-        &mut all[..end],
-        out,
-    )
+    };
+    let movers = Movers {
+        machine,
+        cells: &cells,
+    };
+    put_states(movers, property, choices, &mut all[..end], out)
 }
 
 // The lines of all states and the result, or the refusal alone.

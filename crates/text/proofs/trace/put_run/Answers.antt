@@ -22,11 +22,7 @@ put_states-requires c =
     let few = c.slot_count-n.ensures.1 in
     let twice = ap₂ (λ (x y : ℕ). x + y) c.slot_count-n.ensures.0 c.slot_count-n.ensures.0 in
     let movers = movers_here _ _ _ _ c.shape-shape.ensures c.index_cells-normals.ensures in (
-      record {
-        indexed = record { accepted = c.requires.0.design; events = c.index_events.ensures; shaped = c.shape-shape.ensures.shaped };
-        size = length-take-le _ _ (omega arith) ∙ twice;
-      },
-      movers,
+      length-take-le _ _ (omega arith) ∙ twice,
       c.requires.1,
       choices_below _ _ c.requires.0 _ _ c.shape-shape.ensures.shaped movers,
       take_replicate (c.slot_count-n.result + c.slot_count-n.result) pair_slots 0 (omega arith) ∙ ap (λ (n : ℕ). replicate n 0) twice,
