@@ -1,4 +1,3 @@
-use mathlib.Core.Path.{sym, ◌∙◌}
 use Rattle.verdict.proofs.OneOwner.{never_refused, words_room, cleared}
 use Rattle.verdict.proofs.owners.clear.Goals as goal
 
