@@ -16,6 +16,7 @@ mod first; // part 0
 mod last; // the last part
 mod part; // a frame's part, any part, all parts
 mod cost; // numbers of gates, of expressions and statements
+mod tables; // an accepted file with its tables
 mod cells; // the same, of cells
 pub mod frame; // the sizes of a frame and of the formula
 mod admission; // CHECK, 13, 8, 14 and 19

@@ -1,50 +1,46 @@
-use Rattle.std.proofs.Common.{ℕ, ◌<◌, false, get_or, arith}
+use Rattle.std.proofs.Common.{false, arith}
 use Rattle.design.specs.Limits.{max_depth}
 use Rattle.clauses.proofs.CellCounts.{expression_short, expression_reads, expression_few, expression_gates, property_gates_lem, property_without}
-use Rattle.clauses.proofs.frame.size_property.Goals as goal
+use Rattle.clauses.proofs.tables.Tables.size_property.Goals as goal
 
 pub expression-text-requires : goal.expression-text-requires
-expression-text-requires c = c.requires.0.shaped.accepted
+expression-text-requires c = c.args.self.ready.shaped.accepted
 
 pub size_bool-requires : goal.size_bool-requires
 size_bool-requires c =
     let text = c.expression-text.ensures in (
       (
-        c.args.file.now,
+        c.args.self.file.now,
         max_depth,
         false,
-        expression_reads _ _ _ c.requires.0 _ _ c.requires.1 c.if-property-eq0.true _ text,
+        expression_reads _ _ _ c.args.self.ready _ _ c.requires c.if-property-eq0.true _ text,
       ),
       omega arith,
       expression_short _ _ _
-          c.requires.0 _ _ c.requires.1 c.if-property-eq0.true _ text,
+          c.args.self.ready _ _ c.requires c.if-property-eq0.true _ text,
     )
 
 pub ends_unmarked-requires : goal.ends_unmarked-requires
 ends_unmarked-requires c =
     let zero = c.if-property-eq0.true in
     let text = c.expression-text.ensures in
-    let reads = expression_reads _ _ _ c.requires.0 _ _ c.requires.1 zero _ text in
-    expression_few _ _ _ c.requires.0 _ _ c.requires.1 zero _ text _ (c.size_bool.ensures c.args.file.now max_depth false reads)
+    let reads = expression_reads _ _ _ c.args.self.ready _ _ c.requires zero _ text in
+    expression_few _ _ _ c.args.self.ready _ _ c.requires zero _ text _ (c.size_bool.ensures c.args.self.file.now max_depth false reads)
 
 pub returns-then-property-eq0 : goal.returns-then-property-eq0
 returns-then-property-eq0 c =
     let zero = c.if-property-eq0.true in
     let text = c.expression-text.ensures in
-    let reads = expression_reads _ _ _ c.requires.0 _ _ c.requires.1 zero _ text in
-    let counted = c.size_bool.ensures c.args.file.now max_depth false reads in
-    expression_gates _ _ _ c.requires.0 _ _ c.requires.1 zero _ text _ counted _ c.ends_unmarked.ensures
-
-pub size_cells-requires : goal.size_cells-requires
-size_cells-requires c = c.requires.0
+    let reads = expression_reads _ _ _ c.args.self.ready _ _ c.requires zero _ text in
+    let counted = c.size_bool.ensures c.args.self.file.now max_depth false reads in
+    expression_gates _ _ _ c.args.self.ready _ _ c.requires zero _ text _ counted _ c.ends_unmarked.ensures
 
 pub ends_unmarked-requires-then-property-eq1 : goal.ends_unmarked-requires-then-property-eq1
 ends_unmarked-requires-then-property-eq1 c = c.size_cells.ensures.0
 
 pub returns-then-property-eq1 : goal.returns-then-property-eq1
 returns-then-property-eq1 c =
-    let bytes : (i : ℕ) → get_or c.args.file.now i 0 < 256 = λ i. omega (arith, c.shared_slice_known-1.given i) in
-    property_gates_lem _ _ _ c.requires.0 bytes _ _ c.requires.1 c.if-property-eq1.true _ _ c.size_cells.ensures.1 c.ends_unmarked-then-property-eq1.ensures
+    property_gates_lem _ _ _ c.args.self.ready c.args.self.bytes _ _ c.requires c.if-property-eq1.true _ _ c.size_cells.ensures.1 c.ends_unmarked-then-property-eq1.ensures
 
 pub returns : goal.returns
 returns c =

@@ -2,34 +2,34 @@ use Rattle.std.proofs.Common.{ℕ, ◌+◌, ap, ap₂, arith}
 use Rattle.clauses.specs.declared.cost.GatesAt.{GatesAt}
 use Rattle.clauses.proofs.TextGates.{list_few}
 use Rattle.clauses.proofs.CellCounts.{sizes, kinds, normal_fields, action_reads, normal_gates}
-use Rattle.clauses.proofs.cells.size_normal.Goals as goal
+use Rattle.clauses.proofs.tables.Tables.size_normal.Goals as goal
 
 pub size_place-event-requires : goal.size_place-event-requires
-size_place-event-requires c = (c.requires.0, normal_fields _ _ _ c.requires.0 _ c.requires.1)
+size_place-event-requires c = normal_fields _ _ _ c.args.self.ready _ c.requires
 
 pub size_guard-guard-requires : goal.size_guard-guard-requires
-size_guard-guard-requires c = ((_, c.requires.0), c.requires.1)
+size_guard-guard-requires c = ((_, c.args.self.ready), c.requires)
 
 pub size_list-action-requires : goal.size_list-action-requires
 size_list-action-requires c = record {
-  readable = action_reads _ _ _ c.requires.0 _ c.requires.1 _ _ (ap (λ (i : ℕ). c.args.p + 8 + i) c.wide.ensures.0) (ap₂ (λ (i j : ℕ).
+  readable = action_reads _ _ _ c.args.self.ready _ c.requires _ _ (ap (λ (i : ℕ). c.args.p + 8 + i) c.wide.ensures.0) (ap₂ (λ (i j : ℕ).
       c.args.p + 8 + i + j) c.wide.ensures.0 c.word.ensures.0);
   in_bounds = (
     omega (
       arith,
       c.wide.ensures.0,
       c.word.ensures.0,
-      (normal_fields _ _ _ c.requires.0 _ c.requires.1).past,
+      (normal_fields _ _ _ c.args.self.ready _ c.requires).past,
     ),
     omega (
       arith,
       c.wide.ensures.0,
       c.word.ensures.0,
-      (normal_fields _ _ _ c.requires.0 _ c.requires.1).past,
-      sizes c.requires.0.shaped,
+      (normal_fields _ _ _ c.args.self.ready _ c.requires).past,
+      sizes c.args.self.ready.shaped,
     ),
-    kinds c.requires.0.shaped,
-    c.requires.0.shaped.bits.few,
+    kinds c.args.self.ready.shaped,
+    c.args.self.ready.shaped.bits.few,
   );
 }
 
@@ -39,9 +39,9 @@ join-requires-2 c =
       arith,
       c.wide.ensures.0,
       c.word.ensures.0,
-      (normal_fields _ _ _ c.requires.0 _ c.requires.1).past,
-      sizes c.requires.0.shaped,
-    )) _ c.requires.0.shaped.bits.few _ _ _ c.size_list-action.ensures in (
+      (normal_fields _ _ _ c.args.self.ready _ c.requires).past,
+      sizes c.args.self.ready.shaped,
+    )) _ c.args.self.ready.shaped.bits.few _ _ _ c.size_list-action.ensures in (
       omega (
         arith,
         f.ands,
@@ -52,7 +52,7 @@ join-requires-2 c =
       omega (
         arith,
         f.wides,
-        c.requires.0.shaped.bits.few,
+        c.args.self.ready.shaped.bits.few,
         c.size_place-event.ensures.0.wides,
         c.size_guard-guard.ensures.0.wides,
         ap (λ (z : GatesAt). z.wides) c.join.ensures,
@@ -61,5 +61,5 @@ join-requires-2 c =
 
 pub returns : goal.returns
 returns c =
-    λ x. normal_gates _ _ _ c.requires.0 _ x _ _ (ap (λ (i : ℕ). c.args.p + 8 + i) c.wide.ensures.0) (ap₂ (λ (i j : ℕ). c.args.p
+    λ x. normal_gates _ _ _ c.args.self.ready _ x _ _ (ap (λ (i : ℕ). c.args.p + 8 + i) c.wide.ensures.0) (ap₂ (λ (i j : ℕ). c.args.p
     + 8 + i + j) c.wide.ensures.0 c.word.ensures.0) _ _ _ _ _ c.size_place-event.ensures.1 (c.size_guard-guard.ensures.1 x) c.size_list-action.ensures c.join.ensures c.join-2.ensures
