@@ -44,12 +44,7 @@ pub fn step_literal(file: &[u8], shape: Shape, property: u64, v: u32, after: u32
 
 impl<'a> Tables<'a> {
     // The property's literal at the frame whose state is the variables from v on; its gates go nowhere.
-    pub fn state_literal(
-        self,
-        piece: &'a [u8],
-        property: u64,
-        v: u32,
-    ) -> u32
+    pub fn state_literal(self, piece: &'a [u8], property: u64, v: u32) -> u32
         requires { (piece_right self.file.now piece.now property ≡ true) × (v ≤ variable_limit) }
         ensures { (d : Design) (parts : Parts self.entry.file.now d)
             → v + self.entry.shape.bits + P d (property_of self.entry.file.now piece.now d property) ≤ variable_limit
@@ -67,13 +62,7 @@ impl<'a> Tables<'a> {
     }
 
     // The property's literal in the frame at v, where frames are `stride` apart.
-    pub fn property_literal(
-        self,
-        piece: &'a [u8],
-        property: u64,
-        v: u32,
-        stride: u32,
-    ) -> u32
+    pub fn property_literal(self, piece: &'a [u8], property: u64, v: u32, stride: u32) -> u32
         requires { (piece_right self.file.now piece.now property ≡ true) × (v ≤ variable_limit) × (stride < variable_limit) }
         ensures { (d : Design) → check self.entry.file.now ≡ accepted d → stride ≡ F d (property_of self.entry.file.now piece.now d property)
             → PropertyLiteralFits d (property_of self.entry.file.now piece.now d property) v
@@ -85,13 +74,7 @@ impl<'a> Tables<'a> {
         step_literal(self.file, self.shape, property, v, v + stride)
     }
 
-    pub fn put_last(
-        self,
-        piece: &'a [u8],
-        inst: Instance,
-        buf: &mut [i32],
-        cur: usize,
-    ) -> usize
+    pub fn put_last(self, piece: &'a [u8], inst: Instance, buf: &mut [i32], cur: usize) -> usize
         requires { (piece_right self.file.now piece.now inst.property ≡ true) × SmallFormula inst.sizes inst.bound }
         ensures { LastPut self.entry.file.now piece.now buf.old buf.new cur result inst.property inst.bound inst.sizes }
     {

@@ -24,13 +24,7 @@ pub fn frame_start(s: FrameSizes, j: u64) -> u32
 
 impl<'a> Tables<'a> {
     // The step out of the frame at v: the clause of all flags, their pairs, the gates with those of property 2, the ties.
-    pub fn put_step(
-        self,
-        inst: Instance,
-        v: u32,
-        buf: &mut [i32],
-        cur: usize,
-    ) -> usize
+    pub fn put_step(self, inst: Instance, v: u32, buf: &mut [i32], cur: usize) -> usize
         requires { FormulaReady self.file.now self.shape inst × (v ≤ variable_limit) }
         ensures { (piece : List ℕ) → StepPut self.entry.file.now piece buf.old buf.new cur result inst v }
     {
@@ -105,12 +99,7 @@ impl<'a> Tables<'a> {
     }
 
     // All parts, from the buffer's front on; answers the number of words.
-    pub fn put_parts(
-        self,
-        piece: &'a [u8],
-        inst: Instance,
-        buf: &mut [i32],
-    ) -> usize
+    pub fn put_parts(self, piece: &'a [u8], inst: Instance, buf: &mut [i32]) -> usize
         requires { FormulaReady self.file.now self.shape inst × (piece_right self.file.now piece.now inst.property ≡ true) }
         ensures { FormulaPut self.entry.file.now piece.now buf.old buf.new 0 result inst }
     {

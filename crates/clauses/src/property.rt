@@ -102,12 +102,7 @@ impl<'a> Tables<'a> {
     }
 
     // An and-chain from true over not(and(equal, event)) of the invalid cells.
-    pub fn encode_invalid(
-        self,
-        bits: &[u32; MAX_BITS],
-        buf: &mut [i32],
-        pen: Cursor,
-    ) -> Out<u32>
+    pub fn encode_invalid(self, bits: &[u32; MAX_BITS], buf: &mut [i32], pen: Cursor) -> Out<u32>
         ensures { (d : Design) (parts : Parts self.entry.file.now d) → InvalidGates self.entry.file.now self.entry.shape bits.now d.invalid pen buf.old buf.new result }
     {
         let mut p = trailer_word(self.file, CELLS_AT);
