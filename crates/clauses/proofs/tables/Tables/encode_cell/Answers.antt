@@ -5,9 +5,6 @@ use Rattle.clauses.proofs.CellCounts.{sizes, kinds}
 use Rattle.clauses.proofs.EmitCells.{few_bits, slotted, normal_fields, is, action_here, action_writes, target_set, muxes_first, cell_emits}
 use Rattle.clauses.proofs.tables.Tables.encode_cell.Goals as goal
 
-pub encode_enable-e-requires : goal.encode_enable-e-requires
-encode_enable-e-requires c = c.requires
-
 pub overflow_add-at : goal.overflow_add-at
 overflow_add-at c =
     omega (
@@ -110,10 +107,6 @@ store_word-requires c = (
   ),
   omega arith,
 )
-
-pub muxes-x-requires : goal.muxes-x-requires
-muxes-x-requires c =
-    c.args.self.ready.shaped.bits.few
 
 pub shape_of-buf : goal.shape_of-buf
 shape_of-buf c =

@@ -6,10 +6,6 @@ use Rattle.clauses.proofs.tables.Tables.encode_enable.Goals as goal
 pub status_and_event-a-requires : goal.status_and_event-a-requires
 status_and_event-a-requires c = normal_fields c.args.self.ready c.args.p c.requires
 
-pub encode_guard-g-requires : goal.encode_guard-g-requires
-encode_guard-g-requires c =
-    ((_, c.args.self.ready), c.requires)
-
 pub returns : goal.returns
 returns c =
     let shape = c.args.self.shape in

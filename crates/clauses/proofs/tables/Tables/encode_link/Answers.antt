@@ -6,9 +6,6 @@ pub returns-then-self-p : goal.returns-then-self-p
 returns-then-self-p c =
     λ d w. link_pass (layout_of c.args.self.shape) (slots_of c.args.self.file.now c.args.self.shape c.args.bits.now) _ _ _ _ _ _ _ _ c.if-self-p.true
 
-pub status_and_event-a-requires : goal.status_and_event-a-requires
-status_and_event-a-requires c = c.requires
-
 pub returns : goal.returns
 returns c =
     λ d w. link_emits (layout_of c.args.self.shape) (slots_of c.args.self.file.now c.args.self.shape c.args.bits.now) _ _ _ _ _ _ _ c.if-self-p.false c.negate.ensures (c.status_and_event-a.ensures d w) c.emit_and.ensures

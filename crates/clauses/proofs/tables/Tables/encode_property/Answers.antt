@@ -5,9 +5,6 @@ use Rattle.clauses.proofs.EmitCells.{slotted}
 use Rattle.clauses.proofs.EmitSteps.{expression_here, expression_gives, property_1_gives, property_none, gives_true}
 use Rattle.clauses.proofs.tables.Tables.encode_property.Goals as goal
 
-pub expression-text-requires : goal.expression-text-requires
-expression-text-requires c = c.args.self.ready.shaped.accepted
-
 pub encode_test-x-requires : goal.encode_test-x-requires
 encode_test-x-requires c =
     (false, slotted c.args.self.ready.shaped _ (search rules), expression_here c.args.self.ready.shaped _ _ c.requires c.if-property-eq0.true _ c.expression-text.ensures)

@@ -1,4 +1,4 @@
-use Rattle.std.proofs.Common.{ℕ, ◌+◌, ap, arith}
+use Rattle.std.proofs.Common.{ℕ, ◌+◌, ap}
 use Rattle.design.proofs.Sections.{whole}
 use Rattle.clauses.proofs.EmitParts.{literal_of_state, literal_of_step}
 use Rattle.clauses.proofs.tables.Tables.property_literal.Goals as goal
@@ -6,13 +6,6 @@ use Rattle.clauses.proofs.tables.Tables.property_literal.Goals as goal
 pub returns-then-property-lt-CONSTRAINT : goal.returns-then-property-lt-CONSTRAINT
 returns-then-property-lt-CONSTRAINT c =
     λ d ok e fits. let w = (whole c.args.self.file.now d ok).parts in literal_of_state d _ _ _ c.if-property-lt-CONSTRAINT.true _ _ (c.args.self.ready.shaped.bits.state d w) _ (c.state_literal.ensures d w) fits
-
-pub overflow_add-v : goal.overflow_add-v
-overflow_add-v c =
-    omega (arith, c.requires.1, c.requires.2)
-
-pub step_literal-requires : goal.step_literal-requires
-step_literal-requires c = c.args.self.ready.shaped
 
 pub returns : goal.returns
 returns c =

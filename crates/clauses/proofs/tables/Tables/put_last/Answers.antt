@@ -3,9 +3,6 @@ use Rattle.clauses.proofs.FrameNumbers.{start_low}
 use Rattle.clauses.proofs.EmitParts.{closing_start, closing_on, closing_end}
 use Rattle.clauses.proofs.tables.Tables.put_last.Goals as goal
 
-pub frame_length-stride-requires : goal.frame_length-stride-requires
-frame_length-stride-requires c = c.requires.1.sizes
-
 pub loop-init : goal.loop-init
 loop-init c = (closing_start _ _ _ _ _ _ _, refl)
 

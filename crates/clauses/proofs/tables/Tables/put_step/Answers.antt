@@ -3,19 +3,11 @@ use Rattle.design.specs.Limits.{max_bits}
 use Rattle.clauses.proofs.EmitFormula.{step_written, step_state}
 use Rattle.clauses.proofs.tables.Tables.put_step.Goals as goal
 
-pub encode_step_property-x-requires : goal.encode_step_property-x-requires
-encode_step_property-x-requires c =
-    c.args.self.ready.shaped
-
 pub put_all_ties-requires : goal.put_all_ties-requires
 put_all_ties-requires c = (
   omega (arith, c.requires.0.small.sizes.movers),
   omega (arith, c.requires.0.small.sizes.bits),
 )
-
-pub shape_of-buf : goal.shape_of-buf
-shape_of-buf c =
-    omega (arith, c.buf-1.given, c.buf-2-1.given, c.buf-3-1.given, c.buf-4-1.given, c.buf-5-1.given)
 
 pub returns : goal.returns
 returns c =

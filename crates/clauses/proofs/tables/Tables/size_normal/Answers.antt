@@ -7,9 +7,6 @@ use Rattle.clauses.proofs.tables.Tables.size_normal.Goals as goal
 pub size_place-event-requires : goal.size_place-event-requires
 size_place-event-requires c = normal_fields _ _ _ c.args.self.ready _ c.requires
 
-pub size_guard-guard-requires : goal.size_guard-guard-requires
-size_guard-guard-requires c = ((_, c.args.self.ready), c.requires)
-
 pub size_list-action-requires : goal.size_list-action-requires
 size_list-action-requires c = record {
   readable = action_reads _ _ _ c.args.self.ready _ c.requires _ _ (ap (λ (i : ℕ). c.args.p + 8 + i) c.wide.ensures.0) (ap₂ (λ (i j : ℕ).

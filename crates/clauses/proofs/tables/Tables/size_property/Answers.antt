@@ -3,9 +3,6 @@ use Rattle.design.specs.Limits.{max_depth}
 use Rattle.clauses.proofs.CellCounts.{expression_short, expression_reads, expression_few, expression_gates, property_gates_lem, property_without}
 use Rattle.clauses.proofs.tables.Tables.size_property.Goals as goal
 
-pub expression-text-requires : goal.expression-text-requires
-expression-text-requires c = c.args.self.ready.shaped.accepted
-
 pub size_bool-requires : goal.size_bool-requires
 size_bool-requires c =
     let text = c.expression-text.ensures in (
@@ -34,9 +31,6 @@ returns-then-property-eq0 c =
     let reads = expression_reads _ _ _ c.args.self.ready _ _ c.requires zero _ text in
     let counted = c.size_bool.ensures c.args.self.file.now max_depth false reads in
     expression_gates _ _ _ c.args.self.ready _ _ c.requires zero _ text _ counted _ c.ends_unmarked.ensures
-
-pub ends_unmarked-requires-then-property-eq1 : goal.ends_unmarked-requires-then-property-eq1
-ends_unmarked-requires-then-property-eq1 c = c.size_cells.ensures.0
 
 pub returns-then-property-eq1 : goal.returns-then-property-eq1
 returns-then-property-eq1 c =

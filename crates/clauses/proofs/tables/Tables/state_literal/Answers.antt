@@ -1,16 +1,6 @@
-use Rattle.std.proofs.Common.{refl, arith, rules}
+use Rattle.std.proofs.Common.{refl, rules}
 use Rattle.clauses.proofs.EmitParts.{property_out}
 use Rattle.clauses.proofs.tables.Tables.state_literal.Goals as goal
-
-pub variables-bits-requires : goal.variables-bits-requires
-variables-bits-requires c = c.args.self.ready.shaped.bits.few
-
-pub overflow_cast-pen : goal.overflow_cast-pen
-overflow_cast-pen c = omega (arith, c.args.self.ready.shaped.bits.few)
-
-pub overflow_add-pen : goal.overflow_add-pen
-overflow_add-pen c =
-    omega (arith, c.args.self.ready.shaped.bits.few, c.requires.1)
 
 pub returns : goal.returns
 returns c =
