@@ -1,4 +1,4 @@
-// What the functions over an accepted file are given, so that its table of events and its shape travel with it.
+// What the functions over an accepted file are given.
 ghost use Rattle.std.specs.Prelude.{ℕ, ◌<◌, slice_index};
 ghost use Rattle.clauses.specs.Ready.{Ready};
 
@@ -6,6 +6,7 @@ use design::limits::EVENT_PLACES;
 use design::shape::Shape;
 
 // An accepted file with its table of events and its shape: what is asked of it again and again while its gates are counted and written.
+// `bytes` is said, since of a slice in a struct nothing is known of its elements.
 #[derive(Clone, Copy)]
 pub struct Tables<'a> {
     pub file: &'a [u8],

@@ -56,9 +56,6 @@ bounds-self-p-2 c =
       sizes c.args.self.ready.shaped,
     )
 
-pub overflow_mul-o : goal.overflow_mul-o
-overflow_mul-o c = omega (arith, c.wide-2.ensures)
-
 pub overflow_add-o : goal.overflow_add-o
 overflow_add-o c =
     omega (
@@ -90,9 +87,6 @@ bounds-self-p-3 c =
       sizes c.args.self.ready.shaped,
     )
 
-pub overflow_cast-wide : goal.overflow_cast-wide
-overflow_cast-wide c = omega (arith, c.wide-3.ensures.1)
-
 pub store_word-requires : goal.store_word-requires
 store_word-requires c = (
   omega (
@@ -107,10 +101,6 @@ store_word-requires c = (
   ),
   omega arith,
 )
-
-pub shape_of-buf : goal.shape_of-buf
-shape_of-buf c =
-    omega (arith, c.buf-3-1.given, c.buf-2-1.given, c.buf-1.given)
 
 pub returns : goal.returns
 returns c =

@@ -8,10 +8,6 @@ returns-then-i-eq0 c = λ d ok es. first_part_lem _ _ _ _ _ _ d ok es c.if-i-eq0
 pub returns-then-k-i : goal.returns-then-k-i
 returns-then-k-i c = λ d ok es. last_part _ _ _ _ _ _ d ok es c.if-k-i.true c.put_last.ensures
 
-pub put_frame-requires : goal.put_frame-requires
-put_frame-requires c =
-    (c.requires.0, c.requires.1, omega (arith, c.if-i-eq0.false, c.if-k-i.false))
-
 pub returns : goal.returns
 returns c =
     λ d ok es. frame_part_lem _ _ _ _ _ _ d ok es c.if-i-eq0.false (omega (arith, c.if-k-i.false)) c.put_frame.ensures

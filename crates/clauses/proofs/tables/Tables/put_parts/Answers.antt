@@ -5,10 +5,6 @@ use Rattle.clauses.proofs.tables.Tables.put_parts.Goals as goal
 pub loop-i-init : goal.loop-i-init
 loop-i-init c = parts_start _ _ _ _ _ _
 
-pub put_part-at-requires : goal.put_part-at-requires
-put_part-at-requires c =
-    (c.requires.0, c.requires.1, omega (arith, c.loop-i-test.true))
-
 pub loop-i-preserved : goal.loop-i-preserved
 loop-i-preserved c =
     parts_on _ _ _ _ _ _ c.loop-i-test.true c.loop-i.invariant (omega arith) c.put_part-at.ensures

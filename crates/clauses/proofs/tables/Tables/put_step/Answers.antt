@@ -3,12 +3,6 @@ use Rattle.design.specs.Limits.{max_bits}
 use Rattle.clauses.proofs.EmitFormula.{step_written, step_state}
 use Rattle.clauses.proofs.tables.Tables.put_step.Goals as goal
 
-pub put_all_ties-requires : goal.put_all_ties-requires
-put_all_ties-requires c = (
-  omega (arith, c.requires.0.small.sizes.movers),
-  omega (arith, c.requires.0.small.sizes.bits),
-)
-
 pub returns : goal.returns
 returns c =
     λ piece d j ok es low at. step_written piece c.args.self.ready c.args.self.bytes c.requires.0 _ _ _ _ _ _ _ c.variables-bits.result _ refl refl refl (omega (

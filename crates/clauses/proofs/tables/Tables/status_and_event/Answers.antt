@@ -29,9 +29,6 @@ pub bounds-self-p-2 : goal.bounds-self-p-2
 bounds-self-p-2 c =
     omega (arith, c.requires.header, sizes c.args.self.ready.shaped)
 
-pub overflow_cast-wide : goal.overflow_cast-wide
-overflow_cast-wide c = omega (arith, c.wide.ensures.1)
-
 pub overflow_add-p-2 : goal.overflow_add-p-2
 overflow_add-p-2 c =
     omega (arith, c.requires.header, sizes c.args.self.ready.shaped)
