@@ -4,7 +4,7 @@ use borrow.Author.Tests.{lt-leb}
 use Rattle.step.specs.Property.{Property, property_of}
 use Rattle.design.specs.Tree.{Design, movers}
 use Rattle.design.specs.Check.{Checked, check}
-use Rattle.design.specs.Places.{EventsIndexed, CellsIndexed, Measured, externals_from}
+use Rattle.design.specs.Places.{CellsIndexed, Measured, externals_from}
 use Rattle.design.specs.WellFormed.{WellFormed}
 use Rattle.design.proofs.WellFormed.{well_formed}
 use Rattle.design.specs.Sections.{Parts}
@@ -22,7 +22,7 @@ use Rattle.clauses.specs.Limits.{last_variable}
 use Rattle.clauses.specs.Writing.{variable_limit, from_codes, Puts, Emits}
 use Rattle.clauses.specs.FlatState.{slots_of, layout_of}
 use Rattle.clauses.specs.FrameSizes.{frame_sizes, frame_length}
-use Rattle.clauses.specs.Ready.{FormulaReady, Admitted, result_from}
+use Rattle.clauses.specs.Ready.{Ready, FormulaReady, Admitted, result_from}
 use Rattle.clauses.specs.declared.instance.Instance.{Instance}
 use Rattle.clauses.specs.declared.frame.FrameSizes.{FrameSizes}
 use Rattle.clauses.proofs.Frames.{P-is, G-is}
@@ -58,12 +58,9 @@ frame_starts d p s wf e j = ap (λ (k : ℕ). 2 + j * k) (numbers d p s wf e).le
 pub start_is : (s : FrameSizes) (j l t : ℕ) → l ≡ frame_length s → t ≡ j * l → t ≡ j * frame_length s
 start_is s j l t e q = q ∙ ap (λ (k : ℕ). j * k) e
 
-module _ {file events : List ℕ} (piece : List ℕ) {z : Instance} (h : FormulaReady file events z) where
+module _ {file events : List ℕ} (piece : List ℕ) {shape : Shape} {z : Instance} (t : Ready file events shape) (bytes : (i : ℕ) → get_or file i 0 < 256) (h : FormulaReady file shape z) where
   abbrev s : FrameSizes
   s = z.sizes
-
-  abbrev shape : Shape
-  shape = z.shape
 
   -- the step out of the frame at v
   pub step_written : (p v flags after var all bits : ℕ) (codes firsts : List ℕ) {x0 x1 x2 x3 x4 x5 : List ℤ} {c0 c1 c2 c3 c4 c5 u u' : ℕ} {out : Literal}
@@ -77,7 +74,7 @@ module _ {file events : List ℕ} (piece : List ℕ) {z : Instance} (h : Formula
       → (d : Design) (j : ℕ) → check file ≡ Checked.accepted d → s ≡ frame_sizes d (property_of file piece d p) → j < z.bound → v ≡ frame d (property_of file piece d p) j → slots_of file shape codes ≡ state_at d v → Puts (words (step_clauses d (property_of file piece d p) j)) x0 x5 c0 c5
   unfolding w
   step_written p v flags after var all bits codes firsts {x0} {x1} {x2} {x3} {x4} {x5} {c0} {c1} {c2} {c3} {c4} {c5} {u} {u'} {out} ea eb ef et ev long any prs gates more ties d j ok es low at state =
-      let wf = well_formed file h.bytes d ok in
+      let wf = well_formed file bytes d ok in
       let ps = (whole file d ok).parts in
       let N = numbers d (property_of file piece d p) s wf es in
       let few = small_numbers d wf (property_of file piece d p) h.small es (suc j) low in
@@ -89,7 +86,7 @@ module _ {file events : List ℕ} (piece : List ℕ) {z : Instance} (h : Formula
       let fit' : after + bits ≤ variable_limit = omega (arith, last_past d (property_of file piece d p) (suc j)) in
       let R = result_from file shape in
       let sl = state ∙ ap (state_at d) at in
-      step_puts d (property_of file piece d p) j flags after var (layout_of shape) (slots_of file shape codes) (map R (take all firsts)) wf few sl (layout_is h.ready.shaped d ps) fl ft (omega arith)
+      step_puts d (property_of file piece d p) j flags after var (layout_of shape) (slots_of file shape codes) (map R (take all firsts)) wf few sl (layout_is t.shaped d ps) fl ft (omega arith)
       (subst (λ (k : ℕ). Puts (clause_words (variables_from flags k)) x0 x1 c0 c1) q (any fit))
       (subst (λ (k : ℕ). Puts (words (pairs (variables_from flags k))) x1 x2 c1 c2) q (prs fit))
       (subst (λ (k : ℕ). Emits var (movers! (layout_of shape) (slots_of file shape codes) (movers d) var) x2 x3 c2 (map R (take k firsts)) c3 u) (sym (ea ∙ h.movers)) (gates d ps))
@@ -97,14 +94,14 @@ module _ {file events : List ℕ} (piece : List ℕ) {z : Instance} (h : Formula
       (λ out room. subst (λ (k : ℕ). Puts (words (all_ties (variables_from flags k) (map R (take all firsts)) (variables_from after (S d)))) x4 x5 c4 c5) q
       (subst (λ (k : ℕ). Puts (words (all_ties (variables_from flags all) (map R (take all firsts)) (variables_from after k))) x4 x5 c4 c5) r
       (ties fit fit'
-      (λ k l. let z = firsts_within h.ready.shaped d ps wf v (slots_of file shape codes) var all firsts state q (omega arith) out room k l in omega arith)
-      R (λ x. result_bits h.ready.shaped d ps x ∙ ap (variables_from x) (sym r)))))
+      (λ k l. let z = firsts_within t.shaped d ps wf v (slots_of file shape codes) var all firsts state q (omega arith) out room k l in omega arith)
+      R (λ x. result_bits t.shaped d ps x ∙ ap (variables_from x) (sym r)))))
 
   -- the state's literals of frame j, and its property's gates
   module _ (p j v bits : ℕ) (codes : List ℕ) (ev : v ≡ 2 + j * frame_length s) (eb : bits ≡ s.bits) (few : j ≤ z.bound) (long : length codes ≡ max_bits)
       (vars : v + bits ≤ variable_limit → take bits (from_codes codes) ≡ variables_from v bits) (d : Design) (ok : check file ≡ Checked.accepted d) (es : s ≡ frame_sizes d (property_of file piece d p)) where
     wf : WellFormed d
-    wf = well_formed file h.bytes d ok
+    wf = well_formed file bytes d ok
 
     pub frame_at : v ≡ frame d (property_of file piece d p) j
     frame_at = ev ∙ frame_starts d (property_of file piece d p) s wf es j
@@ -115,8 +112,8 @@ module _ {file events : List ℕ} (piece : List ℕ) {z : Instance} (h : Formula
     pub state_at_lem : slots_of file shape codes ≡ state_at d v
     state_at_lem =
         let r : bits ≡ S d = eb ∙ (numbers d (property_of file piece d p) s wf es).bits in
-        let t = vars (omega (arith, last_past d (property_of file piece d p) j, low, frame_at)) in
-        state_is_lem h.ready.shaped d (whole file d ok).parts codes v long (subst (λ (k : ℕ). take k (from_codes codes) ≡ variables_from v k) r t)
+        let first = vars (omega (arith, last_past d (property_of file piece d p) j, low, frame_at)) in
+        state_is_lem t.shaped d (whole file d ok).parts codes v long (subst (λ (k : ℕ). take k (from_codes codes) ≡ variables_from v k) r first)
 
     pub property_written : {var : ℕ} {xs ys : List ℤ} {cur : ℕ} {out : Literal} {c u : ℕ} → var ≡ v + bits
         → ((d : Design) (w : Parts file d) → Emits var (property! d (property_of file piece d p) (slots_of file shape codes) var) xs ys cur out c u) → Puts (words (property_clauses d (property_of file piece d p) j)) xs ys cur c
@@ -126,7 +123,7 @@ module _ {file events : List ℕ} (piece : List ℕ) {z : Instance} (h : Formula
   pub step_state : (p v bits : ℕ) (codes : List ℕ) → bits ≡ s.bits → length codes ≡ max_bits → (v + bits ≤ variable_limit → take bits (from_codes codes) ≡ variables_from v bits)
       → (d : Design) (j : ℕ) → check file ≡ Checked.accepted d → s ≡ frame_sizes d (property_of file piece d p) → j < z.bound → v ≡ frame d (property_of file piece d p) j → slots_of file shape codes ≡ state_at d v
   step_state p v bits codes eb long vars d j ok es low at =
-      state_at_lem p j v bits codes (at ∙ sym (frame_starts d (property_of file piece d p) s (well_formed file h.bytes d ok) es j)) eb (omega arith) long vars d ok es
+      state_at_lem p j v bits codes (at ∙ sym (frame_starts d (property_of file piece d p) s (well_formed file bytes d ok) es j)) eb (omega arith) long vars d ok es
 
 -- a frame's part
 module _ (d : Design) (p : Property) (k j : ℕ) {xs ys : List ℤ} {cur c : ℕ} (a : Puts (words (property_clauses d p j)) xs ys cur c) where
@@ -202,17 +199,15 @@ module _ (file piece : List ℕ) (s : FrameSizes) (p k : ℕ) (xs₀ : List ℤ)
   parts_end {i = i} l g d ok es = puts_end (ap (λ (j : ℕ). words (parts_from d (property_of file piece d p) k j i)) (let q : k + 3 - i ≡ 0 = omega arith in q)) (g.left d ok es)
 
 -- what the writer of parts is given, from the tables that were made
-pub formula_ready : {file piece events cells : List ℕ} {shape : Shape} {p k : ℕ} {s : FrameSizes} (count : ℕ) → Admitted file piece p k s → ((i : ℕ) → get_or file i 0 < 256)
-    → EventsIndexed file events → CellsIndexed file cells count → Measured file count shape → FormulaReady file events (record { shape = shape; cells = cells; sizes = s; property = p; bound = k })
+pub formula_ready : {file piece cells : List ℕ} {shape : Shape} {p k : ℕ} {s : FrameSizes} (count : ℕ) → Admitted file piece p k s → ((i : ℕ) → get_or file i 0 < 256)
+    → CellsIndexed file cells count → Measured file count shape → FormulaReady file shape (record { cells = cells; sizes = s; property = p; bound = k })
 unfolding w
-formula_ready {file} {piece} {events} {cells} {shape} {p} {k} {s} count a bytes ei ci m =
+formula_ready {file} {piece} {cells} {shape} {p} {k} {s} count a bytes ci m =
     let h = a.accepted in
     let t = read file h in
     let N = numbers t.tree (property_of file piece t.tree p) s (well_formed file bytes t.tree t.is) (a.sizes t.tree t.is) in
     let raised = m.externals ∙ ap (λ (n : ℕ). length (externals_from file 0 n)) m.shaped.variables in
     record {
-      ready = record { shaped = record { accepted = h; counts = m.shaped; externals = m.externals; bits = m.bits }; events = ei };
-      bytes = bytes;
       normals = subst (CellsIndexed file cells) (sym m.normals) ci;
       small = a.small;
       movers = omega (arith, N.movers, mover_count file t.tree t.all.parts, ci.count, m.normals, raised);

@@ -127,20 +127,18 @@ pub record SmallFormula (s : FrameSizes) (k : ℕ) : Type 0 where
   pub bound : k ≤ max_bound
   pub numbers : variables_of s k ≤ last_variable
 
--- what the writer of parts is given beside: both tables, that bytes are bytes, and that the formula may be written
-pub record FormulaReady (file events : List ℕ) (z : Instance) : Type 0 where
-  pub ready : Ready file events z.shape
-  pub bytes : (i : ℕ) → slice_index file i < 256
-  pub normals : CellsIndexed file z.cells z.shape.normals
+-- what the writer of parts is given beside the file with its events and its shape: the table of its cells, and that the formula may be written
+pub record FormulaReady (file : List ℕ) (shape : Shape) (z : Instance) : Type 0 where
+  pub normals : CellsIndexed file z.cells shape.normals
   pub small : SmallFormula z.sizes z.bound
-  pub movers : z.sizes.movers ≡ z.shape.normals + z.shape.externals
+  pub movers : z.sizes.movers ≡ shape.normals + shape.externals
 
--- an instance of an accepted file: where its normal cells stand, its shape, and what is asked
-pub record Instanced (file : List ℕ) (s : FrameSizes) (p k : ℕ) (z : Instance) : Type 0 where
+-- an instance of an accepted file with its shape: where its normal cells stand, and what is asked
+pub record Instanced (file : List ℕ) (shape : Shape) (s : FrameSizes) (p k : ℕ) (z : Instance) : Type 0 where
   pub count : ℕ
   pub indexed : CellsIndexed file z.cells count
-  pub measured : Measured file count z.shape
-  pub asked : z ≡ record { shape = z.shape; cells = z.cells; sizes = s; property = p; bound = k }
+  pub measured : Measured file count shape
+  pub asked : z ≡ record { cells = z.cells; sizes = s; property = p; bound = k }
 
 -- what a call about a formula has tested (`admit`), and the sizes of a frame
 pub record Admitted (file piece : List ℕ) (p k : ℕ) (s : FrameSizes) : Type 0 where

@@ -11,10 +11,11 @@ ghost use Rattle.clauses.specs.Ready.{Instanced, Admitted, Writable, Written};
 use super::admission::admit;
 use super::frame::{FrameSizes, part_words, sizes, variables};
 use super::instance::Instance;
-use super::part::{put_part, put_parts};
+use super::tables::Tables;
 use design::index::{index_cells, index_events, shape};
 use design::limits::{EVENT_PLACES, MAX_MOVERS};
 use design::refusal::Refused;
+use design::shape::Shape;
 
 // How many words and variables a formula has.
 #[derive(Clone, Copy)]
@@ -23,20 +24,20 @@ pub struct Formula {
     pub variables: usize,
 }
 
-// What formula is written of an accepted file; `sizes` are those of a frame.
-fn instance(file: &[u8], sizes: FrameSizes, property: u64, bound: u64) -> Instance
+// The shape of an accepted file, and what formula is written of it; `sizes` are those of a frame.
+fn instance(file: &[u8], sizes: FrameSizes, property: u64, bound: u64) -> (Shape, Instance)
     requires { Accepted file.now }
-    ensures { Instanced file.now sizes property bound result }
+    ensures { Instanced file.now result.0 sizes property bound result.1 }
 {
     let mut cells = [0u16; MAX_MOVERS];
     let shape = shape(file, index_cells(file, &mut cells));
-    Instance {
-        shape,
+    let inst = Instance {
         cells,
         sizes,
         property,
         bound,
-    }
+    };
+    (shape, inst)
 }
 
 // ENCODE of a part that is there, once it is admitted; `s` has the sizes of a frame.
@@ -58,8 +59,13 @@ pub fn encode_admitted<'a>(
     }
     let mut events = [0u16; EVENT_PLACES];
     index_events(file, &mut events);
-    let inst = instance(file, s, property, bound);
-    put_part(file, piece, &events, inst, part, buffer, 0);
+    let (shape, inst) = instance(file, s, property, bound);
+    let tables = Tables {
+        file,
+        events: &events,
+        shape,
+    };
+    tables.put_part(piece, inst, part, buffer, 0);
     Ok(words)
 }
 
@@ -95,8 +101,13 @@ pub fn write_formula<'a>(
     let s = sizes(file, piece, property);
     let mut events = [0u16; EVENT_PLACES];
     index_events(file, &mut events);
-    let inst = instance(file, s, property, bound);
-    let words = put_parts(file, piece, &events, inst, clauses);
+    let (shape, inst) = instance(file, s, property, bound);
+    let tables = Tables {
+        file,
+        events: &events,
+        shape,
+    };
+    let words = tables.put_parts(piece, inst, clauses);
     Formula {
         words,
         variables: variables(s, bound) as usize,

@@ -11,10 +11,10 @@ ghost use Rattle.step.specs.Property.{property_of};
 ghost use Rattle.clauses.specs.Limits.{most_gates, frame_limit, most_variables, count_limit, size_limit};
 ghost use Rattle.clauses.specs.Cost.{pair_count, property_cost, step_property_cost};
 ghost use Rattle.clauses.specs.FrameSizes.{more as more_of, HasGates, FewGates, frame_sizes, SmallFrame, frame_length, step_clauses_of, step_words_of, part_words_of, variables_of, formula_sizes};
-ghost use Rattle.clauses.specs.Ready.{ShapedFile, Ready};
+ghost use Rattle.clauses.specs.Ready.{ShapedFile};
 
-use super::cells::size_cells;
 use super::cost::{GatesAt, more, no_gates, size_bool};
+use super::tables::Tables;
 use design::index::{constraint, has_constraint, index_cells, index_events, shape};
 use design::limits::{EVENT_PLACES, MAX_MOVERS};
 use design::shape::Shape;
@@ -58,25 +58,21 @@ pub fn ends_unmarked(property: GatesAt) -> GatesAt
     more(property, 1, 0)
 }
 
-// The gates of the property.
-pub fn size_property<'a>(
-    file: &'a [u8],
-    piece: &'a [u8],
-    events: &[u16; EVENT_PLACES],
-    shape: Shape,
-    property: u64,
-) -> GatesAt
-    requires { Ready file.now events.now shape × (piece_right file.now piece.now property ≡ true) }
-    ensures { FewGates most_gates result × ((d : Design) → Parts file.now d → HasGates result (property_cost d (property_of file.now piece.now d property))) }
-{
-    if property == 0 {
-        let text = expression(file, piece);
-        return ends_unmarked(size_bool(text, 0, text.len(), shape, false));
+impl<'a> Tables<'a> {
+    // The gates of the property.
+    pub fn size_property(self, piece: &'a [u8], property: u64) -> GatesAt
+        requires { piece_right self.file.now piece.now property ≡ true }
+        ensures { FewGates most_gates result × ((d : Design) → Parts self.entry.file.now d → HasGates result (property_cost d (property_of self.entry.file.now piece.now d property))) }
+    {
+        if property == 0 {
+            let text = expression(self.file, piece);
+            return ends_unmarked(size_bool(text, 0, text.len(), self.shape, false));
+        }
+        if property == 1 {
+            return ends_unmarked(self.size_cells(true));
+        }
+        no_gates(0)
     }
-    if property == 1 {
-        return ends_unmarked(size_cells(file, events, shape, true));
-    }
-    no_gates(0)
 }
 
 // The gates of property 2 among those of the step; other properties have none there. No piece is read.
@@ -103,8 +99,13 @@ pub fn sizes<'a>(file: &'a [u8], piece: &'a [u8], property: u64) -> FrameSizes
     index_events(file, &mut events);
     let mut cells = [0u16; MAX_MOVERS];
     let shape = shape(file, index_cells(file, &mut cells));
-    let p = size_property(file, piece, &events, shape, property);
-    let s = size_cells(file, &events, shape, false);
+    let tables = Tables {
+        file,
+        events: &events,
+        shape,
+    };
+    let p = tables.size_property(piece, property);
+    let s = tables.size_cells(false);
     let c = size_step_property(file, shape, property);
     let bits = shape.bits as u64;
     FrameSizes {

@@ -1,5 +1,4 @@
-// Movers: a normal cell or an external, from the state's literals to the muxes of its result. `events` is the table of events, `p` where a
-// cell stands.
+// Movers: a normal cell or an external, from the state's literals to the muxes of its result. `p` is where a cell stands.
 ghost use Rattle.std.specs.Prelude.{◌≡◌, ℕ, ◌*◌, ◌<◌, List, slice_index};
 ghost use Rattle.design.specs.Tree.{Design, cell, raise};
 ghost use Rattle.design.specs.Check.{event_in};
@@ -12,34 +11,11 @@ use super::circuit::{constant, equal};
 use super::expression::{encode_test, load_flag, load_status};
 use super::gate::{Cursor, Out, emit_and};
 use super::literal::{TRUE, negate};
+use super::tables::Tables;
 use design::bits::offset;
 use design::bytes::wide;
-use design::limits::{EVENT_PLACES, EVENT_ROW, MAX_BITS};
+use design::limits::{EVENT_ROW, MAX_BITS};
 use design::shape::Shape;
-
-// and(equal(status, constant), event) of the cell.
-pub fn status_and_event(
-    file: &[u8],
-    events: &[u16; EVENT_PLACES],
-    p: usize,
-    shape: Shape,
-    bits: &[u32; MAX_BITS],
-    buf: &mut [i32],
-    pen: Cursor,
-) -> Out<u32>
-    requires { Ready file.now events.now shape × CellFields file.now p }
-    ensures { (d : Design) (parts : Parts file.now d)
-        → CellGates file.now shape bits.now p (event_in parts.rows) pen buf.old buf.new result }
-{
-    let m = wide(file[p]);
-    let x = load_status(file, m, false, shape, bits);
-    let k = constant(wide(file[p + 1]) as u16);
-    let q = equal(x, k, buf, pen);
-    let e = wide(file[p + 2]);
-    let at = events[EVENT_ROW * m + e] as usize;
-    let v = encode_test(file, file, at + 1, shape, bits, buf, q.pen);
-    emit_and(buf, v.pen, q.value, v.value)
-}
 
 // The guard of a normal cell; an absent one is true.
 pub fn encode_guard(
@@ -58,50 +34,6 @@ pub fn encode_guard(
         return Out { value: TRUE, pen };
     }
     encode_test(file, file, p + 8, shape, bits, buf, pen)
-}
-
-// and(and(equal(status, constant), event), guard)
-pub fn encode_enable(
-    file: &[u8],
-    events: &[u16; EVENT_PLACES],
-    p: usize,
-    shape: Shape,
-    bits: &[u32; MAX_BITS],
-    buf: &mut [i32],
-    pen: Cursor,
-) -> Out<u32>
-    requires { Ready file.now events.now shape × NormalCell file.now p }
-    ensures { (x : NormalCell file.now p) → EnableGates file.now shape bits.now (cell x.cell) pen buf.old buf.new result }
-{
-    let a = status_and_event(file, events, p, shape, bits, buf, pen);
-    let g = encode_guard(file, p, shape, bits, buf, a.pen);
-    emit_and(buf, g.pen, a.value, g.value)
-}
-
-// A normal cell: enable, action and target, muxes. The value is the first variable of its result, as it is of an external.
-pub fn encode_cell(
-    file: &[u8],
-    events: &[u16; EVENT_PLACES],
-    p: usize,
-    shape: Shape,
-    bits: &[u32; MAX_BITS],
-    buf: &mut [i32],
-    pen: Cursor,
-) -> Out<u32>
-    requires { Ready file.now events.now shape × NormalCell file.now p }
-    ensures { (x : NormalCell file.now p) → Moves file.now shape bits.now (cell x.cell) pen buf.old buf.new result }
-{
-    let e = encode_enable(file, events, p, shape, bits, buf, pen);
-    let mut state = *bits;
-    let at = p + 8 + wide(file[p + 5]);
-    let a = encode_list(file, at, shape, &mut state, buf, e.pen);
-    let o = offset(file, shape.variables) + 4 * wide(file[p]);
-    store_word(&mut state, o, constant(wide(file[p + 4]) as u16), 4);
-    let x = muxes(shape, e.value, &mut state, bits, buf, a.pen);
-    Out {
-        value: a.pen.var,
-        pen: x,
-    }
 }
 
 // The external v: not(v), true, muxes.
@@ -124,5 +56,69 @@ pub fn encode_external(
     Out {
         value: pen.var,
         pen: x,
+    }
+}
+
+impl<'a> Tables<'a> {
+    // and(equal(status, constant), event) of the cell.
+    pub fn status_and_event(
+        self,
+        p: usize,
+        bits: &[u32; MAX_BITS],
+        buf: &mut [i32],
+        pen: Cursor,
+    ) -> Out<u32>
+        requires { CellFields self.file.now p }
+        ensures { (d : Design) (parts : Parts self.entry.file.now d)
+            → CellGates self.entry.file.now self.entry.shape bits.now p (event_in parts.rows) pen buf.old buf.new result }
+    {
+        let m = wide(self.file[p]);
+        let x = load_status(self.file, m, false, self.shape, bits);
+        let k = constant(wide(self.file[p + 1]) as u16);
+        let q = equal(x, k, buf, pen);
+        let e = wide(self.file[p + 2]);
+        let at = self.events[EVENT_ROW * m + e] as usize;
+        let v = encode_test(self.file, self.file, at + 1, self.shape, bits, buf, q.pen);
+        emit_and(buf, v.pen, q.value, v.value)
+    }
+
+    // and(and(equal(status, constant), event), guard)
+    pub fn encode_enable(
+        self,
+        p: usize,
+        bits: &[u32; MAX_BITS],
+        buf: &mut [i32],
+        pen: Cursor,
+    ) -> Out<u32>
+        requires { NormalCell self.file.now p }
+        ensures { (x : NormalCell self.entry.file.now p) → EnableGates self.entry.file.now self.entry.shape bits.now (cell x.cell) pen buf.old buf.new result }
+    {
+        let a = self.status_and_event(p, bits, buf, pen);
+        let g = encode_guard(self.file, p, self.shape, bits, buf, a.pen);
+        emit_and(buf, g.pen, a.value, g.value)
+    }
+
+    // A normal cell: enable, action and target, muxes. The value is the first variable of its result, as it is of an external.
+    pub fn encode_cell(
+        self,
+        p: usize,
+        bits: &[u32; MAX_BITS],
+        buf: &mut [i32],
+        pen: Cursor,
+    ) -> Out<u32>
+        requires { NormalCell self.file.now p }
+        ensures { (x : NormalCell self.entry.file.now p) → Moves self.entry.file.now self.entry.shape bits.now (cell x.cell) pen buf.old buf.new result }
+    {
+        let e = self.encode_enable(p, bits, buf, pen);
+        let mut state = *bits;
+        let at = p + 8 + wide(self.file[p + 5]);
+        let a = encode_list(self.file, at, self.shape, &mut state, buf, e.pen);
+        let o = offset(self.file, self.shape.variables) + 4 * wide(self.file[p]);
+        store_word(&mut state, o, constant(wide(self.file[p + 4]) as u16), 4);
+        let x = muxes(self.shape, e.value, &mut state, bits, buf, a.pen);
+        Out {
+            value: a.pen.var,
+            pen: x,
+        }
     }
 }

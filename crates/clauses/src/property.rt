@@ -11,97 +11,26 @@ ghost use Rattle.clauses.specs.Expression.{test! };
 ghost use Rattle.clauses.specs.Writing.{from_code};
 ghost use Rattle.clauses.specs.FlatState.{layout_of, read_slots};
 ghost use Rattle.clauses.specs.Encoders.{Gives};
-ghost use Rattle.clauses.specs.Ready.{ShapedFile, Ready, LinkGates, InvalidGates, PropertyGates, StepPropertyGates};
+ghost use Rattle.clauses.specs.Ready.{ShapedFile, LinkGates, InvalidGates, PropertyGates, StepPropertyGates};
 
 use super::clause::two_states;
 use super::expression::encode_test;
 use super::gate::{Cursor, Out, emit_and};
-use super::instance::Instance;
 use super::literal::{TRUE, negate};
-use super::mover::status_and_event;
+use super::tables::Tables;
 use design::bytes::{wide, word};
 use design::index::{CELLS, CELLS_AT, constraint, has_constraint, trailer_word};
 use design::kind::CellKind;
-use design::limits::{EVENT_PLACES, MAX_BITS, PAIR_BITS};
+use design::limits::{MAX_BITS, PAIR_BITS};
 use design::shape::Shape;
 use step::limits::CONSTRAINT;
 use step::piece::expression;
-
-// The chain's gate for the cell at p, after those so far; a normal cell adds nothing.
-pub fn encode_link(
-    file: &[u8],
-    events: &[u16; EVENT_PLACES],
-    p: usize,
-    shape: Shape,
-    bits: &[u32; MAX_BITS],
-    buf: &mut [i32],
-    chain: Out<u32>,
-) -> Out<u32>
-    requires { Ready file.now events.now shape × CellFields file.now p }
-    ensures { (d : Design) (parts : Parts file.now d)
-        → LinkGates file.now shape bits.now p (event_in parts.rows) chain buf.old buf.new result }
-{
-    if file[p + 3] == CellKind::Normal as u8 {
-        return chain;
-    }
-    let a = status_and_event(file, events, p, shape, bits, buf, chain.pen);
-    emit_and(buf, a.pen, chain.value, negate(a.value))
-}
-
-// An and-chain from true over not(and(equal, event)) of the invalid cells.
-pub fn encode_invalid(
-    file: &[u8],
-    events: &[u16; EVENT_PLACES],
-    shape: Shape,
-    bits: &[u32; MAX_BITS],
-    buf: &mut [i32],
-    pen: Cursor,
-) -> Out<u32>
-    requires { Ready file.now events.now shape }
-    ensures { (d : Design) (parts : Parts file.now d) → InvalidGates file.now shape bits.now d.invalid pen buf.old buf.new result }
-{
-    let mut p = trailer_word(file, CELLS_AT);
-    let mut chain = Out { value: TRUE, pen };
-    for _ in 0..trailer_word(file, CELLS) {
-        chain = encode_link(file, events, p, shape, bits, buf, chain);
-        p += 8 + wide(file[p + 5]) + word(file, p + 6);
-    }
-    chain
-}
 
 // A property's end: an and with the mark's negation.
 pub fn unmarked(x: Out<u32>, mark: u32, buf: &mut [i32]) -> Out<u32>
     ensures { Gives x.pen (and! (from_code x.value) (negated (from_code mark))) buf.old buf.new result }
 {
     emit_and(buf, x.pen, x.value, negate(mark))
-}
-
-// The property in the frame whose state has the literals `bits`.
-pub fn encode_property<'a>(
-    file: &'a [u8],
-    piece: &'a [u8],
-    events: &[u16; EVENT_PLACES],
-    inst: Instance,
-    bits: &[u32; MAX_BITS],
-    buf: &mut [i32],
-    pen: Cursor,
-) -> Out<u32>
-    requires { Ready file.now events.now inst.shape × (piece_right file.now piece.now inst.property ≡ true) }
-    ensures { (d : Design) (parts : Parts file.now d)
-        → PropertyGates file.now inst.shape bits.now d (property_of file.now piece.now d inst.property) pen buf.old buf.new result }
-{
-    let shape = inst.shape;
-    let property = inst.property;
-    if property == 0 {
-        let text = expression(file, piece);
-        let x = encode_test(text, file, 0, shape, bits, buf, pen);
-        return unmarked(x, bits[shape.bits - 1], buf);
-    }
-    if property == 1 {
-        let x = encode_invalid(file, events, shape, bits, buf, pen);
-        return unmarked(x, bits[shape.bits - 1], buf);
-    }
-    no_property(pen)
 }
 
 // True, and no gates: where a property has none.
@@ -150,4 +79,64 @@ pub fn encode_step_property(
     let both = two_states(v, after, shape.bits);
     let x = encode_constraint(file, shape, &both, buf, pen);
     unmarked(x, both[2 * shape.bits - 1], buf)
+}
+
+impl<'a> Tables<'a> {
+    // The chain's gate for the cell at p, after those so far; a normal cell adds nothing.
+    pub fn encode_link(
+        self,
+        p: usize,
+        bits: &[u32; MAX_BITS],
+        buf: &mut [i32],
+        chain: Out<u32>,
+    ) -> Out<u32>
+        requires { CellFields self.file.now p }
+        ensures { (d : Design) (parts : Parts self.entry.file.now d)
+            → LinkGates self.entry.file.now self.entry.shape bits.now p (event_in parts.rows) chain buf.old buf.new result }
+    {
+        if self.file[p + 3] == CellKind::Normal as u8 {
+            return chain;
+        }
+        let a = self.status_and_event(p, bits, buf, chain.pen);
+        emit_and(buf, a.pen, chain.value, negate(a.value))
+    }
+
+    // An and-chain from true over not(and(equal, event)) of the invalid cells.
+    pub fn encode_invalid(self, bits: &[u32; MAX_BITS], buf: &mut [i32], pen: Cursor) -> Out<u32>
+        ensures { (d : Design) (parts : Parts self.entry.file.now d) → InvalidGates self.entry.file.now self.entry.shape bits.now d.invalid pen buf.old buf.new result }
+    {
+        let mut p = trailer_word(self.file, CELLS_AT);
+        let mut chain = Out { value: TRUE, pen };
+        for _ in 0..trailer_word(self.file, CELLS) {
+            chain = self.encode_link(p, bits, buf, chain);
+            p += 8 + wide(self.file[p + 5]) + word(self.file, p + 6);
+        }
+        chain
+    }
+
+    // The property in the frame whose state has the literals `bits`.
+    pub fn encode_property(
+        self,
+        piece: &'a [u8],
+        property: u64,
+        bits: &[u32; MAX_BITS],
+        buf: &mut [i32],
+        pen: Cursor,
+    ) -> Out<u32>
+        requires { piece_right self.file.now piece.now property ≡ true }
+        ensures { (d : Design) (parts : Parts self.entry.file.now d)
+            → PropertyGates self.entry.file.now self.entry.shape bits.now d (property_of self.entry.file.now piece.now d property) pen buf.old buf.new result }
+    {
+        let shape = self.shape;
+        if property == 0 {
+            let text = expression(self.file, piece);
+            let x = encode_test(text, self.file, 0, shape, bits, buf, pen);
+            return unmarked(x, bits[shape.bits - 1], buf);
+        }
+        if property == 1 {
+            let x = self.encode_invalid(bits, buf, pen);
+            return unmarked(x, bits[shape.bits - 1], buf);
+        }
+        no_property(pen)
+    }
 }

@@ -9,19 +9,19 @@ sizes-s-requires c = (writable_accepted c.requires, c.requires.right)
 pub index_events-requires : goal.index_events-requires
 index_events-requires c = writable_accepted c.requires
 
-pub instance-inst-requires : goal.instance-inst-requires
-instance-inst-requires c = writable_accepted c.requires
+pub instance-requires : goal.instance-requires
+instance-requires c = writable_accepted c.requires
 
 pub put_parts-words-requires : goal.put_parts-words-requires
 put_parts-words-requires c =
-    let z = c.instance-inst.ensures in
+    let z = c.instance.ensures in
     rw z.asked (
       formula_ready _ (writable_admitted c.requires (λ i. omega (arith, c.shared_slice_known-1.given i)) c.sizes-s.ensures.0 c.sizes-s.ensures.1)
-          (λ i. omega (arith, c.shared_slice_known-1.given i)) c.index_events.ensures z.indexed z.measured,
+          (λ i. omega (arith, c.shared_slice_known-1.given i)) z.indexed z.measured,
       c.requires.right,
     )
 
 pub returns : goal.returns
 returns c =
     formula_written _ _ _ _ _ _ _ _ _ c.requires (λ i. omega (arith, c.shared_slice_known-1.given i)) c.sizes-s.ensures.1
-    (rw c.instance-inst.ensures.asked at c.put_parts-words.ensures) c.variables.ensures.0
+    (rw c.instance.ensures.asked at c.put_parts-words.ensures) c.variables.ensures.0

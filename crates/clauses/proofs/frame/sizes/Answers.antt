@@ -4,42 +4,6 @@ use Rattle.design.proofs.Places.{read}
 use Rattle.clauses.proofs.FrameCounts.{frame_made, frame_small, last_one, last_none}
 use Rattle.clauses.proofs.frame.sizes.Goals as goal
 
-pub size_property-p-requires : goal.size_property-p-requires
-size_property-p-requires c = (
-  record {
-    shaped = record {
-      accepted = c.requires.0;
-      counts = c.shape-shape.ensures.shaped;
-      externals = c.shape-shape.ensures.externals;
-      bits = c.shape-shape.ensures.bits;
-    };
-    events = c.index_events.ensures;
-  },
-  c.requires.1,
-)
-
-pub size_cells-s-requires : goal.size_cells-s-requires
-size_cells-s-requires c =
-    record {
-      shaped = record {
-        accepted = c.requires.0;
-        counts = c.shape-shape.ensures.shaped;
-        externals = c.shape-shape.ensures.externals;
-        bits
-            = c.shape-shape.ensures.bits;
-      };
-      events = c.index_events.ensures;
-    }
-
-pub size_step_property-c-requires : goal.size_step_property-c-requires
-size_step_property-c-requires c =
-    record {
-      accepted = c.requires.0;
-      counts = c.shape-shape.ensures.shaped;
-      externals = c.shape-shape.ensures.externals;
-      bits = c.shape-shape.ensures.bits;
-    }
-
 pub overflow_add-result : goal.overflow_add-result
 overflow_add-result c =
     omega (

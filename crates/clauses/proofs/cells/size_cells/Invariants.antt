@@ -1,6 +1,0 @@
-use Rattle.std.proofs.Common.{◌-◌}
-use Rattle.clauses.proofs.CellCounts.{Walking}
-use Rattle.clauses.proofs.cells.size_cells.Given as goal
-
-abbrev pub invariant-loop : goal.invariant-loop
-invariant-loop l = Walking l.file l.shape.bits l.invalid (l.end - l.counter) l.sum

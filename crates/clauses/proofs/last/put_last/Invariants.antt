@@ -1,6 +1,0 @@
-use Rattle.std.proofs.Common.{◌≡◌, length}
-use Rattle.clauses.proofs.EmitParts.{Closing}
-use Rattle.clauses.proofs.last.put_last.Given as goal
-
-abbrev pub invariant-loop : goal.invariant-loop
-invariant-loop l = Closing l.file l.piece l.inst.property l.stride l.frames l.initial.buf l.cur l.buf l.at l.x l.counter × (length l.buf ≡ length l.initial.buf)
