@@ -12,7 +12,7 @@ invariant_of-source c = record {
     (normal_fields _ _ _ c.requires.0.1.indexed _ c.requires.1).past,
     sizes _ _ _ c.requires.0.1.indexed,
   );
-  kinds = kinds _ _ _ c.requires.0.1.indexed
+  kinds = kinds _ _ _ c.requires.0.1.indexed;
 }
 
 pub run_list-requires : goal.run_list-requires
