@@ -45,24 +45,24 @@ module _ (w : ℤ) {xs ys zs : List ℕ} {at m r : ℕ} where
   word_goes e g h = word_as false e g h
 
 -- words, one at a time
-pub record WordsLeft (ws : List ℤ) (i : ℕ) (xs ys : List ℕ) (p : ℕ) : Type 0 where
-  pub rest : Rest (words_text (drop i ws)) (words_text ws) xs ys 0 p
-  pub near : p ≤ 22 * i
+pub record WordsLeft (ws : List ℤ) (i : ℕ) (xs ys : List ℕ) (at p : ℕ) : Type 0 where
+  pub rest : Rest (words_text (drop i ws)) (words_text ws) xs ys at p
+  pub near : p ≤ at + 22 * i
 
-pub words_start : (ws : List ℤ) (xs : List ℕ) → WordsLeft ws 0 xs xs 0
-words_start ws xs = record { rest = rest_start (words_text ws) xs 0; near = omega arith }
+pub words_start : (ws : List ℤ) (xs : List ℕ) (at : ℕ) → WordsLeft ws 0 xs xs at at
+words_start ws xs at = record { rest = rest_start (words_text ws) xs at; near = omega arith }
 
 words_split : (ws : List ℤ) (i : ℕ) → i < length ws → words_text (drop i ws) ≡ word_text (get_or ws i (pos 0)) ++ words_text (drop (suc i) ws)
 unfolding words_text
 words_split ws i h = rw (drop-cons ws i (pos 0) h)
 
-pub words_next : (ws : List ℤ) (i : ℕ) {xs ys zs : List ℕ} {p r : ℕ} → i < length ws → WordsLeft ws i xs ys p → TextWritten (word_text (get_or ws i (pos 0))) ys zs p r → r ≤ p + 22 → WordsLeft ws (i + 1) xs zs r
+pub words_next : (ws : List ℤ) (i : ℕ) {xs ys zs : List ℕ} {at p r : ℕ} → i < length ws → WordsLeft ws i xs ys at p → TextWritten (word_text (get_or ws i (pos 0))) ys zs p r → r ≤ p + 22 → WordsLeft ws (i + 1) xs zs at r
 words_next ws i h l w n = rw (add-one i) (record {
   rest = rest_next (word_text (get_or ws i (pos 0))) (words_text (drop (suc i) ws)) (words_split ws i h) l.rest w;
   near = omega (arith, l.near);
 })
 
-pub words_end : (ws : List ℤ) (i : ℕ) {xs ys : List ℕ} {p : ℕ} → length ws ≤ i → WordsLeft ws i xs ys p → TextWritten (words_text ws) xs ys 0 p
+pub words_end : (ws : List ℤ) (i : ℕ) {xs ys : List ℕ} {at p : ℕ} → length ws ≤ i → WordsLeft ws i xs ys at p → TextWritten (words_text ws) xs ys at p
 unfolding words_text
 words_end ws i h l = rest_end (ap words_text (drop_of_length-le ws h)) l.rest
 

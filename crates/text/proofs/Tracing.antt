@@ -126,10 +126,10 @@ module _ (file : List ℕ) (p n : ℕ) (cs : List ℕ) (pair₀ : State) (xs : L
   printing_end l d e = rest_end (ap (next_lines d (property_of file no_piece d p) i now) (drop_of_length-le cs l)) (g.rest d e)
 
 -- the first state's line and the others
-pub states_written : (d : Design) (p : Property) (cs : List ℕ) (s : State) {xs ys zs : List ℕ} {m r : ℕ} → s ≡ start d
-    → TextWritten (state_line d p 0 0 false none s) xs ys 0 m → TextWritten (next_lines d p 0 s cs) ys zs m r → TextWritten (state_lines d p cs) xs zs 0 r
+pub states_written : (d : Design) (p : Property) (cs : List ℕ) (s : State) {xs ys zs : List ℕ} {at m r : ℕ} → s ≡ start d
+    → TextWritten (state_line d p 0 0 false none s) xs ys at m → TextWritten (next_lines d p 0 s cs) ys zs m r → TextWritten (state_lines d p cs) xs zs at r
 unfolding state_lines
-states_written d p cs s {xs} {ys} {zs} {m} {r} e g h = subst (λ (t : State). TextWritten (state_line d p 0 0 false none t ++ next_lines d p 0 t cs) xs zs 0 r) e (written_then g h)
+states_written d p cs s {xs} {ys} {zs} {at} {m} {r} e g h = subst (λ (t : State). TextWritten (state_line d p 0 0 false none t ++ next_lines d p 0 t cs) xs zs at r) e (written_then g h)
 
 -- a refusal, by the number and the place that are printed
 pub refusal_as : (n number k place : ℕ) {xs ys : List ℕ} {at r : ℕ} → n ≡ number → k ≡ place → TextWritten (refusal_text (refused_at n k)) xs ys at r → TextWritten (refusal_text (refused_at number place)) xs ys at r

@@ -1,7 +1,7 @@
 // The text of the programs, written into a lent buffer.
 #![tactic(auto)]
 
-mod number; // numbers
+pub mod writer; // a lent buffer: bytes and numbers
 mod line; // a line of the Replay program
 pub mod input; // the input of the programs
 pub mod trace; // what the Replay program prints

@@ -1,10 +1,10 @@
 // Lines of the Replay program.
-ghost use Rattle.std.specs.Prelude.{map, ◌+◌, ◌*◌, ◌≤◌, pos, length, take, drop};
+ghost use Rattle.std.specs.Prelude.{◌≡◌, map, ◌+◌, ◌*◌, ◌≤◌, pos, length, take, drop};
 ghost use Rattle.step.specs.Pattern.{signed};
 ghost use Rattle.text.specs.Text.{TextWritten};
 ghost use Rattle.text.specs.Line.{spaced, mover_text, flag_text, head, slots_text};
 
-use super::number::{put_byte, put_decimal, put_pattern};
+use super::writer::Writer;
 
 // The step by which a line's state was reached: its number, the mover that it chose, and whether that was idle.
 #[derive(Clone, Copy)]
@@ -14,77 +14,87 @@ pub struct Taken {
     pub idle: bool,
 }
 
-// The values of the first n slots, each with a space before it.
-pub fn put_values(out: &mut [u8], at: usize, n: usize, slots: &[u16]) -> usize
-    requires { (n ≤ length slots.now) × (at + 22 * n ≤ length out.old) }
-    ensures { TextWritten (spaced (take n (map signed slots.now))) out.old out.new at result × (result ≤ at + 22 * n) }
-{
-    let mut p = at;
-    for i in 0..n {
-        let m = put_byte(out, p, b' ');
-        p = put_pattern(out, m, slots[i]);
+impl<'a> Writer<'a> {
+    // The values of the first n slots, each with a space before it.
+    pub(crate) fn values(&mut self, n: usize, slots: &[u16])
+        requires { (n ≤ length slots.now) × (self.old.at + 22 * n ≤ length self.old.out.now) }
+        ensures same { self.new.out.ghost_name ≡ self.old.out.ghost_name }
+        ensures text { TextWritten (spaced (take n (map signed slots.now))) self.old.out.now self.new.out.now self.old.at self.new.at }
+        ensures near { self.new.at ≤ self.old.at + 22 * n }
+    {
+        for i in 0..n {
+            self.byte(b' ');
+            self.pattern(slots[i]);
+        }
     }
-    p
-}
 
-// The statuses, which are the k slots from n on, likewise.
-pub fn put_statuses(out: &mut [u8], at: usize, n: usize, k: usize, slots: &[u16]) -> usize
-    requires { (n + k ≤ length slots.now) × (at + 22 * k ≤ length out.old) }
-    ensures { TextWritten (spaced (map pos (take k (drop n slots.now)))) out.old out.new at result × (result ≤ at + 22 * k) }
-{
-    let mut p = at;
-    for i in 0..k {
-        let m = put_byte(out, p, b' ');
-        p = put_decimal(out, m, slots[n + i] as usize);
+    // The statuses, which are the k slots from n on, likewise.
+    pub(crate) fn statuses(&mut self, n: usize, k: usize, slots: &[u16])
+        requires { (n + k ≤ length slots.now) × (self.old.at + 22 * k ≤ length self.old.out.now) }
+        ensures same { self.new.out.ghost_name ≡ self.old.out.ghost_name }
+        ensures text { TextWritten (spaced (map pos (take k (drop n slots.now)))) self.old.out.now self.new.out.now self.old.at self.new.at }
+        ensures near { self.new.at ≤ self.old.at + 22 * k }
+    {
+        for i in 0..k {
+            self.byte(b' ');
+            self.decimal(slots[n + i] as usize);
+        }
     }
-    p
-}
 
-// The mover of a step, or - at step 0.
-fn put_mover(out: &mut [u8], at: usize, step: usize, mover: usize) -> usize
-    requires { at + 20 ≤ length out.old }
-    ensures { TextWritten (mover_text step mover) out.old out.new at result × (result ≤ at + 20) }
-{
-    if step == 0 {
-        put_byte(out, at, b'-')
-    } else {
-        put_decimal(out, at, mover)
+    // The mover of a step, or - at step 0.
+    fn mover(&mut self, step: usize, mover: usize)
+        requires { self.old.at + 20 ≤ length self.old.out.now }
+        ensures same { self.new.out.ghost_name ≡ self.old.out.ghost_name }
+        ensures text { TextWritten (mover_text step mover) self.old.out.now self.new.out.now self.old.at self.new.at }
+        ensures near { self.new.at ≤ self.old.at + 20 }
+    {
+        if step == 0 {
+            self.byte(b'-');
+        } else {
+            self.decimal(mover);
+        }
     }
-}
 
-// A space and 1 or 0.
-fn put_flag(out: &mut [u8], at: usize, flag: bool) -> usize
-    requires { at + 2 ≤ length out.old }
-    ensures { TextWritten (flag_text flag) out.old out.new at result × (result ≤ at + 2) }
-{
-    let m = put_byte(out, at, b' ');
-    if flag {
-        put_byte(out, m, b'1')
-    } else {
-        put_byte(out, m, b'0')
+    // A space and 1 or 0.
+    fn flag(&mut self, flag: bool)
+        requires { self.old.at + 2 ≤ length self.old.out.now }
+        ensures same { self.new.out.ghost_name ≡ self.old.out.ghost_name }
+        ensures text { TextWritten (flag_text flag) self.old.out.now self.new.out.now self.old.at self.new.at }
+        ensures near { self.new.at ≤ self.old.at + 2 }
+    {
+        self.byte(b' ');
+        if flag {
+            self.byte(b'1');
+        } else {
+            self.byte(b'0');
+        }
     }
-}
 
-// Step, mover, idle, property holds: the first fields of a line.
-pub fn put_head(out: &mut [u8], at: usize, taken: Taken, holds: bool) -> usize
-    requires { at + 45 ≤ length out.old }
-    ensures { TextWritten (head taken.step taken.mover taken.idle holds) out.old out.new at result × (result ≤ at + 45) }
-{
-    let a = put_decimal(out, at, taken.step);
-    let b = put_byte(out, a, b' ');
-    let c = put_mover(out, b, taken.step, taken.mover);
-    let d = put_flag(out, c, taken.idle);
-    put_flag(out, d, holds)
-}
+    // Step, mover, idle, property holds: the first fields of a line.
+    pub(crate) fn head(&mut self, taken: Taken, holds: bool)
+        requires { self.old.at + 45 ≤ length self.old.out.now }
+        ensures same { self.new.out.ghost_name ≡ self.old.out.ghost_name }
+        ensures text { TextWritten (head taken.step taken.mover taken.idle holds) self.old.out.now self.new.out.now self.old.at self.new.at }
+        ensures near { self.new.at ≤ self.old.at + 45 }
+    {
+        self.decimal(taken.step);
+        self.byte(b' ');
+        self.mover(taken.step, taken.mover);
+        self.flag(taken.idle);
+        self.flag(holds);
+    }
 
-// The other fields: the first n slots are variables, the k slots after them statuses.
-pub fn put_tail(out: &mut [u8], at: usize, n: usize, k: usize, slots: &[u16]) -> usize
-    requires { (at + 22 * n + 22 * k + 3 ≤ length out.old) × (n + k ≤ length slots.now) }
-    ensures { TextWritten (slots_text n k slots.now) out.old out.new at result × (result ≤ at + 22 * n + 22 * k + 3) }
-{
-    let b = put_values(out, at, n, slots);
-    let c = put_byte(out, b, b' ');
-    let d = put_byte(out, c, b'|');
-    let e = put_statuses(out, d, n, k, slots);
-    put_byte(out, e, b'\n')
+    // The other fields: the first n slots are variables, the k slots after them statuses.
+    pub(crate) fn tail(&mut self, n: usize, k: usize, slots: &[u16])
+        requires { (self.old.at + 22 * n + 22 * k + 3 ≤ length self.old.out.now) × (n + k ≤ length slots.now) }
+        ensures same { self.new.out.ghost_name ≡ self.old.out.ghost_name }
+        ensures text { TextWritten (slots_text n k slots.now) self.old.out.now self.new.out.now self.old.at self.new.at }
+        ensures near { self.new.at ≤ self.old.at + 22 * n + 22 * k + 3 }
+    {
+        self.values(n, slots);
+        self.byte(b' ');
+        self.byte(b'|');
+        self.statuses(n, k, slots);
+        self.byte(b'\n');
+    }
 }

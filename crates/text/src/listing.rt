@@ -6,8 +6,7 @@ ghost use Rattle.text.specs.Text.{TextWritten};
 ghost use Rattle.text.specs.Listing.{max_words, max_part_text, word_text, words_text, words_to_print, printed, is_refused, clauses_text, part_text, part_of_input, joined};
 
 use super::input::design_end;
-use super::number::{put_byte, put_signed};
-use super::trace::put_refusal;
+use super::writer::Writer;
 use clauses::encode::encode;
 use design::refusal::Refused;
 use search::words::ends;
@@ -19,48 +18,61 @@ pub const MAX_WORDS: usize = 16384;
 // Its text: 22 bytes for a word.
 pub const MAX_TEXT: usize = 22 * MAX_WORDS;
 
-// A word, and a newline after a 0, a space after any other.
-fn put_word(out: &mut [u8], at: usize, words: &[i32], i: usize) -> usize
-    requires { (at + 22 ≤ length out.old) × (i < length words.now) }
-    ensures { TextWritten (word_text (get_or words.now i (pos 0))) out.old out.new at result × (result ≤ at + 22) }
-{
-    let m = put_signed(out, at, words, i);
-    if ends(words, i) {
-        return put_byte(out, m, b'\n');
-    }
-    put_byte(out, m, b' ')
-}
-
-// The text of words, at the front.
-fn put_words(words: &[i32], out: &mut [u8]) -> usize
-    requires { 22 * length words.now ≤ length out.old }
-    ensures { TextWritten (words_text words.now) out.old out.new 0 result × (result ≤ 22 * length words.now) }
-{
-    let mut p = 0;
-    for i in 0..words.len() {
-        p = put_word(out, p, words, i);
-    }
-    p
-}
-
-// The text of a part, or ENCODE's refusal.
-fn put_part(
-    file: &[u8],
-    property: u8,
-    bound: u8,
-    part: u64,
-    words: &mut [i32],
-    out: &mut [u8],
-) -> usize
-    requires { (length words.old ≡ max_words) × (max_part_text ≤ length out.old) }
-    ensures { TextWritten (part_text file.now property bound part) out.old out.new 0 result × (result ≤ max_part_text) }
-{
-    match encode(file, b"", property as u64, bound as u64, part, words) {
-        Err(refusal) => put_refusal(out, refusal),
-        Ok(count) => {
-            let n = count as usize;
-            put_words(&words[..n], out)
+impl<'a> Writer<'a> {
+    // A word, and a newline after a 0, a space after any other.
+    fn word(&mut self, words: &[i32], i: usize)
+        requires { (self.old.at + 22 ≤ length self.old.out.now) × (i < length words.now) }
+        ensures same { self.new.out.ghost_name ≡ self.old.out.ghost_name }
+        ensures text { TextWritten (word_text (get_or words.now i (pos 0))) self.old.out.now self.new.out.now self.old.at self.new.at }
+        ensures near { self.new.at ≤ self.old.at + 22 }
+    {
+        self.signed(words, i);
+        if ends(words, i) {
+            return self.byte(b'\n');
         }
+        self.byte(b' ');
+    }
+
+    // The text of words.
+    fn words(&mut self, words: &[i32])
+        requires { self.old.at + 22 * length words.now ≤ length self.old.out.now }
+        ensures same { self.new.out.ghost_name ≡ self.old.out.ghost_name }
+        ensures text { TextWritten (words_text words.now) self.old.out.now self.new.out.now self.old.at self.new.at }
+        ensures near { self.new.at ≤ self.old.at + 22 * length words.now }
+    {
+        for i in 0..words.len() {
+            self.word(words, i);
+        }
+    }
+
+    // The text of a part, or ENCODE's refusal.
+    fn part(&mut self, file: &[u8], property: u8, bound: u8, part: u64, words: &mut [i32])
+        requires { (length words.old ≡ max_words) × (self.old.at + max_part_text ≤ length self.old.out.now) }
+        ensures same { self.new.out.ghost_name ≡ self.old.out.ghost_name }
+        ensures text { TextWritten (part_text file.now property bound part) self.old.out.now self.new.out.now self.old.at self.new.at }
+        ensures near { self.new.at ≤ self.old.at + max_part_text }
+    {
+        match encode(file, b"", property as u64, bound as u64, part, words) {
+            Err(refusal) => self.refusal(refusal),
+            Ok(count) => {
+                let n = count as usize;
+                self.words(&words[..n]);
+            }
+        }
+    }
+
+    // The text of one of the parts that are printed for the input.
+    fn part_of(&mut self, input: &[u8], part: u64, words: &mut [i32])
+        requires { (length words.old ≡ max_words) × (self.old.at + max_part_text ≤ length self.old.out.now) }
+        ensures same { self.new.out.ghost_name ≡ self.old.out.ghost_name }
+        ensures text { TextWritten (part_of_input input.now part) self.old.out.now self.new.out.now self.old.at self.new.at }
+        ensures near { self.new.at ≤ self.old.at + max_part_text }
+    {
+        if input.len() < 2 {
+            return self.refusal(Refused::Length(0));
+        }
+        let end = design_end(input, 2);
+        self.part(&input[2..end], input[0], input[1], part, words);
     }
 }
 
@@ -102,9 +114,7 @@ pub fn put_part_of(input: &[u8], part: u64, words: &mut [i32], out: &mut [u8]) -
     requires { (length words.old ≡ max_words) × (max_part_text ≤ length out.old) }
     ensures { TextWritten (part_of_input input.now part) out.old out.new 0 result × (result ≤ max_part_text) }
 {
-    if input.len() < 2 {
-        return put_refusal(out, Refused::Length(0));
-    }
-    let end = design_end(input, 2);
-    put_part(&input[2..end], input[0], input[1], part, words, out)
+    let mut text = Writer { out, at: 0 };
+    text.part_of(input, part, words);
+    text.at
 }
