@@ -2,7 +2,7 @@
 #![tactic(auto)]
 
 pub mod writer; // a lent buffer: bytes and numbers
-mod line; // a line of the Replay program
+pub mod line; // a line of the Replay program
 pub mod input; // the input of the programs
 pub mod trace; // what the Replay program prints
 pub mod listing; // what the clause printer prints

@@ -53,7 +53,7 @@ impl<'a> Writer<'a> {
         ensures near { self.new.at ≤ self.old.at + max_part_text }
     {
         match encode(file, b"", property as u64, bound as u64, part, words) {
-            Err(refusal) => self.refusal(refusal),
+            Err(refusal) => self.refused(refusal),
             Ok(count) => {
                 let n = count as usize;
                 self.words(&words[..n]);
@@ -69,7 +69,7 @@ impl<'a> Writer<'a> {
         ensures near { self.new.at ≤ self.old.at + max_part_text }
     {
         if input.len() < 2 {
-            return self.refusal(Refused::Length(0));
+            return self.refused(Refused::Length(0));
         }
         let end = design_end(input, 2);
         self.part(&input[2..end], input[0], input[1], part, words);

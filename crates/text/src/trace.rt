@@ -9,7 +9,7 @@ ghost use Rattle.step.specs.Property.{property_of};
 ghost use Rattle.design.specs.Refusal.{refusal_of};
 ghost use Rattle.step.specs.Ready.{before_in};
 ghost use Rattle.text.specs.Text.{TextWritten, max_line, max_text};
-ghost use Rattle.text.specs.Trace.{state_line, next_lines, state_lines, result_text, refusal_text, trace, replay_text};
+ghost use Rattle.text.specs.Trace.{state_line, next_lines, state_lines, result_text, refused_at, refusal_text, trace, replay_text};
 ghost use Rattle.text.specs.Ready.{ReplayInput};
 
 use super::input::design_end;
@@ -26,17 +26,27 @@ use step::replaying::load_start;
 
 impl<'a> Writer<'a> {
     // `refused N at P`.
-    pub fn refusal(&mut self, refusal: Refused)
+    pub fn refusal(&mut self, number: u8, place: usize)
+        requires { self.old.at + max_line ≤ length self.old.out.now }
+        ensures same { self.new.out.ghost_name ≡ self.old.out.ghost_name }
+        ensures text { TextWritten (refusal_text (refused_at number place)) self.old.out.now self.new.out.now self.old.at self.new.at }
+        ensures near { self.new.at ≤ self.old.at + max_line }
+    {
+        self.bytes(b"refused ");
+        self.decimal(wide(number));
+        self.bytes(b" at ");
+        self.decimal(place);
+        self.byte(b'\n');
+    }
+
+    // The same of a call's refusal.
+    pub(crate) fn refused(&mut self, refusal: Refused)
         requires { self.old.at + max_line ≤ length self.old.out.now }
         ensures same { self.new.out.ghost_name ≡ self.old.out.ghost_name }
         ensures text { TextWritten (refusal_text (refusal_of refusal)) self.old.out.now self.new.out.now self.old.at self.new.at }
         ensures near { self.new.at ≤ self.old.at + max_line }
     {
-        self.bytes(b"refused ");
-        self.decimal(wide(refusal.number()));
-        self.bytes(b" at ");
-        self.decimal(refusal.place());
-        self.byte(b'\n');
+        self.refusal(refusal.number(), refusal.place());
     }
 
     // `broken at N`, or `holds`.
@@ -156,7 +166,7 @@ impl<'a> Writer<'a> {
         ensures near { self.new.at ≤ self.old.at + max_text }
     {
         match step::replay(file, b"", property as u64, choices) {
-            Err(refusal) => self.refusal(refusal),
+            Err(refusal) => self.refused(refusal),
             Ok(told) => {
                 self.run(file, property as u64, choices);
                 self.result(told.broken);
@@ -172,11 +182,11 @@ impl<'a> Writer<'a> {
         ensures near { self.new.at ≤ self.old.at + max_text }
     {
         if input.len() < 2 {
-            return self.refusal(Refused::Length(0));
+            return self.refused(Refused::Length(0));
         }
         let start = 2 + wide(input[1]);
         if input.len() < start {
-            return self.refusal(Refused::Length(0));
+            return self.refused(Refused::Length(0));
         }
         let end = design_end(input, start);
         self.trace(&input[start..end], input[0], &input[2..start]);

@@ -17,7 +17,7 @@ words-requires c =
 
 pub returns-in-Err-clause-text : goal.returns-in-Err-clause-text
 returns-in-Err-clause-text c =
-    part_refused _ _ _ _ _ _ _ c.in-Err.ensures c.requires.0 _ _ refl c.refusal.ensures.text
+    part_refused _ _ _ _ _ _ _ c.in-Err.ensures c.requires.0 _ _ refl c.refused.ensures.text
 
 pub returns-in-Ok-clause-text : goal.returns-in-Ok-clause-text
 returns-in-Ok-clause-text c =

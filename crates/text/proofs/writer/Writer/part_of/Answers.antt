@@ -4,7 +4,7 @@ use Rattle.text.proofs.writer.Writer.part_of.Goals as goal
 
 pub returns-then-input-lt2-clause-text : goal.returns-then-input-lt2-clause-text
 returns-then-input-lt2-clause-text c =
-    input_refused c.args.input.now c.args.part c.if-input-lt2.true c.refusal.ensures.text
+    input_refused c.args.input.now c.args.part c.if-input-lt2.true c.refused.ensures.text
 
 pub returns-clause-text : goal.returns-clause-text
 returns-clause-text c =

@@ -1,5 +1,5 @@
 use native.Mathlib.Omega.{arith}
-use mathlib.Core.Path.{◌∙◌}
+use mathlib.Core.Path.{refl}
 use Rattle.text.specs.Trace.{refusal_text}
 use Rattle.text.proofs.Putting.{written_length, written_then}
 use Rattle.text.proofs.Tracing.{refusal_as}
@@ -24,7 +24,7 @@ byte-requires c =
 pub returns-clause-text : goal.returns-clause-text
 unfolding refusal_text
 returns-clause-text c =
-    refusal_as _ _ _ _ (c.wide.ensures.0 ∙ c.number.ensures) c.place.ensures (written_then c.bytes.ensures.text (written_then c.decimal.ensures.text
+    refusal_as _ _ _ _ c.wide.ensures.0 refl (written_then c.bytes.ensures.text (written_then c.decimal.ensures.text
     (written_then c.bytes-2.ensures.text (written_then c.decimal-2.ensures.text c.byte.ensures.text))))
 
 pub returns-clause-near : goal.returns-clause-near

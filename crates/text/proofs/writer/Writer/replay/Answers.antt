@@ -5,11 +5,11 @@ use Rattle.text.proofs.writer.Writer.replay.Goals as goal
 
 pub returns-then-input-lt2-clause-text : goal.returns-then-input-lt2-clause-text
 returns-then-input-lt2-clause-text c =
-    text_short _ (omega arith) c.refusal.ensures.text
+    text_short _ (omega arith) c.refused.ensures.text
 
 pub returns-then-input-start-clause-text : goal.returns-then-input-start-clause-text
 returns-then-input-start-clause-text c =
-    text_short _ (omega (arith, c.if-input-start.true, c.wide-start.ensures.0)) c.refusal-then-input-start.ensures.text
+    text_short _ (omega (arith, c.if-input-start.true, c.wide-start.ensures.0)) c.refused-then-input-start.ensures.text
 
 pub returns-clause-text : goal.returns-clause-text
 returns-clause-text c =

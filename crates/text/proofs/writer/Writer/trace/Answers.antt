@@ -4,7 +4,7 @@ use Rattle.text.proofs.writer.Writer.trace.Goals as goal
 
 pub returns-in-Err-clause-text : goal.returns-in-Err-clause-text
 returns-in-Err-clause-text c =
-    trace_refused _ _ _ _ _ c.in-Err.ensures c.refusal.ensures.text
+    trace_refused _ _ _ _ _ c.in-Err.ensures c.refused.ensures.text
 
 pub run-requires : goal.run-requires
 run-requires c =
