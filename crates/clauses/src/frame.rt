@@ -87,7 +87,7 @@ pub fn size_step_property(file: &[u8], shape: Shape, property: u64) -> GatesAt
         return ends_unmarked(no_gates(0));
     }
     let stands = constraint(file);
-    ends_unmarked(size_bool(file, stands.start, stands.end, shape, false))
+    ends_unmarked(size_bool(file, stands.at, stands.end, shape, false))
 }
 
 // The sizes of a frame of an accepted file, with a right piece.

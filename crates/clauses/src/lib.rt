@@ -7,7 +7,7 @@ mod circuit; // sum, difference, product, less, equal, over 16 bits
 mod mark; // the mark behind a sum, difference or product
 mod expression; // the circuits of expressions
 mod action; // statements and lists
-mod tables; // an accepted file with its table of events and its shape
+pub mod tables; // an accepted file with its table of events and its shape
 mod mover; // a cell, an external
 mod movers; // the gates of a step
 mod property; // the gates of a property

@@ -56,7 +56,7 @@ pub fn encode_constraint(
         return no_property(pen);
     }
     let stands = constraint(file);
-    encode_test(file, file, stands.start, shape, both, buf, pen)
+    encode_test(file, file, stands.at, shape, both, buf, pen)
 }
 
 // Property 2 in the step out of the state whose first variable is v; the next state's is `after`. Other properties have no gates there. No piece is read.

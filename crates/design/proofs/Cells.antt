@@ -176,7 +176,7 @@ module _ (file : List ℕ) (end : ℕ) (names : Names) (M : ℕ) (f : ℕ → �
     pub cells_refused : (i p : ℕ) → Answer.refused i p ≡ walked (cell_at file end names M f before at) → Answer.refused i p ≡ counted moves k (cells_from file end names M f n before at)
     cells_refused i p e = sym (ap (counted moves k) (cells_step n before at h ∙ ap (λ (x : Item Entry). after x onward) (stopped (cell_at file end names M f before at) i p e)))
 
-    cells_more : (m b : ℕ) → answer m ≡ walked (cell_at file end names M f before at) → (c_kind file at ≡ 0 → b ≡ k + 1) → ((c_kind file at ≡ 0 → ⊥) → b ≡ k) → counted moves b (cells_from file end names M f (n - 1) at m) ≡ counted moves k (cells_from file end names M f n before at)
+    pub cells_more : (m b : ℕ) → answer m ≡ walked (cell_at file end names M f before at) → (c_kind file at ≡ 0 → b ≡ k + 1) → ((c_kind file at ≡ 0 → ⊥) → b ≡ k) → counted moves b (cells_from file end names M f (n - 1) at m) ≡ counted moves k (cells_from file end names M f n before at)
     cells_more m b e more same =
         let (x, q) = passed (cell_at file end names M f before at) m e in
         let (a, s, c, d) = cell_item before at m x q in

@@ -62,7 +62,7 @@ module _ {A : Type 0} (one : Walk A) where
   walked_cons x (item xs p) = refl
   walked_cons x (refused i p) = refl
 
-  items_more : (n at m : ℕ) → 0 < n → answer m ≡ walked (one at) → walked (items one (n - 1) m) ≡ walked (items one n at)
+  pub items_more : (n at m : ℕ) → 0 < n → answer m ≡ walked (one at) → walked (items one (n - 1) m) ≡ walked (items one n at)
   items_more n at m h e =
       let (x, q) = passed (one at) m e in
       walked_cons x (items one (n - 1) m) ∙ sym (ap walked (items_step n at h ∙ ap (λ (y : Item A). after y (λ x m. after (items one (n - 1) m) (λ xs p. item (x ∷ xs) p))) q))
@@ -201,7 +201,7 @@ module _ (file : List ℕ) (end : ℕ) where
       (sym (ap (λ (y : Variable). y.kind) (item_same _ _ _ _ k)), leb-true (get_or file at 0) 2 (and_inv a b u).0)
 
   module _ (k n at m : ℕ) (h : 0 < n) (e : answer m ≡ walked (variable_at file end at)) where
-    variable_more : (b : ℕ) → (get_or file at 0 ≡ 2 → b ≡ k + 1) → ((get_or file at 0 ≡ 2 → ⊥) → b ≡ k) → counted raises b (items (variable_at file end) (n - 1) m) ≡ counted raises k (items (variable_at file end) n at)
+    pub variable_more : (b : ℕ) → (get_or file at 0 ≡ 2 → b ≡ k + 1) → ((get_or file at 0 ≡ 2 → ⊥) → b ≡ k) → counted raises b (items (variable_at file end) (n - 1) m) ≡ counted raises k (items (variable_at file end) n at)
     variable_more b more same =
         let (x, q) = passed (variable_at file end at) m e in
         let (s, l) = variable_kind at m x q in
@@ -248,7 +248,7 @@ module _ (file : List ℕ) (end : ℕ) (names : Names) (M : ℕ) where
     rows_refused i p e =
         sym (ap walked (rows_step m n at h ∙ ap (λ (x : Item (List BoolExpr)). after x (λ row j. after (events_from file end names M (m + 1) (n - 1) j) (λ rows p. item (row ∷ rows) p))) (ap (λ (k : ℕ). items EV k at) (sym c) ∙ stopped (items EV count at) i p e)))
 
-    rows_more : (j : ℕ) → answer j ≡ walked (items EV count at) → walked (events_from file end names M (m + 1) (n - 1) j) ≡ walked (events_from file end names M m n at)
+    pub rows_more : (j : ℕ) → answer j ≡ walked (items EV count at) → walked (events_from file end names M (m + 1) (n - 1) j) ≡ walked (events_from file end names M m n at)
     rows_more j e =
         let (row, q) = passed (items EV count at) j e in
         walked_cons {A = List BoolExpr} (λ k. refused 0 0) row (events_from file end names M (m + 1) (n - 1) j)

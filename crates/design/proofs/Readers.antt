@@ -271,7 +271,7 @@ module _ (text : List ℕ) (names : Names) (end : ℕ) where
   unfolding list_of
   list_past k at h = simp (le-ltb at end h)
 
-  list_in : (k at : ℕ) → at < end → found (Q k (get_or text at 0) (at + 1)) ≡ found (L k at)
+  pub list_in : (k at : ℕ) → at < end → found (Q k (get_or text at 0) (at + 1)) ≡ found (L k at)
   unfolding list_of
   list_in k at h = simp (lt-ltb at end h)
 
@@ -291,7 +291,7 @@ module _ (text : List ℕ) (names : Names) (end : ℕ) where
   pub seq_bad : (k n at : ℕ) → 0 < n → None ≡ found (S k at) → None ≡ found (Q k n at)
   seq_bad k n at h e = found_bad (S k at) (λ s m. bind (Q k (n - 1) m) (λ r p. got (then s r) p)) e ∙ ap found (sym (seq_step k n at h))
 
-  seq_more : (k n at m : ℕ) → 0 < n → Some m ≡ found (S k at) → found (Q k (n - 1) m) ≡ found (Q k n at)
+  pub seq_more : (k n at m : ℕ) → 0 < n → Some m ≡ found (S k at) → found (Q k (n - 1) m) ≡ found (Q k n at)
   seq_more k n at m h e = found_then (S k at) (λ s j. bind (Q k (n - 1) j) (λ r p. got (then s r) p)) m (found (Q k (n - 1) m)) e (λ s. found_last (Q k (n - 1) m) (then s)) ∙ ap found (sym (seq_step k n at h))
 
   pub seq_next : (k n i at m : ℕ) → i < n → Some m ≡ found (S k at) → found (Q k (n - (i + 1)) m) ≡ found (Q k (n - i) at)

@@ -11,7 +11,6 @@ use super::bytes::{wide, word};
 use super::kind::{CellKind, Kind};
 use super::limits::{EVENT_PLACES, EVENT_ROW, MAX_MOVERS, TRAILER, is_constrained, tail_bytes};
 use super::shape::{Counts, Offsets, Shape};
-use std::ops::Range;
 
 // Where the trailer holds its numbers.
 pub const VERSION: usize = 0;
@@ -94,20 +93,33 @@ pub fn trailer_offsets(file: &[u8]) -> Offsets
     }
 }
 
+// Where an expression stands: from `at` up to `end`. Kept: it is copied, and std's Range is not Copy.
+#[derive(Clone, Copy)]
+pub struct Extent {
+    pub at: usize,
+    pub end: usize,
+}
+
 // Where the invariant stands: up to the constraint.
-pub fn invariant(file: &[u8]) -> Range<usize>
+pub fn invariant(file: &[u8]) -> Extent
     requires { tail_bytes (version file.now) ≤ length file.now }
-    ensures { (result.start ≡ invariant_offset file.now) × (result.end ≡ constraint_offset file.now) }
+    ensures { (result.at ≡ invariant_offset file.now) × (result.end ≡ constraint_offset file.now) }
 {
-    trailer_word(file, INVARIANT_AT)..constraint_offset(file)
+    Extent {
+        at: trailer_word(file, INVARIANT_AT),
+        end: constraint_offset(file),
+    }
 }
 
 // Where the constraint stands: up to the end of the items.
-pub fn constraint(file: &[u8]) -> Range<usize>
+pub fn constraint(file: &[u8]) -> Extent
     requires { tail_bytes (version file.now) ≤ length file.now }
-    ensures { (result.start ≡ constraint_offset file.now) × (result.end ≡ items_end file.now) }
+    ensures { (result.at ≡ constraint_offset file.now) × (result.end ≡ items_end file.now) }
 {
-    constraint_offset(file)..items_end(file)
+    Extent {
+        at: constraint_offset(file),
+        end: items_end(file),
+    }
 }
 
 // The events of matrix m, of which the first stands at `at`; answers the position past them.

@@ -5,14 +5,13 @@
 
 use std::io;
 use std::io::Write;
-use std::ops::Range;
 use text::input::{MAX_READ, read_full};
-use text::listing::{MAX_TEXT, MAX_WORDS, parts_of, put_part_of};
+use text::listing::{MAX_TEXT, MAX_WORDS, PartRange, parts_of, put_part_of};
 
 // Two bytes, and a design: what is past them is not read.
 const MAX_INPUT: usize = 2 + MAX_READ;
 
-fn find_parts(input: &[u8]) -> Range<u64> {
+fn find_parts(input: &[u8]) -> PartRange {
     let mut words = [0i32; MAX_WORDS];
     parts_of(input, &mut words)
 }
@@ -28,7 +27,8 @@ fn main(rt: HostRuntime) -> io::Result<()> {
     let mut input = [0u8; MAX_INPUT];
     let n = read_full(&mut rt.stdin(), &mut input)?;
     let design = &input[..n];
-    for part in find_parts(design) {
+    let parts = find_parts(design);
+    for part in parts.first..parts.end {
         print_part(&rt, design, part)?;
     }
     Ok(())

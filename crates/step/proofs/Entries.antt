@@ -152,12 +152,12 @@ module _ (file : List ℕ) (mats nm : ℕ) (q : mats ≡ matrices_offset file) (
   statuses_end i l g d c = looking_end (statuses_right d.statuses ss) i (omega (arith, statuses_length d.statuses ss)) (g.of d c)
 
 -- the first wrong one of two lists
-first_of_two : (xs ys : List Bool) → first_wrong xs < length xs → first_wrong (xs ++ ys) ≡ first_wrong xs
+pub first_of_two : (xs ys : List Bool) → first_wrong xs < length xs → first_wrong (xs ++ ys) ≡ first_wrong xs
 first_of_two [] ys l = absurd (omega arith)
 first_of_two (false ∷ xs) ys l = refl
 first_of_two (true ∷ xs) ys l = ap suc (first_of_two xs ys (omega arith))
 
-second_of_two : (xs ys : List Bool) → length xs ≤ first_wrong xs → first_wrong (xs ++ ys) ≡ length xs + first_wrong ys
+pub second_of_two : (xs ys : List Bool) → length xs ≤ first_wrong xs → first_wrong (xs ++ ys) ≡ length xs + first_wrong ys
 second_of_two [] ys l = omega arith
 second_of_two (false ∷ xs) ys l = absurd (omega arith)
 second_of_two (true ∷ xs) ys l = omega (arith, second_of_two xs ys (omega arith))

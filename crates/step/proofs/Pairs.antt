@@ -1,7 +1,8 @@
 -- A pair of states, one behind the other: the later one is kept as the earlier, and a property is judged on both. Assumes nothing.
-use Rattle.std.proofs.Common.{◌≡◌, ℕ, zero, suc, ◌+◌, ◌-◌, ◌<◌, ◌≤◌, Bool, true, false, ltb, List, ◌++◌, length, take, drop, sym, refl, ap, ◌∙◌, ap₂, append-nil, arith, length-append, length-drop, take-append-drop, drop_of_length-le, length-take-le, take_all, take_at, drop_at, ltb-false}
+use Rattle.std.proofs.Common.{◌≡◌, ℕ, zero, suc, ◌+◌, ◌-◌, ◌<◌, ◌≤◌, Bool, true, false, ltb, List, ◌++◌, length, get_or, take, drop, set, sym, refl, ap, ◌∙◌, ap₂, append-nil, add-one, arith, length-append, length-drop, length-set, take-append-drop, drop_of_length-le, length-take-le, get_or-drop, take_all, take_at, drop-set-lt, drop_at, ltb-false}
 use mathlib.Core.Bool.{false≢true}
 use mathlib.Core.Option.{Option, some}
+use lib.Seq.{paste, paste-zero, paste-suc}
 use borrow.Rule.Slice.PartMut.{put_mid}
 use Rattle.design.specs.Tree.{Design}
 use Rattle.design.specs.State.{State, Layout, layout, layout_of}
@@ -45,9 +46,48 @@ module _ (n : ℕ) (pair : State) (long : length pair ≡ n + n) where
     pub put_second : (s : State) → drop n (put_mid m (length pair - m) pair s) ≡ s
     put_second s = ap (drop n) (put_is s) ∙ drop_at (take n pair) s n first_long
 
+-- the first i slots are copied, from the second state to the first
+pub record Keeping (n : ℕ) (pair₀ : State) (i : ℕ) (pair : State) : Type 0 where
+  pub inside : i ≤ n
+  pub size : length pair ≡ length pair₀
+  pub same : pair ≡ paste pair₀ 0 (drop n pair₀) i
+  pub second : drop n pair ≡ drop n pair₀
+
+pub keeping_start : (n : ℕ) (pair : State) → Keeping n pair 0 pair
+keeping_start n pair = record { inside = omega arith; size = refl; same = paste-zero pair 0 (drop n pair); second = refl }
+
+module _ (n : ℕ) (pair₀ : State) (long : length pair₀ ≡ n + n) (i : ℕ) (pair : State) (g : Keeping n pair₀ i pair) where
+  pub keeping_on : i < n → (x : ℕ) → x ≡ get_or pair (n + i) 0 → Keeping n pair₀ (i + 1) (set pair i x)
+  keeping_on l x e =
+      let q : x ≡ get_or (drop n pair₀) i 0 = e ∙ sym (get_or-drop n pair i 0) ∙ ap (λ (y : State). get_or y i 0) g.second in
+      let k = second_long n pair₀ long in
+      record {
+        inside = omega arith;
+        size = length-set pair i x ∙ g.size;
+        same = ap₂ (λ (y : State) (v : ℕ). set y i v) g.same q
+            ∙ ap (λ (j : ℕ). set (paste pair₀ 0 (drop n pair₀) i) j (get_or (drop n pair₀) i 0)) (let z : i ≡ 0 + i = omega arith in z)
+            ∙ paste-suc pair₀ 0 (drop n pair₀) i 0 (omega arith) (omega arith)
+            ∙ ap (paste pair₀ 0 (drop n pair₀)) (sym (add-one i));
+        second = drop-set-lt n pair i x l ∙ g.second;
+      }
+
+  pub keeping_end : n ≤ i → pair ≡ drop n pair₀ ++ drop n pair₀
+  keeping_end l =
+      let z = g.inside in
+      let k = second_long n pair₀ long in
+      g.same ∙ ap (paste pair₀ 0 (drop n pair₀)) (let q : i ≡ n = omega arith in q)
+      ∙ ap₂ (λ (x y : State). x ++ y) (take_all n (drop n pair₀) (omega arith)) (ap (λ (j : ℕ). drop j pair₀) (let q : 0 + n ≡ n = omega arith in q))
+
 pub front_long : (n : ℕ) (pair : State) → length pair ≡ n + n → (keep : Bool) → length (kept_in keep n pair) ≡ n
 front_long n pair long true = second_long n pair long
 front_long n pair long false = first_long n pair long
+
+-- the pair as it is, where its second state is not kept
+pub unkept : (n : ℕ) (pair : State) (keep : Bool) → keep ≡ false → pair ≡ kept_in keep n pair ++ drop n pair
+unkept n pair keep e = sym (take-append-drop n pair) ∙ ap (λ (b : Bool). kept_in b n pair ++ drop n pair) (sym e)
+
+pub keeping_kept : (n : ℕ) (pair : State) (keep : Bool) (x : State) → keep ≡ true → x ≡ drop n pair ++ drop n pair → x ≡ kept_in keep n pair ++ drop n pair
+keeping_kept n pair keep x e k = k ∙ ap (λ (b : Bool). kept_in b n pair ++ drop n pair) (sym e)
 
 -- a step in the second state of a pair, of which it may have been kept; m is the number of slots as the code has it
 module _ (n : ℕ) (pair : State) (long : length pair ≡ n + n) (keep : Bool) (m : ℕ) (e : m ≡ n) (kept : State) (k : kept ≡ kept_in keep m pair ++ drop m pair) where

@@ -31,7 +31,11 @@ const MARK_PLACE: usize = MAX_VARIABLES + MAX_MATRICES;
 pub fn patterns(values: [i16; MAX_VARIABLES]) -> [u16; MAX_VARIABLES]
     ensures { result ≡ map wrap values }
 {
-    values.map(pattern)
+    let mut out = [0u16; MAX_VARIABLES];
+    for i in 0..MAX_VARIABLES {
+        out[i] = pattern(values[i]);
+    }
+    out
 }
 
 pub fn value_right(file: &[u8], variables: usize, i: usize, p: u16) -> bool

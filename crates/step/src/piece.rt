@@ -40,7 +40,8 @@ pub fn expression<'a>(file: &'a [u8], piece: &'a [u8]) -> &'a [u8]
     ensures { result.now ≡ expression_text file.now piece.now }
 {
     if piece.is_empty() {
-        &file[invariant(file)]
+        let stands = invariant(file);
+        &file[stands.at..stands.end]
     } else {
         piece
     }

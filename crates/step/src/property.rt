@@ -56,7 +56,7 @@ pub fn constraint_true(file: &[u8], shape: Shape, pair: &[u16]) -> bool
         return true;
     }
     let stands = constraint(file);
-    let x = eval_bool(file, stands.start, stands.end, shape, pair);
+    let x = eval_bool(file, stands.at, stands.end, shape, pair);
     x.value
 }
 

@@ -10,13 +10,19 @@ use super::writer::Writer;
 use clauses::encode::encode;
 use design::refusal::Refused;
 use search::words::ends;
-use std::ops::Range;
 
 // The longest part that is printed, in words.
 pub const MAX_WORDS: usize = 16384;
 
 // Its text: 22 bytes for a word.
 pub const MAX_TEXT: usize = 22 * MAX_WORDS;
+
+// The parts that are printed: from first up to end. Kept: it is copied, and std's Range is not Copy.
+#[derive(Clone, Copy)]
+pub struct PartRange {
+    pub first: u64,
+    pub end: u64,
+}
 
 impl<'a> Writer<'a> {
     // A word, and a newline after a 0, a space after any other.
@@ -84,26 +90,29 @@ fn refuses(file: &[u8], property: u8, bound: u8, part: u64, words: &mut [i32]) -
 }
 
 // All parts, or the first that is refused.
-fn printed_parts(file: &[u8], property: u8, bound: u8, words: &mut [i32]) -> Range<u64>
+fn printed_parts(file: &[u8], property: u8, bound: u8, words: &mut [i32]) -> PartRange
     requires { length words.old ≡ max_words }
-    ensures { printed (words_to_print file.now property bound) ≡ joined (part_text file.now property bound) (result.end - result.start) result.start }
+    ensures { printed (words_to_print file.now property bound) ≡ joined (part_text file.now property bound) (result.end - result.first) result.first }
 {
     let end = (bound as u64) + 3;
     for i in 0..end {
         if refuses(file, property, bound, i, words) {
-            return i..i + 1;
+            return PartRange {
+                first: i,
+                end: i + 1,
+            };
         }
     }
-    0..end
+    PartRange { first: 0, end }
 }
 
 // The parts whose texts, one after the other, are all that is printed for the input.
-pub fn parts_of(input: &[u8], words: &mut [i32]) -> Range<u64>
+pub fn parts_of(input: &[u8], words: &mut [i32]) -> PartRange
     requires { length words.old ≡ max_words }
-    ensures { clauses_text input.now ≡ joined (part_of_input input.now) (result.end - result.start) result.start }
+    ensures { clauses_text input.now ≡ joined (part_of_input input.now) (result.end - result.first) result.first }
 {
     if input.len() < 2 {
-        return 0..1;
+        return PartRange { first: 0, end: 1 };
     }
     let end = design_end(input, 2);
     printed_parts(&input[2..end], input[0], input[1], words)

@@ -1,5 +1,5 @@
 -- The code's answers, of what the definitions say.
-use Rattle.std.specs.Prelude.{List, [], ◌∷◌, ◌++◌, map, ℕ, length, drop}
+use Rattle.std.specs.Prelude.{List, [], ◌∷◌, ◌++◌, map, ℕ, Result, Ok, Err, length, drop}
 use Rattle.design.specs.Answer.{Answer, refused, answer}
 use Rattle.verdict.specs.Verdict.{Verdict, VIOLATED, CLEAN, SPENT-AT, Told, Memory, After}
 use Rattle.verdict.specs.Owners.{Buffers, AfterOwners}
@@ -42,6 +42,11 @@ abbrev pub verdict_step : declared.Verdict → ℕ
 verdict_step (Violated i) = i
 verdict_step Clean = 0
 verdict_step (Spent i) = i
+
+-- a refusal by number and place, or the verdict and the tries
+abbrev pub numbered : Result declared-told.Told (ℕ × ℕ) → Answer declared-told.Told
+numbered (Ok t) = answer t
+numbered (Err (number, place)) = refused number place
 
 -- An owner's answer in five words: its refusal's number, 0 for none, and place; the verdict, its step or bound, and the tries. "every other field of a refused answer is 0 or false".
 abbrev pub owner_words : Answer declared-told.Told → List ℕ

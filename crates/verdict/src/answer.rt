@@ -1,6 +1,6 @@
 // What VERDICT answers, and the same in numbers.
 ghost use Rattle.std.specs.Prelude.{◌≡◌};
-ghost use Rattle.verdict.specs.Answers.{verdict_number, verdict_step, owner_words};
+ghost use Rattle.verdict.specs.Answers.{verdict_number, verdict_step, numbered, owner_words};
 ghost use Rattle.design.specs.Answer.{told};
 
 use design::refusal::Refused;
@@ -45,12 +45,12 @@ pub fn verdict_step(v: Verdict) -> u64
 // How many words an owner's answer has.
 pub const ANSWER_WORDS: usize = 5;
 
-// An owner's answer: a refusal's number and place, then the verdict, its step or bound, and the tries.
-pub fn owner_words(reply: Result<Told, Refused>) -> [u64; ANSWER_WORDS]
-    ensures { result ≡ owner_words (told reply) }
+// An owner's answer: a refusal's number and place, any two numbers, then the verdict, its step or bound, and the tries.
+pub fn owner_words(reply: Result<Told, (u8, usize)>) -> [u64; ANSWER_WORDS]
+    ensures { result ≡ owner_words (numbered reply) }
 {
     match reply {
-        Err(r) => [r.number() as u64, r.place() as u64, 0, 0, 0],
+        Err((number, place)) => [number as u64, place as u64, 0, 0, 0],
         Ok(t) => [
             0,
             0,
@@ -58,5 +58,15 @@ pub fn owner_words(reply: Result<Told, Refused>) -> [u64; ANSWER_WORDS]
             verdict_step(t.verdict),
             t.tries,
         ],
+    }
+}
+
+// The same of what VERDICT answered.
+pub fn told_words(reply: Result<Told, Refused>) -> [u64; ANSWER_WORDS]
+    ensures { result ≡ owner_words (told reply) }
+{
+    match reply {
+        Err(r) => owner_words(Err((r.number(), r.place()))),
+        Ok(t) => owner_words(Ok(t)),
     }
 }

@@ -8,7 +8,7 @@ ghost use Rattle.verdict.specs.Answers.{exit, owners_exit};
 ghost use Rattle.verdict.specs.Owners.{owners_of, each_owner, owners as all_owners};
 ghost use Rattle.verdict.specs.OwnersLoop.{last_bound, Clearable, Cleared, one_owner, Counted};
 
-use super::answer::{ANSWER_WORDS, Told, Verdict, owner_words};
+use super::answer::{ANSWER_WORDS, Told, Verdict, told_words};
 use super::verdict;
 use clauses::size::size;
 use design::refusal::Refused;
@@ -97,7 +97,7 @@ fn each_owner<'a>(
         let r = one_owner(
             file, pieces[i], bound, budgets[i], clauses, values, trail, choices[i],
         );
-        answers[i] = owner_words(r);
+        answers[i] = told_words(r);
     }
 }
 

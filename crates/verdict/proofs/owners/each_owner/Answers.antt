@@ -19,7 +19,7 @@ bounds-answers-i c =
 
 pub loop-i-preserved : goal.loop-i-preserved
 loop-i-preserved c =
-    so_far_next _ _ _ _ _ _ _ _ c.loop-i.invariant c.loop-i-test.true _ refl _ refl c.one_owner-r.ensures _ refl refl _ c.owner_words.ensures (record {
+    so_far_next _ _ _ _ _ _ _ _ c.loop-i.invariant c.loop-i-test.true _ refl _ refl c.one_owner-r.ensures _ refl refl _ c.told_words.ensures (record {
       clauses = c.one_owner-r.auto.clauses;
       values = c.one_owner-r.auto.values;
       trail = c.one_owner-r.auto.trail;
