@@ -16,7 +16,7 @@ inside_fits (pos n) e = grind arith
 inside_fits (negsuc n) e = grind arith
 
 -- so a checked operation answers nothing where the exact value is outside
-passes_is : (o : Option ℤ) (z : ℤ) → SomeIff o (SFits w16 z) z → (r : Bool) → is_some o ≡ not r → r ≡ outside z
+passes_is : (o : Option ℤ) (z : ℤ) → SomeIff o (SFits w16 z) z → (r : Bool) → r ≡ not (is_some o) → r ≡ outside z
 passes_is (Some x) z h true e = grind arith
 passes_is (Some x) z h false e = sym (fits_inside z h.0)
 passes_is None z h true e = go (outside z) refl
@@ -27,5 +27,5 @@ passes_is None z h true e = go (outside z) refl
 passes_is None z h false e = grind arith
 
 pub op_passes : (op : ℤ → ℤ → ℤ) (a b : ℕ) (x y : ℤ) → a < 65536 → b < 65536 → x ≡ signed a → y ≡ signed b → (o : Option ℤ)
-    → SomeIff o (SFits w16 (op (to_z w16 (of_z w16 x)) (to_z w16 (of_z w16 y)))) (op (to_z w16 (of_z w16 x)) (to_z w16 (of_z w16 y))) → (r : Bool) → is_some o ≡ not r → r ≡ outside (op (signed a) (signed b))
+    → SomeIff o (SFits w16 (op (to_z w16 (of_z w16 x)) (to_z w16 (of_z w16 y)))) (op (to_z w16 (of_z w16 x)) (to_z w16 (of_z w16 y))) → (r : Bool) → r ≡ not (is_some o) → r ≡ outside (op (signed a) (signed b))
 op_passes op a b x y h k p q o s r e = passes_is o (op (to_z w16 (of_z w16 x)) (to_z w16 (of_z w16 y))) s r e ∙ ap outside (ap₂ op (stored a x h p) (stored b y k q))

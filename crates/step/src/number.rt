@@ -1,5 +1,5 @@
 // Integers as 16-bit patterns.
-ghost use Rattle.std.specs.Prelude.{◌≡◌, ◌+ℤ◌, ◌-ℤ◌, ◌*ℤ◌};
+ghost use Rattle.std.specs.Prelude.{◌≡◌, not, is_some, ◌+ℤ◌, ◌-ℤ◌, ◌*ℤ◌};
 ghost use Rattle.step.specs.Pattern.{plus, minus, times, below, signed, wrap, outside};
 
 // The sum of two 16-bit patterns, wrapped.
@@ -44,23 +44,30 @@ pub fn integer(p: u16) -> i16
     p.cast_signed()
 }
 
+// Whether an exact value is outside what 16 bits hold: a checked operation has none to answer then.
+fn is_outside(exact: Option<i16>) -> bool
+    ensures { result ≡ not (is_some exact) }
+{
+    exact.is_none()
+}
+
 // Whether the sum of two patterns passes the end.
 pub fn sum_passes(a: u16, b: u16) -> bool
     ensures { result ≡ outside (signed a +ℤ signed b) }
 {
-    integer(a).checked_add(integer(b)).is_none()
+    is_outside(integer(a).checked_add(integer(b)))
 }
 
 // Whether their difference does.
 pub fn difference_passes(a: u16, b: u16) -> bool
     ensures { result ≡ outside (signed a -ℤ signed b) }
 {
-    integer(a).checked_sub(integer(b)).is_none()
+    is_outside(integer(a).checked_sub(integer(b)))
 }
 
 // Whether their product does.
 pub fn product_passes(a: u16, b: u16) -> bool
     ensures { result ≡ outside (signed a *ℤ signed b) }
 {
-    integer(a).checked_mul(integer(b)).is_none()
+    is_outside(integer(a).checked_mul(integer(b)))
 }
