@@ -10,8 +10,8 @@ use super::source::Source;
 
 impl<'a> Source<'a> {
     // What follows the operator byte of an assignment.
-    pub fn check_assign(self, at: usize) -> Option<usize>
-        ensures { result ≡ found (assignment self.entry.text.now (names_of self.entry.file.now self.entry.shape) self.entry.end at) }
+    pub fn check_assign(&self, at: usize) -> Option<usize>
+        ensures { result ≡ found (assignment self.now.text.now (names_of self.now.file.now self.now.shape) self.now.end at) }
     {
         if self.end <= at {
             return None;
@@ -30,8 +30,8 @@ impl<'a> Source<'a> {
 
     // The statement at `at`, in which ifs nest at most `nest` deep.
     #[cycle(check_list_check_stmt)]
-    pub fn check_stmt(self, at: usize, nest: usize) -> Option<usize>
-        ensures { result ≡ found (statement self.entry.text.now (names_of self.entry.file.now self.entry.shape) self.entry.end nest at) }
+    pub fn check_stmt(&self, at: usize, nest: usize) -> Option<usize>
+        ensures { result ≡ found (statement self.now.text.now (names_of self.now.file.now self.now.shape) self.now.end nest at) }
     {
         if self.end <= at {
             return None;
@@ -55,8 +55,8 @@ impl<'a> Source<'a> {
 
     // The list at `at`: its count, and then its statements.
     #[cycle(check_list_check_stmt)]
-    pub fn check_list(self, at: usize, nest: usize) -> Option<usize>
-        ensures { result ≡ found (list self.entry.text.now (names_of self.entry.file.now self.entry.shape) self.entry.end nest at) }
+    pub fn check_list(&self, at: usize, nest: usize) -> Option<usize>
+        ensures { result ≡ found (list self.now.text.now (names_of self.now.file.now self.now.shape) self.now.end nest at) }
     {
         if self.end <= at {
             return None;

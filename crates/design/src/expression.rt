@@ -48,8 +48,8 @@ pub fn read_boolean_constant(text: &[u8], at: usize, end: usize) -> Option<usize
 
 impl<'a> Source<'a> {
     // The integer variable named at `at`.
-    pub fn read_integer_variable(self, at: usize) -> Option<usize>
-        ensures { result ≡ found (int_of self.entry.text.now (names_of self.entry.file.now self.entry.shape) self.entry.end fail (IntOp.op_variable false) at) }
+    pub fn read_integer_variable(&self, at: usize) -> Option<usize>
+        ensures { result ≡ found (int_of self.now.text.now (names_of self.now.file.now self.now.shape) self.now.end fail (IntOp.op_variable false) at) }
     {
         if self.end <= at {
             return None;
@@ -67,8 +67,8 @@ impl<'a> Source<'a> {
     }
 
     // The Boolean or external variable named at `at`.
-    pub fn read_boolean_variable(self, at: usize) -> Option<usize>
-        ensures { result ≡ found (bool_of self.entry.text.now (names_of self.entry.file.now self.entry.shape) self.entry.end fail fail (BoolOp.op_variable false) at) }
+    pub fn read_boolean_variable(&self, at: usize) -> Option<usize>
+        ensures { result ≡ found (bool_of self.now.text.now (names_of self.now.file.now self.now.shape) self.now.end fail fail (BoolOp.op_variable false) at) }
     {
         if self.end <= at {
             return None;
@@ -86,8 +86,8 @@ impl<'a> Source<'a> {
     }
 
     // The integer expression at `at`, of depth at most `depth`.
-    pub fn check_int(self, at: usize, later: bool, depth: usize) -> Option<usize>
-        ensures { result ≡ found (int_expr self.entry.text.now (with_later later (names_of self.entry.file.now self.entry.shape)) self.entry.end depth at) }
+    pub fn check_int(&self, at: usize, later: bool, depth: usize) -> Option<usize>
+        ensures { result ≡ found (int_expr self.now.text.now (with_later later (names_of self.now.file.now self.now.shape)) self.now.end depth at) }
     {
         if depth == 0 {
             return None;
@@ -124,8 +124,8 @@ impl<'a> Source<'a> {
     }
 
     // The Boolean expression at `at`, likewise.
-    pub fn check_bool(self, at: usize, later: bool, depth: usize) -> Option<usize>
-        ensures { result ≡ found (bool_expr self.entry.text.now (with_later later (names_of self.entry.file.now self.entry.shape)) self.entry.end depth at) }
+    pub fn check_bool(&self, at: usize, later: bool, depth: usize) -> Option<usize>
+        ensures { result ≡ found (bool_expr self.now.text.now (with_later later (names_of self.now.file.now self.now.shape)) self.now.end depth at) }
     {
         if depth == 0 {
             return None;

@@ -19,7 +19,7 @@ returns-then-not-later t c =
 pub returns-in-16 : goal.returns-in-16
 unfolding bool_op
 returns-in-16 t c =
-    bool_leaf _ _ _ _ _ c.if-depth-eq0.false c.if-self-at.false _ _ (ap bool_op c.in-16.is) (c.read_boolean_constant.ensures (with_later c.args.later (names_of c.args.self.file.now c.args.self.shape)))
+    bool_leaf _ _ _ _ _ c.if-depth-eq0.false c.if-self-at.false _ _ (ap bool_op c.in-16.is) (c.read_boolean_constant.ensures (with_later c.args.later (names_of c.args.self.now.file.now c.args.self.now.shape)))
 
 pub returns-in-17 : goal.returns-in-17
 unfolding bool_op

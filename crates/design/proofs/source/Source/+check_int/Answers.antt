@@ -19,7 +19,7 @@ returns-then-not-later t c =
 pub returns-in-1 : goal.returns-in-1
 unfolding int_op
 returns-in-1 t c =
-    int_leaf _ _ _ _ _ c.if-depth-eq0.false c.if-self-at.false _ _ (ap int_op c.in-1.is) (c.read_integer_constant.ensures c.args.self.text.now (with_later c.args.later (names_of c.args.self.file.now c.args.self.shape)))
+    int_leaf _ _ _ _ _ c.if-depth-eq0.false c.if-self-at.false _ _ (ap int_op c.in-1.is) (c.read_integer_constant.ensures c.args.self.now.text.now (with_later c.args.later (names_of c.args.self.now.file.now c.args.self.now.shape)))
 
 pub returns-in-2 : goal.returns-in-2
 unfolding int_op
@@ -29,16 +29,16 @@ returns-in-2 t c =
 pub returns-in-3 : goal.returns-in-3
 unfolding int_op
 returns-in-3 t c =
-    int_leaf _ _ _ _ _ c.if-depth-eq0.false c.if-self-at.false _ _ (ap int_op c.in-3.is) (c.read_status.ensures c.args.self.file.now)
+    int_leaf _ _ _ _ _ c.if-depth-eq0.false c.if-self-at.false _ _ (ap int_op c.in-3.is) (c.read_status.ensures c.args.self.now.file.now)
 
 pub returns-in_ok-m-in-8 : goal.returns-in_ok-m-in-8
 returns-in_ok-m-in-8 t c =
     int_product _ _ _ _ _ c.if-depth-eq0.false c.if-self-at.false _ _ c.in-8.is (c.in_ok-m-in-8.ensures
-    c.args.self.text.now (with_later c.args.later (names_of c.args.self.file.now c.args.self.shape))) c.check_int.ensures
+    c.args.self.now.text.now (with_later c.args.later (names_of c.args.self.now.file.now c.args.self.now.shape))) c.check_int.ensures
 
 pub returns-in_err-m-in-8 : goal.returns-in_err-m-in-8
 returns-in_err-m-in-8 t c =
-    c.from_residual.ensures ∙ int_product_bad _ _ _ _ _ c.if-depth-eq0.false c.if-self-at.false c.in-8.is (c.in_err-m-in-8.ensures c.args.self.text.now (with_later c.args.later (names_of c.args.self.file.now c.args.self.shape)))
+    c.from_residual.ensures ∙ int_product_bad _ _ _ _ _ c.if-depth-eq0.false c.if-self-at.false c.in-8.is (c.in_err-m-in-8.ensures c.args.self.now.text.now (with_later c.args.later (names_of c.args.self.now.file.now c.args.self.now.shape)))
 
 pub returns-in_ok-m-in-4-to-5 : goal.returns-in_ok-m-in-4-to-5
 returns-in_ok-m-in-4-to-5 t c =
@@ -54,7 +54,7 @@ returns-then-op-eq6 t c =
 
 pub returns-else-op-eq6 : goal.returns-else-op-eq6
 returns-else-op-eq6 t c =
-    status_later _ _ _ _ _ c.if-depth-eq0.false c.if-self-at.false _ c.in-6-to-7.if-op-lt6-own.false c.in-6-to-7.if-op-lt8-own.true c.if-op-eq6.false c.if-not-later.false (c.read_status-else-op-eq6.ensures c.args.self.file.now)
+    status_later _ _ _ _ _ c.if-depth-eq0.false c.if-self-at.false _ c.in-6-to-7.if-op-lt6-own.false c.in-6-to-7.if-op-lt8-own.true c.if-op-eq6.false c.if-not-later.false (c.read_status-else-op-eq6.ensures c.args.self.now.file.now)
 
 pub returns-in_default : goal.returns-in_default
 returns-in_default t c =
