@@ -24,18 +24,18 @@ pub fn mark_if(passed: bool, shape: Shape, slots: &mut [u16])
 }
 
 // The position past the list at `at`, which is not taken.
-pub fn skip_list<'a>(source: Source<'a>, at: usize, nest: usize) -> usize
-    ensures { result ≡ past (list source.entry.text.now (names_of source.entry.file.now source.entry.shape) source.entry.end nest at) }
+pub fn skip_list<'a>(source: &Source<'a>, at: usize, nest: usize) -> usize
+    ensures { result ≡ past (list source.now.text.now (names_of source.now.file.now source.now.shape) source.now.end nest at) }
 {
     source.check_list(at, nest).unwrap_or(0)
 }
 
 // What follows the operator byte of an assignment.
-pub fn run_assign<'a>(source: Source<'a>, at: usize, slots: &mut [u16]) -> usize
-    requires { (is_read (assignment source.text.now (names_of source.file.now source.shape) source.end at) ≡ true) × (slot_count source.shape ≤ length slots.old) }
+pub fn run_assign<'a>(source: &Source<'a>, at: usize, slots: &mut [u16]) -> usize
+    requires { (is_read (assignment source.now.text.now (names_of source.now.file.now source.now.shape) source.now.end at) ≡ true) × (slot_count source.now.shape ≤ length slots.old) }
     ensures { (slots.new
-        ≡ after_stmt (layout_of source.entry.shape) (assignment source.entry.text.now (names_of source.entry.file.now source.entry.shape) source.entry.end at) slots.old) × (result
-        ≡ past (assignment source.entry.text.now (names_of source.entry.file.now source.entry.shape) source.entry.end at)) }
+        ≡ after_stmt (layout_of source.now.shape) (assignment source.now.text.now (names_of source.now.file.now source.now.shape) source.now.end at) slots.old) × (result
+        ≡ past (assignment source.now.text.now (names_of source.now.file.now source.now.shape) source.now.end at)) }
 {
     let v = wide(source.text[at]);
     let k = source.file[3 * v];
@@ -54,11 +54,11 @@ pub fn run_assign<'a>(source: Source<'a>, at: usize, slots: &mut [u16]) -> usize
 
 // Runs the statement at `at`, which the reader accepts; answers the position past it.
 #[cycle(run_list_run_stmt)]
-pub fn run_stmt<'a>(source: Source<'a>, at: usize, nest: usize, slots: &mut [u16]) -> usize
-    requires { (is_read (statement source.text.now (names_of source.file.now source.shape) source.end nest at) ≡ true) × (slot_count source.shape ≤ length slots.old) }
+pub fn run_stmt<'a>(source: &Source<'a>, at: usize, nest: usize, slots: &mut [u16]) -> usize
+    requires { (is_read (statement source.now.text.now (names_of source.now.file.now source.now.shape) source.now.end nest at) ≡ true) × (slot_count source.now.shape ≤ length slots.old) }
     ensures { (slots.new
-        ≡ after_stmt (layout_of source.entry.shape) (statement source.entry.text.now (names_of source.entry.file.now source.entry.shape) source.entry.end nest at) slots.old) × (result
-        ≡ past (statement source.entry.text.now (names_of source.entry.file.now source.entry.shape) source.entry.end nest at)) }
+        ≡ after_stmt (layout_of source.now.shape) (statement source.now.text.now (names_of source.now.file.now source.now.shape) source.now.end nest at) slots.old) × (result
+        ≡ past (statement source.now.text.now (names_of source.now.file.now source.now.shape) source.now.end nest at)) }
 {
     let op = source.text[at];
     match op {
@@ -82,11 +82,11 @@ pub fn run_stmt<'a>(source: Source<'a>, at: usize, nest: usize, slots: &mut [u16
 
 // Runs the list at `at`, which the reader accepts; answers the position past it.
 #[cycle(run_list_run_stmt)]
-pub fn run_list<'a>(source: Source<'a>, at: usize, nest: usize, slots: &mut [u16]) -> usize
-    requires { (is_read (list source.text.now (names_of source.file.now source.shape) source.end nest at) ≡ true) × (slot_count source.shape ≤ length slots.old) }
+pub fn run_list<'a>(source: &Source<'a>, at: usize, nest: usize, slots: &mut [u16]) -> usize
+    requires { (is_read (list source.now.text.now (names_of source.now.file.now source.now.shape) source.now.end nest at) ≡ true) × (slot_count source.now.shape ≤ length slots.old) }
     ensures { (slots.new
-        ≡ after_list (layout_of source.entry.shape) (list source.entry.text.now (names_of source.entry.file.now source.entry.shape) source.entry.end nest at) slots.old) × (result
-        ≡ past (list source.entry.text.now (names_of source.entry.file.now source.entry.shape) source.entry.end nest at)) }
+        ≡ after_list (layout_of source.now.shape) (list source.now.text.now (names_of source.now.file.now source.now.shape) source.now.end nest at) slots.old) × (result
+        ≡ past (list source.now.text.now (names_of source.now.file.now source.now.shape) source.now.end nest at)) }
 {
     let count = source.text[at];
     let mut p = at + 1;

@@ -59,7 +59,7 @@ pub fn act_cell(file: &[u8], shape: Shape, p: usize, slots: &mut [u16])
         file,
         shape,
     };
-    run_list(source, middle, MAX_NEST, slots);
+    run_list(&source, middle, MAX_NEST, slots);
     let m = wide(file[p]);
     slots[shape.variables + m] = u16::from(file[p + 4]);
 }

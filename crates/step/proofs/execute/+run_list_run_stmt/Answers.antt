@@ -56,7 +56,7 @@ run_stmt-overflow_add-at-in-32-to-33 t c = omega (arith, stmt_live _ _ _ _ _ c.r
 pub run_stmt-eval_bool-c-requires : goal.run_stmt-eval_bool-c-requires
 run_stmt-eval_bool-c-requires t c = (
   (
-    c.args.source.file.now,
+    c.args.source.now.file.now,
     max_depth,
     false,
     omega arith,
@@ -72,7 +72,7 @@ run_stmt-overflow_sub-nest t c =
 pub run_stmt-run_list-m-requires : goal.run_stmt-run_list-m-requires
 run_stmt-run_list-m-requires t c =
     let test = if_test _ _ _ _ _ c.requires.0 c.if-op-eq32.false in
-    let after = (c.eval_bool-c.ensures c.args.source.file.now max_depth false test).1 in
+    let after = (c.eval_bool-c.ensures c.args.source.now.file.now max_depth false test).1 in
     let then = if_then _ _ _ _ _ c.requires.0 c.if-op-eq32.false _ after in (
       omega (arith, stmt_live _ _ _ _ _ c.requires.0, bool_forward _ _ _ max_depth _ _ test after, list_live _ _ _ _ _ then),
       (then, omega arith),
@@ -93,7 +93,7 @@ run_stmt-overflow_sub-nest-else-c-2 t c =
 pub run_stmt-run_list-requires : goal.run_stmt-run_list-requires
 run_stmt-run_list-requires t c =
     let test = if_test _ _ _ _ _ c.requires.0 c.if-op-eq32.false in
-    let after = (c.eval_bool-c.ensures c.args.source.file.now max_depth false test).1 in
+    let after = (c.eval_bool-c.ensures c.args.source.now.file.now max_depth false test).1 in
     let then = if_then _ _ _ _ _ c.requires.0 c.if-op-eq32.false _ after in
     let other = if_else_lem _ _ _ _ _ c.requires.0 c.if-op-eq32.false _ after _ c.skip_list-m.ensures in (
       omega (
@@ -111,7 +111,7 @@ run_stmt-shape_of-slots-then-c t c = omega arith
 
 pub run_stmt-returns-then-c : goal.run_stmt-returns-then-c
 run_stmt-returns-then-c t c =
-    let test = c.eval_bool-c.ensures c.args.source.file.now max_depth false (if_test _ _ _ _ _ c.requires.0 c.if-op-eq32.false) in
+    let test = c.eval_bool-c.ensures c.args.source.now.file.now max_depth false (if_test _ _ _ _ _ c.requires.0 c.if-op-eq32.false) in
     runs_then _ _ _ _ _ c.requires.0 c.if-op-eq32.false _ test.1 _ _ _ _ _ _ _ _ test.0 test.2 c.mark_if.ensures c.if-c.true c.run_list-m.ensures c.skip_list.ensures
 
 pub run_stmt-shape_of-slots-else-c : goal.run_stmt-shape_of-slots-else-c
@@ -119,7 +119,7 @@ run_stmt-shape_of-slots-else-c t c = omega arith
 
 pub run_stmt-returns-else-c : goal.run_stmt-returns-else-c
 run_stmt-returns-else-c t c =
-    let test = c.eval_bool-c.ensures c.args.source.file.now max_depth false (if_test _ _ _ _ _ c.requires.0 c.if-op-eq32.false) in
+    let test = c.eval_bool-c.ensures c.args.source.now.file.now max_depth false (if_test _ _ _ _ _ c.requires.0 c.if-op-eq32.false) in
     runs_else _ _ _ _ _ c.requires.0 c.if-op-eq32.false _ test.1 _ _ _ _ _ _ _ _ test.0 test.2 c.mark_if.ensures c.if-c.false c.skip_list-m.ensures c.run_list.ensures
 
 pub run_stmt-returns-in_default : goal.run_stmt-returns-in_default

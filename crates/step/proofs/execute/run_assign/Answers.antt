@@ -18,11 +18,11 @@ pub eval_int-x-requires : goal.eval_int-x-requires
 eval_int-x-requires c =
     ((
       (
-        c.args.source.file.now,
+        c.args.source.now.file.now,
         max_depth,
         false,
         omega arith,
-        assign_int _ _ _ _ c.requires.0 (sym (ap (λ (v : ℕ). get_or c.args.source.file.now (3 * v) 0) c.wide-v.ensures.0) ∙ c.if-k.true),
+        assign_int _ _ _ _ c.requires.0 (sym (ap (λ (v : ℕ). get_or c.args.source.now.file.now (3 * v) 0) c.wide-v.ensures.0) ∙ c.if-k.true),
       ),
       omega arith,
     ))
@@ -38,11 +38,11 @@ pub eval_bool-x-requires : goal.eval_bool-x-requires
 eval_bool-x-requires c =
     ((
       (
-        c.args.source.file.now,
+        c.args.source.now.file.now,
         max_depth,
         false,
         omega arith,
-        assign_bool _ _ _ _ c.requires.0 (λ e. c.if-k.false (ap (λ (v : ℕ). get_or c.args.source.file.now (3 * v) 0) c.wide-v.ensures.0 ∙ e)),
+        assign_bool _ _ _ _ c.requires.0 (λ e. c.if-k.false (ap (λ (v : ℕ). get_or c.args.source.now.file.now (3 * v) 0) c.wide-v.ensures.0 ∙ e)),
       ),
       omega arith,
     ))
@@ -53,13 +53,13 @@ bounds-slots-v-else-k c =
 
 pub returns-then-k : goal.returns-then-k
 returns-then-k c =
-    let kind = sym (ap (λ (v : ℕ). get_or c.args.source.file.now (3 * v) 0) c.wide-v.ensures.0) ∙ c.if-k.true in
-    let value = c.eval_int-x.ensures c.args.source.file.now max_depth false (assign_int _ _ _ _ c.requires.0 kind) in
+    let kind = sym (ap (λ (v : ℕ). get_or c.args.source.now.file.now (3 * v) 0) c.wide-v.ensures.0) ∙ c.if-k.true in
+    let value = c.eval_int-x.ensures c.args.source.now.file.now max_depth false (assign_int _ _ _ _ c.requires.0 kind) in
     runs_int _ _ _ _ c.requires.0 kind _ _ _ _ _ _ _ c.wide-v.ensures.0 value.0 value.1 value.2 c.mark_if.ensures
 
 pub returns-else-k : goal.returns-else-k
 returns-else-k c =
-    let kind : get_or c.args.source.file.now (3 * get_or c.args.source.text.now c.args.at 0) 0 ≡ 1 → ⊥ = λ e. c.if-k.false (ap (λ (v :
-    ℕ). get_or c.args.source.file.now (3 * v) 0) c.wide-v.ensures.0 ∙ e) in
-    let value = c.eval_bool-x.ensures c.args.source.file.now max_depth false (assign_bool _ _ _ _ c.requires.0 kind) in
+    let kind : get_or c.args.source.now.file.now (3 * get_or c.args.source.now.text.now c.args.at 0) 0 ≡ 1 → ⊥ = λ e. c.if-k.false (ap (λ (v :
+    ℕ). get_or c.args.source.now.file.now (3 * v) 0) c.wide-v.ensures.0 ∙ e) in
+    let value = c.eval_bool-x.ensures c.args.source.now.file.now max_depth false (assign_bool _ _ _ _ c.requires.0 kind) in
     runs_bool _ _ _ _ c.requires.0 kind _ _ _ _ _ _ _ _ c.wide-v.ensures.0 value.0 (c.from.ensures ∙ bit_from _) value.1 value.2 c.mark_if-else-k.ensures
