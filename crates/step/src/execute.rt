@@ -39,14 +39,15 @@ pub fn run_assign<'a>(source: &Source<'a>, at: usize, slots: &mut [u16]) -> usiz
 {
     let v = wide(source.text[at]);
     let k = source.file[3 * v];
+    let shape = source.shape;
     if k == Kind::Integer as u8 {
-        let x = eval_int(source.text, at + 1, source.end, source.shape, slots);
-        mark_if(x.passed, source.shape, slots);
+        let x = eval_int(source.text, at + 1, source.end, shape, slots);
+        mark_if(x.passed, shape, slots);
         slots[v] = x.value;
         x.next
     } else {
-        let x = eval_bool(source.text, at + 1, source.end, source.shape, slots);
-        mark_if(x.passed, source.shape, slots);
+        let x = eval_bool(source.text, at + 1, source.end, shape, slots);
+        mark_if(x.passed, shape, slots);
         slots[v] = u16::from(x.value);
         x.next
     }
@@ -66,8 +67,9 @@ pub fn run_stmt<'a>(source: &Source<'a>, at: usize, nest: usize, slots: &mut [u1
             if op == 0x20 {
                 return run_assign(source, at + 1, slots);
             }
-            let c = eval_bool(source.text, at + 1, source.end, source.shape, slots);
-            mark_if(c.passed, source.shape, slots);
+            let shape = source.shape;
+            let c = eval_bool(source.text, at + 1, source.end, shape, slots);
+            mark_if(c.passed, shape, slots);
             if c.value {
                 let m = run_list(source, c.next, nest - 1, slots);
                 skip_list(source, m, nest - 1)
