@@ -1,7 +1,7 @@
 -- What a function answers where it hands a refusal on by `?`, and that what the code answers is fixed by what it is told as. Assumes nothing.
 use mathlib.Core.Path.{◌≡◌, refl, sym, ap, ◌∙◌}
 use Rattle.std.proofs.Common.{zero, suc, ◌<◌, arith}
-use Rattle.std.specs.Prelude.{ℕ, ◌-◌, List, [], ◌∷◌, get_or, Result, Ok, Err}
+use Rattle.std.specs.Prelude.{ℕ, ◌-◌, [], ◌∷◌, get_or, Result, Ok, Err}
 use Rattle.std.specs.Result.{IsErrAnd}
 use Rattle.std.proofs.lemmas.Result.{err_from_is_err_and}
 use Rattle.design.specs.Answer.{Answer, told}
@@ -22,9 +22,9 @@ module _ {A : Type 0} (r : Result A Refused) (e : Refused) (h : IsErrAnd r (λ f
 -- the refusal of this number, at this place where it has one
 abbrev pub refused_at : ℕ → ℕ → Refused
 refused_at number place = get_or (
-  Length place ∷ Version place ∷ Counts place ∷ Offset place ∷ Variable place ∷ Matrix place ∷ Cell place ∷ Expression place ∷ Action place ∷ Movers place
+    Length place ∷ Version place ∷ Counts place ∷ Offset place ∷ Variable place ∷ Matrix place ∷ Cell place ∷ Expression place ∷ Action place ∷ Movers place
     ∷ Entry place ∷ Choice place ∷ Property ∷ Bound ∷ Part ∷ Memory ∷ Clauses place ∷ Flags place ∷ Variables ∷ Owners ∷ []
-) (number - 1) Owners
+    ) (number - 1) Owners
 
 same_number : (e : Refused) → (refused_at (number_of e) (place_of e) ≡ e) × (0 < number_of e)
 same_number (Length place) = (refl, omega arith)

@@ -71,23 +71,9 @@ module _ (n : ℕ) (pair₀ : State) (long : length pair₀ ≡ n + n) (i : ℕ)
         second = drop-set-lt n pair i x l ∙ g.second;
       }
 
-  pub keeping_end : n ≤ i → pair ≡ drop n pair₀ ++ drop n pair₀
-  keeping_end l =
-      let z = g.inside in
-      let k = second_long n pair₀ long in
-      g.same ∙ ap (paste pair₀ 0 (drop n pair₀)) (let q : i ≡ n = omega arith in q)
-      ∙ ap₂ (λ (x y : State). x ++ y) (take_all n (drop n pair₀) (omega arith)) (ap (λ (j : ℕ). drop j pair₀) (let q : 0 + n ≡ n = omega arith in q))
-
 pub front_long : (n : ℕ) (pair : State) → length pair ≡ n + n → (keep : Bool) → length (kept_in keep n pair) ≡ n
 front_long n pair long true = second_long n pair long
 front_long n pair long false = first_long n pair long
-
--- the pair as it is, where its second state is not kept
-pub unkept : (n : ℕ) (pair : State) (keep : Bool) → keep ≡ false → pair ≡ kept_in keep n pair ++ drop n pair
-unkept n pair keep e = sym (take-append-drop n pair) ∙ ap (λ (b : Bool). kept_in b n pair ++ drop n pair) (sym e)
-
-pub keeping_kept : (n : ℕ) (pair : State) (keep : Bool) (x : State) → keep ≡ true → x ≡ drop n pair ++ drop n pair → x ≡ kept_in keep n pair ++ drop n pair
-keeping_kept n pair keep x e k = k ∙ ap (λ (b : Bool). kept_in b n pair ++ drop n pair) (sym e)
 
 -- a step in the second state of a pair, of which it may have been kept; m is the number of slots as the code has it
 module _ (n : ℕ) (pair : State) (long : length pair ≡ n + n) (keep : Bool) (m : ℕ) (e : m ≡ n) (kept : State) (k : kept ≡ kept_in keep m pair ++ drop m pair) where
